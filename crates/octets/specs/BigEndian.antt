@@ -1,0 +1,16 @@
+-- Numbers in octets. 01, "Time and the cue file": "Numbers are most significant octet first."
+use Prim.Native.Nat.{ℕ, _+_, _*_}
+use mathlib.Core.List.{List}
+use lib.ListN.{getD}
+
+-- the octet at a place of a string (0 past its end; every reader tests the length first)
+abbrev pub octet : List ℕ → ℕ → ℕ
+octet s at = getD s at 0
+
+-- the number in the two octets from a place on
+abbrev pub be16 : List ℕ → ℕ → ℕ
+be16 s at = 256 * octet s at + octet s (at + 1)
+
+-- the number in the four octets from a place on
+abbrev pub be32 : List ℕ → ℕ → ℕ
+be32 s at = 65536 * be16 s at + be16 s (at + 2)

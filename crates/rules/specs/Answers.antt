@@ -1,0 +1,75 @@
+-- The answer octet (01, "Which input counts").
+use Prim.Native.Nat.{ℕ}
+use mathlib.Core.Bool.{Bool, true, false, cond, _&&_, Bool·beq}
+use mathlib.Core.List.{List, [], _∷_}
+use lib.Dec.{eqb}
+use Rattle.rules.specs.declared.parameters.Scene.{Scene}
+use Rattle.rules.specs.declared.phase.Phase.{Phase}
+use Rattle.rules.specs.declared.phase.Phase.the-variants.{Dark, Lit, Starting, Timed, Warning, Ending}
+use Rattle.rules.specs.declared.input.Force.{Force}
+use Rattle.rules.specs.declared.input.Force.the-variants.{Free, Off, On}
+use Rattle.rules.specs.declared.state.Link.{Link}
+use Rattle.rules.specs.declared.state.Link.the-variants.{Up, BusDown, PowerDown}
+use Rattle.rules.specs.declared.state.State.{State}
+use Rattle.rules.specs.declared.barrier.Barrier.{Barrier}
+use Rattle.rules.specs.declared.barrier.Barrier.the-variants.{Open, NoPower, NoBus, Locked, Forced}
+
+-- "Answer octet, first that fits: 5 power down, 4 bus down, 3 lock, 2 force; then 0 if anything but the clock changed after
+-- the due timers had run, else 1." (`same`: nothing but the clock changed)
+abbrev pub answer : Barrier → Bool → ℕ
+answer NoPower same = 5
+answer NoBus same = 4
+answer Locked same = 3
+answer Forced same = 2
+answer Open same = cond same 1 0
+
+-- ---- nothing but the clock differs: proofs/Answers.antt shows that this is equality of all the rest
+
+abbrev pub phaseNumber : Phase → ℕ
+phaseNumber Dark = 0
+phaseNumber Lit = 1
+phaseNumber (Starting timed d) = cond timed 3 2
+phaseNumber (Timed d) = 4
+phaseNumber (Warning d) = 5
+phaseNumber (Ending d) = 6
+
+-- the deadline as a number; a phase without one has none to compare
+abbrev pub due : Phase → ℕ
+due Dark = 0
+due Lit = 0
+due (Starting timed d) = d
+due (Timed d) = d
+due (Warning d) = d
+due (Ending d) = d
+
+unfoldable pub samePhase : Phase → Phase → Bool
+samePhase a b = eqb (phaseNumber a) (phaseNumber b) && eqb (due a) (due b)
+
+abbrev pub forceNumber : Force → ℕ
+forceNumber Free = 0
+forceNumber Off = 1
+forceNumber On = 2
+
+abbrev pub linkNumber : Link → ℕ
+linkNumber Up = 0
+linkNumber BusDown = 1
+linkNumber PowerDown = 2
+
+unfoldable pub sameScene : Scene → Scene → Bool
+sameScene a b = eqb (a .number) (b .number) && Bool·beq (a .value) (b .value) && Bool·beq (a .taught) (b .taught)
+
+unfoldable pub sameScenes : List Scene → List Scene → Bool
+sameScenes [] [] = true
+sameScenes [] (y ∷ ys) = false
+sameScenes (x ∷ xs) [] = false
+sameScenes (x ∷ xs) (y ∷ ys) = sameScene x y && sameScenes xs ys
+
+unfoldable pub sameFlags : State → State → Bool
+sameFlags a b =
+    (Bool·beq (a .night) (b .night) && Bool·beq (a .lock) (b .lock)) &&
+    (eqb (forceNumber (a .force)) (forceNumber (b .force)) && eqb (linkNumber (a .link)) (linkNumber (b .link))) &&
+    (Bool·beq (a .atlocking) (b .atlocking) && Bool·beq (a .atfailure) (b .atfailure))
+
+-- (the parameters never change)
+unfoldable pub sameButClock : State → State → Bool
+sameButClock a b = (samePhase (a .phase) (b .phase) && sameFlags a b) && sameScenes (a .scenes) (b .scenes)

@@ -1,0 +1,60 @@
+-- Which input counts (01, "Which input counts"; 004, 1.2.2.3 "Input priority handling").
+use Prim.Native.Nat.{ℕ, _-_}
+use mathlib.Core.Bool.{Bool, true, false, cond, _&&_}
+use mathlib.Core.List.{List, [], _∷_}
+use lib.ListN.{getD}
+use Rattle.rules.specs.declared.input.Force.{Force}
+use Rattle.rules.specs.declared.input.Input.{Input}
+use Rattle.rules.specs.declared.state.Link.{Link}
+use Rattle.rules.specs.declared.state.Link.the-variants.{Up, BusDown, PowerDown}
+use Rattle.rules.specs.declared.state.State.{State}
+use Rattle.rules.specs.declared.barrier.Row.{Row}
+use Rattle.rules.specs.declared.barrier.Barrier.{Barrier}
+use Rattle.rules.specs.declared.barrier.Barrier.the-variants.{Open, NoPower, NoBus, Locked, Forced}
+use Rattle.rules.specs.Inputs.{kind}
+use Rattle.rules.specs.Orders.{standing}
+
+-- stopped while power is down, while the bus is down, while locked, while forced
+abbrev pub row : Bool → Bool → Bool → Bool → Row
+row power bus lock force = record { power = power; bus = bus; lock = lock; force = force }
+
+-- "What stops each kind is kept as one table of eight rows that names the barriers of that kind: power down stops 1 to 7;
+-- bus down stops 1 to 6; lock stops 1 to 4 and 6; force stops 1 to 3 and 6."
+unfoldable pub rows : List Row
+rows =
+    row true true true true ∷
+    row true true true true ∷
+    row true true true true ∷
+    row true true true false ∷
+    row true true false false ∷
+    row true true true true ∷
+    row true false false false ∷
+    row false false false false ∷
+    []
+
+-- the row of a kind, 1 to 8 (there is no other kind, so nothing is read past the table)
+unfoldable pub rowOf : ℕ → Row
+rowOf kind = getD rows (kind - 1) (row true true true true)
+
+-- "link (up, bus down, power down)"
+abbrev pub powerDown : Link → Bool
+powerDown Up = false
+powerDown BusDown = false
+powerDown PowerDown = true
+
+abbrev pub busDown : Link → Bool
+busDown Up = false
+busDown BusDown = true
+busDown PowerDown = false
+
+-- the first of these barriers that stands: "Answer octet, first that fits: 5 power down, 4 bus down, 3 lock, 2 force"
+unfoldable pub firstBarrier : Row → Link → Bool → Force → Barrier
+firstBarrier r link lock force =
+    cond (r .power && powerDown link) NoPower
+    (cond (r .bus && busDown link) NoBus
+    (cond (r .lock && lock) Locked
+    (cond (r .force && standing force) Forced Open)))
+
+-- the first barrier that an input meets in a state
+unfoldable pub barrier : State → Input → Barrier
+barrier s i = firstBarrier (rowOf (kind i)) (s .link) (s .lock) (s .force)

@@ -1,0 +1,60 @@
+-- The eight kinds of input, each with its own value (01, "Time and the cue file").
+use Prim.Native.Nat.{ℕ, _+_, _/_, _%_}
+use mathlib.Core.Bool.{Bool, true, false, cond, _&&_}
+use mathlib.Core.List.{List}
+use lib.Dec.{eqb, leb}
+use Rattle.octets.specs.BigEndian.{octet, be32}
+use Rattle.rules.specs.declared.input.Force.{Force}
+use Rattle.rules.specs.declared.input.Force.the-variants.{Free, Off, On}
+use Rattle.rules.specs.declared.input.Event.the-variants.{Failure, Return}
+use Rattle.rules.specs.declared.input.Input.{Input}
+use Rattle.rules.specs.declared.input.Input.the-variants.{SwitchOnOff, TimedStartStop, SceneControl, SwitchOnOffForced, LockDevice, NightMode, Bus, Power}
+use Rattle.rules.specs.declared.input.Decoded.{Decoded}
+use Rattle.rules.specs.declared.input.Decoded.the-variants.{Meant, Wrong}
+
+-- "1 SwitchOnOff, 2 TimedStartStop, .. 3 scene .. 4 forced .. 5 LockDevice .., 6 NightMode .. 7 bus and 8 power"
+abbrev pub kind : Input → ℕ
+kind (SwitchOnOff on) = 1
+kind (TimedStartStop start) = 2
+kind (SceneControl learn number) = 3
+kind (SwitchOnOffForced force) = 4
+kind (LockDevice lock) = 5
+kind (NightMode night) = 6
+kind (Bus event) = 7
+kind (Power event) = 8
+
+-- "0 or 1"
+unfoldable pub zeroOrOne : ℕ → Input → Input → Decoded
+zeroOrOne value zero one = cond (eqb value 0) (Meant zero) (cond (eqb value 1) (Meant one) Wrong)
+
+-- "3 scene: bit 7 set is learn, bit 6 zero, low six bits the number." (DPT 18.001)
+unfoldable pub sceneMeant : ℕ → Decoded
+sceneMeant value = cond (eqb (value / 64 % 2) 0) (Meant (SceneControl (eqb (value / 128) 1) (value % 64))) Wrong
+
+-- "4 forced: 0 and 1 no control, 2 Off, 3 On." (DPT 2.001)
+unfoldable pub forceMeant : ℕ → Decoded
+forceMeant value =
+    cond (leb value 1) (Meant (SwitchOnOffForced Free))
+    (cond (eqb value 2) (Meant (SwitchOnOffForced Off))
+    (cond (eqb value 3) (Meant (SwitchOnOffForced On)) Wrong))
+
+-- what a kind and a value mean; DPT 1.001 for kind 1, 1.010 for kind 2, 1.003 for kinds 5 and 6; kinds 7 and 8 are ours
+unfoldable pub decoded : ℕ → ℕ → Decoded
+decoded kind value =
+    cond (eqb kind 1) (zeroOrOne value (SwitchOnOff false) (SwitchOnOff true))
+    (cond (eqb kind 2) (zeroOrOne value (TimedStartStop false) (TimedStartStop true))
+    (cond (eqb kind 3) (sceneMeant value)
+    (cond (eqb kind 4) (forceMeant value)
+    (cond (eqb kind 5) (zeroOrOne value (LockDevice false) (LockDevice true))
+    (cond (eqb kind 6) (zeroOrOne value (NightMode false) (NightMode true))
+    (cond (eqb kind 7) (zeroOrOne value (Bus Failure) (Bus Return))
+    (cond (eqb kind 8) (zeroOrOne value (Power Failure) (Power Return))
+    Wrong)))))))
+
+-- "Input, 8 octets: 0-3 stamp; 4 kind; 5 value; 6-7 zero."
+unfoldable pub stampAt : List ℕ → ℕ → ℕ
+stampAt octets at = be32 octets at
+
+unfoldable pub inputAt : List ℕ → ℕ → Decoded
+inputAt octets at =
+    cond (eqb (octet octets (at + 6)) 0 && eqb (octet octets (at + 7)) 0) (decoded (octet octets (at + 4)) (octet octets (at + 5))) Wrong

@@ -1,0 +1,10 @@
+// What a reader must believe: the types of the actuator here, its rules in specs/, the theorems about them in proofs/.
+// This crate has no code of its own; the crates above it hold the code that is proved to follow these rules.
+pub mod barrier;
+pub mod call;
+pub mod input;
+pub mod parameters;
+pub mod phase;
+pub mod record;
+pub mod refusal;
+pub mod state;

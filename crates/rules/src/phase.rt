@@ -1,0 +1,14 @@
+// The phases of the output. A phase that ends by itself carries the moment at which it does, its deadline.
+pub enum Phase {
+    Dark,
+    Lit,
+    Starting { timed: bool, deadline: u32 },
+    Timed(u32),
+    Warning(u32),
+    Ending(u32),
+}
+
+pub enum Deadline {
+    Never,
+    At(u32),
+}
