@@ -1,0 +1,95 @@
+use Rattle.rules.specs.Orders.{timedStart}
+use borrow.Author.Needs.{needs}
+use Rattle.phases.proofs.order.order_timed_start.Statement.{statement}
+use Rattle.phases.proofs.order.order_timed_start.Tie as tie
+use Rattle.phases.proofs.order.order_timed_start.Reads as reads
+use Rattle.phases.proofs.order.order_timed_start.Lts as lts
+use Rattle.phases.proofs.time.later.Reads as later-reads
+
+enum-told : tie.Need-enum-told
+enum-told c = search needs
+
+later-requires : tie.Need-later-requires
+later-requires c κs = search needs
+
+later-requires-2 : tie.Need-later-requires-2
+later-requires-2 c κs = search needs
+
+enum-told-2 : tie.Need-enum-told-2
+enum-told-2 c = search needs
+
+later-requires-3 : tie.Need-later-requires-3
+later-requires-3 c κs = search needs
+
+enum-known-phase : tie.Need-enum-known-phase
+enum-known-phase c = search needs
+
+enum-told-3 : tie.Need-enum-told-3
+enum-told-3 c = search needs
+
+later-requires-4 : tie.Need-later-requires-4
+later-requires-4 c κs = search needs
+
+enum-told-4 : tie.Need-enum-told-4
+enum-told-4 c = search needs
+
+later-requires-5 : tie.Need-later-requires-5
+later-requires-5 c κs = search needs
+
+enum-told-5 : tie.Need-enum-told-5
+enum-told-5 c = search needs
+
+later-requires-6 : tie.Need-later-requires-6
+later-requires-6 c κs = search needs
+
+returns : tie.Need-returns
+unfolding timedStart
+returns c = simp (c .later .ensures, c .before .if1 .taken, c .before .before .before .enum-told .given .1)
+
+returns-2 : tie.Need-returns-2
+unfolding timedStart
+returns-2 c = simp (c .later2 .ensures, c .before .if1 .left, c .before .before .before .enum-told .given .1)
+
+returns-3 : tie.Need-returns-3
+unfolding timedStart
+returns-3 c = simp (c .later3 .ensures, c .before .enum-told2 .given .1)
+
+returns-4 : tie.Need-returns-4
+unfolding timedStart
+returns-4 c = simp (c .before .phase .given .1)
+
+returns-5 : tie.Need-returns-5
+unfolding timedStart
+returns-5 c = simp (c .later4 .ensures, c .before .enum-told3 .given .1)
+
+returns-6 : tie.Need-returns-6
+unfolding timedStart
+returns-6 c = simp (c .later5 .ensures, c .before .enum-told4 .given .1)
+
+returns-7 : tie.Need-returns-7
+unfolding timedStart
+returns-7 c = simp (c .later6 .ensures, c .before .enum-told5 .given .1)
+
+pub order-timed-start-spec : {M : Type 1} → statement M
+order-timed-start-spec =
+    tie.close
+    (tie.spec
+    enum-told
+    later-requires
+    later-requires-2
+    enum-told-2
+    later-requires-3
+    enum-known-phase
+    enum-told-3
+    later-requires-4
+    enum-told-4
+    later-requires-5
+    enum-told-5
+    later-requires-6
+    returns
+    returns-2
+    returns-3
+    returns-4
+    returns-5
+    returns-6
+    returns-7)

@@ -1,0 +1,86 @@
+use Rattle.rules.specs.Phases.{atDeadline}
+use native.Mathlib.Omega.{arith}
+use borrow.Author.Needs.{needs}
+use Rattle.phases.proofs.phase.at_deadline.Statement.{statement}
+use Rattle.phases.proofs.phase.at_deadline.Tie as tie
+use Rattle.phases.proofs.phase.at_deadline.Reads as reads
+use Rattle.phases.proofs.phase.at_deadline.Lts as lts
+use Rattle.phases.proofs.logic.either.Reads as either-reads
+use Rattle.phases.proofs.phase.lit_at.Reads as lit-at-reads
+use Rattle.phases.proofs.time.later.Reads as later-reads
+
+enum-told : tie.Need-enum-told
+enum-told c = search needs
+
+enum-told-2 : tie.Need-enum-told-2
+enum-told-2 c = search needs
+
+enum-known-phase : tie.Need-enum-known-phase
+enum-known-phase c = search needs
+
+either-requires : tie.Need-either-requires
+either-requires c κs = search needs
+
+lit-at-requires : tie.Need-lit-at-requires
+lit-at-requires c κs = omega (arith, simp (c .before .before .phase .given .1) at (c .before .before .before .before .pre))
+
+enum-known-phase-2 : tie.Need-enum-known-phase-2
+enum-known-phase-2 c = search needs
+
+later-requires : tie.Need-later-requires
+later-requires c κs = omega (arith, simp (c .before .before .before .phase2 .given .1) at (c .before .before .before .before .before .pre))
+
+enum-told-3 : tie.Need-enum-told-3
+enum-told-3 c = search needs
+
+enum-told-4 : tie.Need-enum-told-4
+enum-told-4 c = search needs
+
+returns : tie.Need-returns
+unfolding atDeadline
+returns c = simp (c .enum-told .given .1)
+
+returns-2 : tie.Need-returns-2
+unfolding atDeadline
+returns-2 c = simp (c .enum-told2 .given .1)
+
+returns-3 : tie.Need-returns-3
+unfolding atDeadline
+returns-3 c = simp (c .lit-at .ensures, c .before .either .ensures, c .before .before .before .phase .given .1)
+
+returns-4 : tie.Need-returns-4
+unfolding atDeadline
+returns-4 c = simp (c .if1 .taken, c .before .before .before .phase2 .given .1)
+
+returns-5 : tie.Need-returns-5
+unfolding atDeadline
+returns-5 c = simp (c .later .ensures, c .before .if1 .left, c .before .before .before .before .phase2 .given .1)
+
+returns-6 : tie.Need-returns-6
+unfolding atDeadline
+returns-6 c = simp (c .enum-told3 .given .1)
+
+returns-7 : tie.Need-returns-7
+unfolding atDeadline
+returns-7 c = simp (c .enum-told4 .given .1)
+
+pub at-deadline-spec : {M : Type 1} → statement M
+at-deadline-spec =
+    tie.close
+    (tie.spec
+    enum-told
+    enum-told-2
+    enum-known-phase
+    either-requires
+    lit-at-requires
+    enum-known-phase-2
+    later-requires
+    enum-told-3
+    enum-told-4
+    returns
+    returns-2
+    returns-3
+    returns-4
+    returns-5
+    returns-6
+    returns-7)

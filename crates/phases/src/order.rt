@@ -1,0 +1,129 @@
+// What each order makes of a phase, at t: one small function for each.
+ghost use mathlib.Core.Path.{_≡_};
+ghost use Prim.Native.Nat.{_+_, _≤_};
+ghost use Rattle.rules.specs.Orders.{on, timedStart, offAfterDelay, off, timedStop, nightFalls};
+ghost use Rattle.phases.specs.Room.{Room, Roomy};
+use crate::phase::lit_at;
+use crate::phase::set_on;
+use crate::time::earlier_of;
+use crate::time::later;
+use rules::parameters::Params;
+use rules::phase::Phase;
+
+pub fn order_on(p: Params, night: bool, held: bool, t: u32, phase: Phase) -> Phase
+    requires { ⌜ Room p t ⌝ }
+    ensures { λ r. ⌜ r ≡ on p night held t phase ⌝ }
+{
+    match phase {
+        Phase::Dark => {
+            let none = p.ondelay == 0;
+            if none {
+                lit_at(p, night, t)
+            } else {
+                Phase::Starting {
+                    timed: false,
+                    deadline: later(t, p.ondelay),
+                }
+            }
+        }
+        Phase::Lit => Phase::Lit,
+        Phase::Starting { timed: _, deadline } => Phase::Starting {
+            timed: false,
+            deadline,
+        },
+        Phase::Timed(_) => set_on(p, night, held, t),
+        Phase::Warning(_) => set_on(p, night, held, t),
+        Phase::Ending(_) => set_on(p, night, held, t),
+    }
+}
+
+pub fn order_timed_start(p: Params, t: u32, phase: Phase) -> Phase
+    requires { ⌜ Room p t ⌝ }
+    ensures { λ r. ⌜ r ≡ timedStart p t phase ⌝ }
+{
+    match phase {
+        Phase::Dark => {
+            let none = p.ondelay == 0;
+            if none {
+                Phase::Timed(later(t, p.timedon))
+            } else {
+                Phase::Starting {
+                    timed: true,
+                    deadline: later(t, p.ondelay),
+                }
+            }
+        }
+        Phase::Lit => Phase::Timed(later(t, p.timedon)),
+        Phase::Starting { timed: _, deadline } => Phase::Starting {
+            timed: true,
+            deadline,
+        },
+        Phase::Timed(_) => Phase::Timed(later(t, p.timedon)),
+        Phase::Warning(_) => Phase::Timed(later(t, p.timedon)),
+        Phase::Ending(_) => Phase::Timed(later(t, p.timedon)),
+    }
+}
+
+// Off, with a delay that is not 0: a lamp that would go dark by itself sooner keeps its own moment.
+fn off_after_delay(p: Params, t: u32, phase: Phase) -> Phase
+    requires { ⌜ Roomy p t phase ⌝ }
+    ensures { λ r. ⌜ r ≡ offAfterDelay p t phase ⌝ }
+{
+    match phase {
+        Phase::Dark => Phase::Dark,
+        Phase::Lit => Phase::Ending(later(t, p.offdelay)),
+        Phase::Starting {
+            timed: _,
+            deadline: _,
+        } => Phase::Dark,
+        Phase::Timed(d) => Phase::Ending(earlier_of(later(t, p.offdelay), later(d, p.prewarning))),
+        Phase::Warning(d) => Phase::Ending(earlier_of(later(t, p.offdelay), d)),
+        Phase::Ending(d) => Phase::Ending(earlier_of(later(t, p.offdelay), d)),
+    }
+}
+
+pub fn order_off(p: Params, t: u32, phase: Phase) -> Phase
+    requires { ⌜ Roomy p t phase ⌝ }
+    ensures { λ r. ⌜ r ≡ off p t phase ⌝ }
+{
+    let none = p.offdelay == 0;
+    if none {
+        Phase::Dark
+    } else {
+        off_after_delay(p, t, phase)
+    }
+}
+
+pub fn order_timed_stop(p: Params, t: u32, phase: Phase) -> Phase
+    requires { ⌜ Roomy p t phase ⌝ }
+    ensures { λ r. ⌜ r ≡ timedStop p t phase ⌝ }
+{
+    match phase {
+        Phase::Dark => phase,
+        Phase::Lit => phase,
+        Phase::Starting { timed, deadline: _ } => {
+            if timed { order_off(p, t, phase) } else { phase }
+        }
+        Phase::Timed(_) => order_off(p, t, phase),
+        Phase::Warning(_) => order_off(p, t, phase),
+        Phase::Ending(_) => phase,
+    }
+}
+
+// Night falls on a phase.
+pub fn order_night(p: Params, t: u32, phase: Phase) -> Phase
+    requires { ⌜ Room p t ⌝ }
+    ensures { λ r. ⌜ r ≡ nightFalls p t phase ⌝ }
+{
+    match phase {
+        Phase::Dark => phase,
+        Phase::Lit => Phase::Timed(later(t, p.timedon)),
+        Phase::Starting {
+            timed: _,
+            deadline: _,
+        } => phase,
+        Phase::Timed(_) => phase,
+        Phase::Warning(_) => phase,
+        Phase::Ending(d) => Phase::Ending(earlier_of(d, later(later(t, p.timedon), p.prewarning))),
+    }
+}
