@@ -167,14 +167,15 @@ forced s Free = cond (standing (s .force)) (settle (withForce s Free) (output (s
 unfoldable pub locked : State → State
 locked s = withPhase (withLock s true (output (s .phase))) (plain (byMode (s .params .locking) (output (s .phase))))
 
--- "Unlock, when locked: a standing force decides the phase; otherwise BehaviourAtUnlocking, by set on or set off ("keep" sets
--- the present output)." ("3 as before locking")
+-- BehaviourAtUnlocking: "0 to 2 alike, 3 as before locking"; ("keep" sets the present output)
+unfoldable pub unlockingOutput : State → Bool
+unlockingOutput s = cond (eqb (s .params .unlocking) 3) (s .atlocking) (byMode (s .params .unlocking) (output (s .phase)))
+
+-- "Unlock, when locked: a standing force decides the phase; otherwise BehaviourAtUnlocking, by set on or set off"
 unfoldable pub unlocked : State → Force → State
 unlocked s Off = withPhase (withLock s false (s .atlocking)) Dark
 unlocked s On = withPhase (withLock s false (s .atlocking)) Lit
-unlocked s Free =
-    settle (withLock s false (s .atlocking))
-    (cond (eqb (s .params .unlocking) 3) (s .atlocking) (byMode (s .params .unlocking) (output (s .phase))))
+unlocked s Free = settle (withLock s false (s .atlocking)) (unlockingOutput s)
 
 unfoldable pub lockDevice : State → Bool → State
 lockDevice s true = cond (s .lock) s (locked s)

@@ -1,0 +1,34 @@
+use Rattle.rules.specs.Orders.{lockDevice}
+use borrow.Author.Needs.{needs}
+use Rattle.orders.proofs.lock.lock_order.Statement.{statement}
+use Rattle.orders.proofs.lock.lock_order.Tie as tie
+use Rattle.orders.proofs.lock.lock_order.Reads as reads
+use Rattle.orders.proofs.lock.lock_order.Lts as lts
+use Rattle.orders.proofs.lock.locks.Reads as locks-reads
+use Rattle.orders.proofs.lock.unlocks.Reads as unlocks-reads
+
+locks-requires : tie.Need-locks-requires
+locks-requires c κs = search needs
+
+unlocks-requires : tie.Need-unlocks-requires
+unlocks-requires c κs = search needs
+
+returns : tie.Need-returns
+unfolding lockDevice
+returns c = simp (c .if2 .taken, c .before .if1 .taken)
+
+returns-2 : tie.Need-returns-2
+unfolding lockDevice
+returns-2 c = simp (c .locks .ensures, c .before .if2 .left, c .before .before .if1 .taken)
+
+returns-3 : tie.Need-returns-3
+unfolding lockDevice
+returns-3 c = simp (c .unlocks .ensures, c .before .if3 .taken, c .before .before .if1 .left)
+
+returns-4 : tie.Need-returns-4
+unfolding lockDevice
+returns-4 c = simp (c .if3 .left, c .before .if1 .left)
+
+pub lock-order-spec : {M : Type 1} → statement M
+lock-order-spec =
+    tie.close (tie.spec locks-requires unlocks-requires returns returns-2 returns-3 returns-4)
