@@ -1,0 +1,51 @@
+use Rattle.rules.specs.Steps.{tick}
+use borrow.Author.Tests.{le-leb, lt-leb}
+use native.Mathlib.Omega.{arith}
+use borrow.Author.Needs.{needs}
+use Rattle.actuator.proofs.clock.tick_once.Statement.{statement}
+use Rattle.actuator.proofs.clock.tick_once.Tie as tie
+use Rattle.actuator.proofs.clock.tick_once.Reads as reads
+use Rattle.actuator.proofs.clock.tick_once.Lts as lts
+use Rattle.actuator.proofs.clock.at_moment.Reads as at-moment-reads
+use Rattle.phases.proofs.phase.at_deadline.Reads as at-deadline-reads
+use Rattle.phases.proofs.phase.deadline_of.Reads as deadline-of-reads
+
+deadline-of-requires : tie.Need-deadline-of-requires
+deadline-of-requires c κs = search needs
+
+enum-told : tie.Need-enum-told
+enum-told c = search needs
+
+enum-known-deadline : tie.Need-enum-known-deadline
+enum-known-deadline c = search needs
+
+at-deadline-requires : tie.Need-at-deadline-requires
+at-deadline-requires c κs = omega (arith, simp (c .before .before .deadline .given .1) at (c .before .before .before .before .before .before .pre))
+
+at-moment-requires : tie.Need-at-moment-requires
+at-moment-requires c κs = search needs
+
+returns : tie.Need-returns
+unfolding tick
+returns c = simp (c .enum-told .given .1, c .before .before .deadline-of .ensures)
+
+returns-2 : tie.Need-returns-2
+unfolding tick
+returns-2 c = simp (c .at-moment .ensures, c .before .at-deadline .ensures, le-leb _ _ (c .before .before .if1 .taken), c .before .before .before .before .deadline .given .1, c .before .before .before .before .before .before .deadline-of .ensures)
+
+returns-3 : tie.Need-returns-3
+unfolding tick
+returns-3 c = simp (lt-leb _ _ (c .if1 .left), c .before .before .deadline .given .1, c .before .before .before .before .deadline-of .ensures)
+
+pub tick-once-spec : {M : Type 1} → statement M
+tick-once-spec =
+    tie.close
+    (tie.spec
+    deadline-of-requires
+    enum-told
+    enum-known-deadline
+    at-deadline-requires
+    at-moment-requires
+    returns
+    returns-2
+    returns-3)

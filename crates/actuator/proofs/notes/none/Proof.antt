@@ -1,0 +1,13 @@
+use Rattle.actuator.specs.Notes.{noNotes}
+use borrow.Author.Needs.{needs}
+use Rattle.actuator.proofs.notes.none.Statement.{statement}
+use Rattle.actuator.proofs.notes.none.Tie as tie
+use Rattle.actuator.proofs.notes.none.Reads as reads
+use Rattle.actuator.proofs.notes.none.Lts as lts
+
+returns : tie.Need-returns
+unfolding noNotes
+returns c = search needs
+
+pub none-spec : {M : Type 1} → statement M
+none-spec = tie.close (tie.spec returns)

@@ -1,0 +1,140 @@
+// Which input counts: the barriers of each kind as one table, and the first that an input meets.
+ghost use mathlib.Core.Path.{_≡_};
+ghost use Prim.Native.Nat.{_≤_};
+ghost use Rattle.rules.specs.Inputs.{kind};
+ghost use Rattle.rules.specs.Barriers.{rowOf, powerDown, busDown, firstBarrier, barrier};
+use orders::state::stands;
+use phases::logic::both;
+use rules::barrier::Barrier;
+use rules::barrier::Row;
+use rules::input::Event;
+use rules::input::Force;
+use rules::input::Input;
+use rules::state::Link;
+use rules::state::State;
+
+// The rows of the kinds 1 to 8: stopped while power is down, while the bus is down, while locked, while forced.
+const ROWS: [Row; 8] = [
+    Row {
+        power: true,
+        bus: true,
+        lock: true,
+        force: true,
+    },
+    Row {
+        power: true,
+        bus: true,
+        lock: true,
+        force: true,
+    },
+    Row {
+        power: true,
+        bus: true,
+        lock: true,
+        force: true,
+    },
+    Row {
+        power: true,
+        bus: true,
+        lock: true,
+        force: false,
+    },
+    Row {
+        power: true,
+        bus: true,
+        lock: false,
+        force: false,
+    },
+    Row {
+        power: true,
+        bus: true,
+        lock: true,
+        force: true,
+    },
+    Row {
+        power: true,
+        bus: false,
+        lock: false,
+        force: false,
+    },
+    Row {
+        power: false,
+        bus: false,
+        lock: false,
+        force: false,
+    },
+];
+
+pub fn kind_of(i: Input) -> u8
+    ensures { λ r. ⌜ r ≡ kind i ⌝ }
+{
+    match i {
+        Input::SwitchOnOff(_) => 1,
+        Input::TimedStartStop(_) => 2,
+        Input::SceneControl {
+            learn: _,
+            number: _,
+        } => 3,
+        Input::SwitchOnOffForced(_) => 4,
+        Input::LockDevice(_) => 5,
+        Input::NightMode(_) => 6,
+        Input::Bus(_) => 7,
+        Input::Power(_) => 8,
+    }
+}
+
+fn row_of(kind: u8) -> Row
+    requires { ⌜ (1 ≤ kind) × (kind ≤ 8) ⌝ }
+    ensures { λ r. ⌜ r ≡ rowOf kind ⌝ }
+{
+    let n = (kind - 1) as usize;
+    ROWS[n]
+}
+
+pub fn power_is_down(link: Link) -> bool
+    ensures { λ r. ⌜ r ≡ powerDown link ⌝ }
+{
+    match link {
+        Link::Up => false,
+        Link::BusDown => false,
+        Link::PowerDown => true,
+    }
+}
+
+fn bus_is_down(link: Link) -> bool
+    ensures { λ r. ⌜ r ≡ busDown link ⌝ }
+{
+    match link {
+        Link::Up => false,
+        Link::BusDown => true,
+        Link::PowerDown => false,
+    }
+}
+
+// The first of a row's barriers that stands.
+fn first_barrier(row: Row, link: Link, lock: bool, force: Force) -> Barrier
+    ensures { λ r. ⌜ r ≡ firstBarrier row link lock force ⌝ }
+{
+    if both(row.power, power_is_down(link)) {
+        return Barrier::NoPower;
+    }
+    if both(row.bus, bus_is_down(link)) {
+        return Barrier::NoBus;
+    }
+    if both(row.lock, lock) {
+        return Barrier::Locked;
+    }
+    if both(row.force, stands(force)) {
+        return Barrier::Forced;
+    }
+    Barrier::Open
+}
+
+// The first barrier that an input meets in a state.
+pub fn barrier_to(s: State, i: Input) -> Barrier
+    ensures { λ r. ⌜ r ≡ barrier s i ⌝ }
+{
+    let link = s.link;
+    let force = s.force;
+    first_barrier(row_of(kind_of(i)), link, s.lock, force)
+}

@@ -1,0 +1,120 @@
+// Whether anything but the clock differs between two states.
+ghost use mathlib.Core.Path.{_≡_};
+ghost use Prim.Native.Nat.{_≤_};
+ghost use Rattle.rules.specs.Answers.{phaseNumber, due, samePhase, forceNumber, linkNumber, sameScene, sameScenes, sameFlags, sameButClock};
+use phases::logic::alike;
+use phases::logic::both;
+use rules::input::Force;
+use rules::parameters::Scene;
+use rules::phase::Phase;
+use rules::state::Link;
+use rules::state::State;
+
+fn phase_number(phase: Phase) -> u8
+    ensures { λ r. ⌜ r ≡ phaseNumber phase ⌝ }
+{
+    match phase {
+        Phase::Dark => 0,
+        Phase::Lit => 1,
+        Phase::Starting { timed, deadline: _ } => { if timed { 3 } else { 2 } }
+        Phase::Timed(_) => 4,
+        Phase::Warning(_) => 5,
+        Phase::Ending(_) => 6,
+    }
+}
+
+fn due_at(phase: Phase) -> u32
+    ensures { λ r. ⌜ r ≡ due phase ⌝ }
+{
+    match phase {
+        Phase::Dark => 0,
+        Phase::Lit => 0,
+        Phase::Starting { timed: _, deadline } => deadline,
+        Phase::Timed(d) => d,
+        Phase::Warning(d) => d,
+        Phase::Ending(d) => d,
+    }
+}
+
+fn same_phase(a: Phase, b: Phase) -> bool
+    ensures { λ r. ⌜ r ≡ samePhase a b ⌝ }
+{
+    let n = phase_number(a) == phase_number(b);
+    let d = due_at(a) == due_at(b);
+    both(n, d)
+}
+
+fn force_number(force: Force) -> u8
+    ensures { λ r. ⌜ r ≡ forceNumber force ⌝ }
+{
+    match force {
+        Force::Free => 0,
+        Force::Off => 1,
+        Force::On => 2,
+    }
+}
+
+fn link_number(link: Link) -> u8
+    ensures { λ r. ⌜ r ≡ linkNumber link ⌝ }
+{
+    match link {
+        Link::Up => 0,
+        Link::BusDown => 1,
+        Link::PowerDown => 2,
+    }
+}
+
+fn same_scene(a: Scene, b: Scene) -> bool
+    ensures { λ r. ⌜ r ≡ sameScene a b ⌝ }
+{
+    let n = a.number == b.number;
+    both(both(n, alike(a.value, b.value)), alike(a.taught, b.taught))
+}
+
+fn same_scenes(a: [Scene; 8], b: [Scene; 8]) -> bool
+    ensures { λ r. ⌜ r ≡ sameScenes a b ⌝ }
+{
+    let mut i: usize = 0;
+    while i < 8 {
+        let x = a[i];
+        let y = b[i];
+        if same_scene(x, y) {
+            i += 1;
+        } else {
+            return false;
+        }
+    }
+    true
+}
+
+fn same_flags(a: State, b: State) -> bool
+    ensures { λ r. ⌜ r ≡ sameFlags a b ⌝ }
+{
+    let f = a.force;
+    let g = b.force;
+    let l = a.link;
+    let m = b.link;
+    let forces = force_number(f) == force_number(g);
+    let links = link_number(l) == link_number(m);
+    let flags = both(
+        both(alike(a.night, b.night), alike(a.lock, b.lock)),
+        both(forces, links),
+    );
+    both(
+        flags,
+        both(
+            alike(a.atlocking, b.atlocking),
+            alike(a.atfailure, b.atfailure),
+        ),
+    )
+}
+
+pub fn same_but_clock(a: State, b: State) -> bool
+    ensures { λ r. ⌜ r ≡ sameButClock a b ⌝ }
+{
+    let p = a.phase;
+    let q = b.phase;
+    let k = a.scenes;
+    let j = b.scenes;
+    both(both(same_phase(p, q), same_flags(a, b)), same_scenes(k, j))
+}
