@@ -1,0 +1,10 @@
+-- Theorems about the rules, one topic to a file.
+pub mod Tests
+pub mod Deadlines
+pub mod Phases
+pub mod Holding
+pub mod Ticks
+pub mod Scenes
+pub mod Barriers
+pub mod Orders
+pub mod Soundness

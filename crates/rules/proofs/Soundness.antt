@@ -1,0 +1,177 @@
+-- A sound state stays sound: from its start, by a timer, by a clock move, by an order that nothing stops, by a step.
+use Prim.Native.Nat.{ℕ, _+_, _≤_}
+use mathlib.Core.Bool.{true}
+use mathlib.Core.List.{List}
+use mathlib.Core.Logic.{⊎-elim}
+use mathlib.Core.Path.{_≡_, refl, _∙_, ap}
+use native.Mathlib.Omega.{arith}
+use borrow.Author.Tests.{leb-true, le-leb}
+use Rattle.rules.specs.declared.parameters.Params.{Params}
+use Rattle.rules.specs.declared.parameters.Scene.{Scene}
+use Rattle.rules.specs.declared.phase.Deadline.{Deadline}
+use Rattle.rules.specs.declared.phase.Deadline.the-variants.{Never, At}
+use Rattle.rules.specs.declared.input.Input.{Input}
+use Rattle.rules.specs.declared.state.State.{State}
+use Rattle.rules.specs.declared.barrier.Barrier.{Barrier}
+use Rattle.rules.specs.declared.barrier.Barrier.the-variants.{Open, NoPower, NoBus, Locked, Forced}
+use Rattle.rules.specs.Time.{lastStamp}
+use Rattle.rules.specs.Parameters.{timeInRange, paramsInRange}
+use Rattle.rules.specs.Scenes.{learnt, entryInRange, scenesInRange}
+use Rattle.rules.specs.Phases.{output, deadline}
+use Rattle.rules.specs.Orders.{order}
+use Rattle.rules.specs.Barriers.{barrier}
+use Rattle.rules.specs.Answers.{due}
+use Rattle.rules.specs.Steps.{fresh, atMoment, tick, Moved, ticked, clockMove, taken, meet, act, step}
+use Rattle.rules.specs.Soundness.{soon, consistent, sound}
+use Rattle.rules.specs.Calls.{leastParams, unused, noScenes, ownState}
+use Rattle.rules.proofs.Tests.{both}
+use Rattle.rules.proofs.Deadlines.{times-bounded, soon-within, within-soon, soon-due, due-is}
+use Rattle.rules.proofs.Phases.{timer-unheld}
+use Rattle.rules.proofs.Holding.{waiting-is-loose}
+use Rattle.rules.proofs.Ticks.{Quiet, fired, tick-case, tick-keeps, three-are-enough}
+use Rattle.rules.proofs.Scenes.{learnt-in-range}
+use Rattle.rules.proofs.Orders.{sceneNumber, Kept, order-keeps, Fits, unheld-fits, fits-unheld, order-fits}
+
+-- ---- the rules of a sound state by name
+
+pub record Sound (s : State) : Type 0 where
+  pub params : paramsInRange (s .params) ≡ true
+  pub scenes : scenesInRange (s .scenes) ≡ true
+  pub clock : s .clock ≤ lastStamp
+  pub soon : soon (s .clock) (deadline (s .phase)) ≡ true
+  pub consistent : consistent (s .night) (s .lock) (s .force) (s .link) (s .phase) ≡ true
+
+pub sound-view : (s : State) → sound s ≡ true → Sound s
+unfolding sound
+sound-view s h =
+    let rules = both _ _ h in
+    let parts = both _ _ (rules .0) in
+    let ranges = both _ _ (parts .0) in
+    let moments = both _ _ (parts .1) in
+    record { params = ranges .0; scenes = ranges .1; clock = leb-true (s .clock) lastStamp (moments .0); soon = moments .1; consistent = rules .1 }
+
+pub sound-whole : (s : State) → Sound s → sound s ≡ true
+unfolding sound
+sound-whole s h = simp (h .params, h .scenes, le-leb (s .clock) lastStamp (h .clock), h .soon, h .consistent)
+
+fits : (s : State) → Sound s → Fits s
+fits s h = record { soon = h .soon; consistent = h .consistent }
+
+-- a deadline, also where there is none, is near
+pub due-near : (s : State) → sound s ≡ true → due (s .phase) ≤ s .clock + 655_350
+due-near s h = soon-due (s .clock) (s .phase) (sound-view s h .soon)
+
+pub due-bounded : (s : State) → sound s ≡ true → due (s .phase) ≤ 1_519_350
+due-bounded s h = omega (arith, due-near s h, sound-view s h .clock)
+
+-- ---- the start
+
+pub fresh-is-sound : (p : Params) (k : List Scene) → paramsInRange p ≡ true → scenesInRange k ≡ true → sound (fresh p k) ≡ true
+unfolding fresh
+fresh-is-sound p k params scenes =
+    let f = unheld-fits (fresh p k) record { held = refl; powered = refl } tt in
+    sound-whole (fresh p k) record { params = params; scenes = scenes; clock = omega arith; soon = f .soon; consistent = f .consistent }
+
+pub own-state-is-sound : sound ownState ≡ true
+unfolding ownState leastParams noScenes unused paramsInRange timeInRange scenesInRange entryInRange
+own-state-is-sound = fresh-is-sound leastParams noScenes refl refl
+
+-- ---- a timer
+
+fired-is-sound : (s : State) (t d : ℕ) → t ≤ lastStamp → Sound s → deadline (s .phase) ≡ At d → d ≤ t → Sound (fired s d)
+fired-is-sound s t d end h e past =
+    let l = waiting-is-loose (s .night) (s .lock) (s .force) (s .link) (s .phase) d e (h .consistent) in
+    let f = unheld-fits (fired s d) l (rw (due-is (s .phase) d e) at (timer-unheld (s .params) (s .night) (s .clock) (s .phase) (times-bounded (s .params) (h .params)) (fits-unheld s l (fits s h)))) in
+    record { params = h .params; scenes = h .scenes; clock = omega arith; soon = f .soon; consistent = f .consistent }
+
+pub tick-is-sound : (s : State) (t : ℕ) → sound s ≡ true → t ≤ 864_000 → sound (tick s t) ≡ true
+tick-is-sound s t h end =
+    let view = sound-view s h in
+    sound-whole (tick s t) (tick-case Sound s t (λ d e past. fired-is-sound s t d end view e past) (λ quiet. view))
+
+pub tick-clock : (s : State) (t : ℕ) → s .clock ≤ t → tick s t .clock ≤ t
+tick-clock s t h = tick-case (λ (u : State). u .clock ≤ t) s t (λ d e past. past) (λ quiet. h)
+
+-- ---- a clock move
+
+-- a deadline that is not yet due comes nearer
+soon-later : (clock t : ℕ) (x : Deadline) → clock ≤ t → Quiet t x → soon clock x ≡ true → soon t x ≡ true
+unfolding soon
+soon-later clock t Never later quiet h = refl
+soon-later clock t (At d) later quiet h = within-soon t d (omega (arith, soon-within clock d h))
+
+pub move-is-sound : (s : State) (t : ℕ) → sound s ≡ true → s .clock ≤ t → t ≤ 864_000 → sound (clockMove s t .state) ≡ true
+unfolding clockMove ticked
+move-is-sound s t h later end =
+    let a = tick s t in
+    let b = tick a t in
+    let c = tick b t in
+    let view = sound-view c (tick-is-sound b t (tick-is-sound a t (tick-is-sound s t h end) end) end) in
+    let past = tick-clock b t (tick-clock a t (tick-clock s t later)) in
+    sound-whole (atMoment c t (c .phase))
+    record {
+      params = view .params;
+      scenes = view .scenes;
+      clock = end;
+      soon = soon-later (c .clock) t (deadline (c .phase)) past (three-are-enough s t) (view .soon);
+      consistent = view .consistent;
+    }
+
+-- a clock move changes nothing but the clock and the phase
+pub move-keeps : (s : State) (t : ℕ) → clockMove s t .state ≡ atMoment s t (clockMove s t .state .phase)
+unfolding clockMove ticked
+move-keeps s t =
+    let a = tick s t in
+    let b = tick a t in
+    let phase = tick b t .phase in
+    tick-keeps b t t phase ∙ (tick-keeps a t t phase ∙ tick-keeps s t t phase)
+
+pub move-clock : (s : State) (t : ℕ) → clockMove s t .state .clock ≡ t
+unfolding clockMove ticked
+move-clock s t = refl
+
+pub move-params : (s : State) (t : ℕ) → clockMove s t .state .params ≡ s .params
+move-params s t = ap (λ u. u .params) (move-keeps s t)
+
+pub move-scenes : (s : State) (t : ℕ) → clockMove s t .state .scenes ≡ s .scenes
+move-scenes s t = ap (λ u. u .scenes) (move-keeps s t)
+
+-- ---- an order and a step
+
+pub order-is-sound : (s : State) (i : Input) → sceneNumber i ≤ 63 → sound s ≡ true → barrier s i ≡ Open → sound (order s i) ≡ true
+order-is-sound s i small h way =
+    let view = sound-view s h in
+    let k = order-keeps s i in
+    let f = order-fits s (times-bounded (s .params) (view .params)) (fits s view) i way in
+    sound-whole (order s i)
+    record {
+      params = rw (k .params) (view .params);
+      scenes = ⊎-elim (λ e. rw e (view .scenes)) (λ e. ap scenesInRange e ∙ (learnt-in-range (s .scenes) (sceneNumber i) (output (s .phase)) small ∙ view .scenes)) (k .scenes);
+      clock = rw (k .clock) (view .clock);
+      soon = f .soon;
+      consistent = f .consistent;
+    }
+
+meet-is-sound : (x : Barrier) (m : Moved) (i : Input) → sceneNumber i ≤ 63 → sound (m .state) ≡ true → barrier (m .state) i ≡ x → sound (meet x m i .state) ≡ true
+unfolding meet taken
+meet-is-sound Open m i small h way = order-is-sound (m .state) i small h way
+meet-is-sound NoPower m i small h way = h
+meet-is-sound NoBus m i small h way = h
+meet-is-sound Locked m i small h way = h
+meet-is-sound Forced m i small h way = h
+
+pub step-is-sound : (s : State) (i : Input) (t : ℕ) → sceneNumber i ≤ 63 → sound s ≡ true → s .clock ≤ t → t ≤ 864_000 → sound (step s i t .state) ≡ true
+unfolding step act
+step-is-sound s i t small h later end = meet-is-sound _ (clockMove s t) i small (move-is-sound s t h later end) refl
+
+meet-clock : (x : Barrier) (m : Moved) (i : Input) → meet x m i .state .clock ≡ m .state .clock
+unfolding meet taken
+meet-clock Open m i = order-keeps (m .state) i .clock
+meet-clock NoPower m i = refl
+meet-clock NoBus m i = refl
+meet-clock Locked m i = refl
+meet-clock Forced m i = refl
+
+pub step-clock : (s : State) (i : Input) (t : ℕ) → step s i t .state .clock ≡ t
+unfolding step act
+step-clock s i t = meet-clock _ (clockMove s t) i ∙ move-clock s t
