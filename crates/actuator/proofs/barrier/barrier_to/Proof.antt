@@ -1,4 +1,5 @@
 use Rattle.rules.specs.Barriers.{barrier}
+use Rattle.actuator.proofs.KindRange.{kind-range}
 use borrow.Author.Needs.{needs}
 use Rattle.actuator.proofs.barrier.barrier_to.Statement.{statement}
 use Rattle.actuator.proofs.barrier.barrier_to.Tie as tie
@@ -12,7 +13,7 @@ kind-of-requires : tie.Need-kind-of-requires
 kind-of-requires c κs = search needs
 
 row-of-requires : tie.Need-row-of-requires
-row-of-requires c κs = search needs
+row-of-requires c κs = rw (c .kind-of .ensures) (kind-range (c .before .args .i))
 
 first-barrier-requires : tie.Need-first-barrier-requires
 first-barrier-requires c κs = search needs

@@ -1,4 +1,4 @@
-use Rattle.rules.specs.Barriers.{rowOf}
+use Rattle.rules.specs.Barriers.{rowOf, rows}
 use borrow.Author.Needs.{needs}
 use Rattle.actuator.proofs.barrier.row_of.Statement.{statement}
 use Rattle.actuator.proofs.barrier.row_of.Tie as tie
@@ -18,7 +18,7 @@ array-copy-out-result : tie.Need-array-copy-out-result
 array-copy-out-result c = search needs
 
 returns : tie.Need-returns
-unfolding rowOf
+unfolding rowOf rows
 returns c = search needs
 
 pub row-of-spec : {M : Type 1} → statement M

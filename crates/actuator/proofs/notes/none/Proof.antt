@@ -1,4 +1,5 @@
-use Rattle.actuator.specs.Notes.{noNotes}
+use Rattle.actuator.specs.Notes.{noNotes, notes}
+use Rattle.rules.specs.Calls.{places, blank}
 use borrow.Author.Needs.{needs}
 use Rattle.actuator.proofs.notes.none.Statement.{statement}
 use Rattle.actuator.proofs.notes.none.Tie as tie
@@ -6,7 +7,7 @@ use Rattle.actuator.proofs.notes.none.Reads as reads
 use Rattle.actuator.proofs.notes.none.Lts as lts
 
 returns : tie.Need-returns
-unfolding noNotes
+unfolding noNotes notes places blank
 returns c = search needs
 
 pub none-spec : {M : Type 1} → statement M

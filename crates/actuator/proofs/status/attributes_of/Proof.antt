@@ -51,7 +51,7 @@ add-result-4 c = search needs
 
 returns : tie.Need-returns
 unfolding attributes
-returns c = simp (← c .bit-of5 .ensures, ← c .before .staircase-of .ensures, ← c .before .before .bit-of4 .ensures, ← c .before .before .before .bit-of3 .ensures, ← c .before .before .before .before .stands .ensures, ← c .before .before .before .before .before .bit-of2 .ensures, ← c .before .before .before .before .before .before .bit-of .ensures, ← c .before .before .before .before .before .before .before .negated .ensures, ← c .before .before .before .before .before .before .before .before .power-is-down .ensures)
+returns c = simp (← c .bit-of5 .ensures .0, ← c .before .staircase-of .ensures, ← c .before .before .bit-of4 .ensures .0, ← c .before .before .before .bit-of3 .ensures .0, ← c .before .before .before .before .stands .ensures, ← c .before .before .before .before .before .bit-of2 .ensures .0, ← c .before .before .before .before .before .before .bit-of .ensures .0, ← c .before .before .before .before .before .before .before .negated .ensures, ← c .before .before .before .before .before .before .before .before .power-is-down .ensures)
 
 pub attributes-of-spec : {M : Type 1} → statement M
 attributes-of-spec =

@@ -1,0 +1,4 @@
+pub mod KindRange
+pub mod Rooms
+pub mod Written
+pub mod Tables
