@@ -8,3 +8,5 @@ pub mod Scenes
 pub mod Barriers
 pub mod Orders
 pub mod Soundness
+pub mod Timers
+pub mod Records

@@ -5,7 +5,7 @@ use mathlib.Core.Logic.{_⊎_, inl, inr}
 use mathlib.Core.Path.{_≡_, refl}
 use native.Mathlib.Omega.{arith}
 use lib.Dec.{leb}
-use borrow.Author.Tests.{le-leb, leb-true, leb-false}
+use borrow.Author.Tests.{leb-true, leb-false}
 use Rattle.rules.specs.declared.parameters.Params.{Params}
 use Rattle.rules.specs.declared.phase.Phase.{Phase}
 use Rattle.rules.specs.declared.phase.Phase.the-variants.{Dark, Lit, Starting, Timed, Warning, Ending}
@@ -33,10 +33,6 @@ tick-case P s t f g = go (deadline (s .phase)) refl
     go : (x : Deadline) → deadline (s .phase) ≡ x → P (tickAt s t x)
     go Never e = g (rw e tt)
     go (At d) e = cond-case P (leb d t) _ _ (λ past. f d e (leb-true d t past)) (λ later. g (rw e (leb-false d t later)))
-
-pub tick-fires : (s : State) (t d : ℕ) → deadline (s .phase) ≡ At d → d ≤ t → tick s t ≡ fired s d
-unfolding tick tickAt
-tick-fires s t d e past = rw (e, le-leb d t past)
 
 pub tick-rests : (s : State) (t : ℕ) → Quiet t (deadline (s .phase)) → tick s t ≡ s
 tick-rests s t q = tick-case (λ (u : State). u ≡ s) s t (λ d e past. absurd (omega (arith, rw e at q))) (λ q. refl)
