@@ -1,15 +1,16 @@
 -- A record that is added to the records by value is a record at the end of their list.
 use Prim.Native.Nat.{ℕ, _+_, _≤_}
 use mathlib.Core.Bool.{Bool, true, false, cond}
-use mathlib.Core.List.{List, [], _∷_, _++_, append-nil}
-use mathlib.Core.Path.{_≡_, refl, sym}
-use lib.ListN.{length}
+use mathlib.Core.List.{List, [], _∷_, _++_, append-nil, append-assoc}
+use mathlib.Core.Path.{_≡_, refl}
+use lib.ListN.{length, length-append}
 use native.Mathlib.Omega.{arith}
 use Rattle.rules.specs.declared.state.State.{State}
 use Rattle.rules.specs.declared.record.Record.{Record}
-use Rattle.rules.specs.Status.{sameStatus, recordOf, written}
+use Rattle.rules.specs.Status.{sameStatus, recordOf, written, byItself}
 use Rattle.rules.specs.Calls.{places, blank}
-use Rattle.actuator.specs.Notes.{notes, noteOf, added}
+use Rattle.rules.proofs.Records.{one-record-at-most}
+use Rattle.actuator.specs.Notes.{notes, noNotes, noteOf, added}
 use Rattle.actuator.specs.declared.notes.Notes.{Notes}
 use Rattle.actuator.specs.declared.notes.Note.the-variants.{Silent, Wrote}
 
@@ -35,3 +36,28 @@ added-written l cause before after room = by (sameStatus before after)
 pub notes-count : (l : List Record) → notes l .count ≡ length l
 unfolding notes
 notes-count l = refl
+
+pub none-fits : noNotes .count ≤ 2
+unfolding noNotes notes
+none-fits = omega arith
+
+-- one, two and three changes noted after each other
+module _ (s a b c : State) where
+  pub one-noted : added noNotes (noteOf byItself s a) ≡ notes (written byItself s a)
+  unfolding noNotes
+  one-noted = added-written [] byItself s a (omega arith)
+
+  pub one-fits : added noNotes (noteOf byItself s a) .count ≤ 2
+  one-fits = rw (one-noted, notes-count (written byItself s a)) (omega (arith, one-record-at-most byItself s a))
+
+  pub two-noted : added (added noNotes (noteOf byItself s a)) (noteOf byItself a b) ≡ notes (written byItself s a ++ written byItself a b)
+  two-noted = rw one-noted (added-written (written byItself s a) byItself a b (omega (arith, one-record-at-most byItself s a)))
+
+  two-long : length (written byItself s a ++ written byItself a b) ≤ 2
+  two-long = rw (length-append (written byItself s a) (written byItself a b)) (omega (arith, one-record-at-most byItself s a, one-record-at-most byItself a b))
+
+  pub two-fit : added (added noNotes (noteOf byItself s a)) (noteOf byItself a b) .count ≤ 2
+  two-fit = rw (two-noted, notes-count (written byItself s a ++ written byItself a b)) two-long
+
+  pub three-noted : added (added (added noNotes (noteOf byItself s a)) (noteOf byItself a b)) (noteOf byItself b c) ≡ notes (written byItself s a ++ (written byItself a b ++ written byItself b c))
+  three-noted = rw (two-noted, added-written (written byItself s a ++ written byItself a b) byItself b c two-long, append-assoc)

@@ -34,7 +34,7 @@ rows =
 
 -- the row of a kind, 1 to 8 (there is no other kind, so nothing is read past the table)
 unfoldable pub rowOf : ℕ → Row
-rowOf kind = getD rows (kind - 1) (row true true true true)
+rowOf kind = getD rows (kind - 1) (row false false false false)
 
 -- "link (up, bus down, power down)"
 abbrev pub powerDown : Link → Bool

@@ -1,4 +1,7 @@
+use Rattle.rules.specs.Steps.{tick, ticked, clockMove}
 use Rattle.actuator.specs.Notes.{clocked}
+use Rattle.actuator.proofs.Rooms.{ticked-room}
+use Rattle.actuator.proofs.Written.{none-fits, one-fits, two-fit, three-noted}
 use borrow.Author.Needs.{needs}
 use Rattle.actuator.proofs.clock.move_clock.Statement.{statement}
 use Rattle.actuator.proofs.clock.move_clock.Tie as tie
@@ -14,10 +17,14 @@ tick-once-requires : tie.Need-tick-once-requires
 tick-once-requires c κs = search needs
 
 tick-once-requires-2 : tie.Need-tick-once-requires-2
-tick-once-requires-2 c κs = search needs
+tick-once-requires-2 c κs =
+    let a = c .before in
+    rw (c .tick-once .ensures) (ticked-room (a .args .s) (a .args .t) (a .pre))
 
 tick-once-requires-3 : tie.Need-tick-once-requires-3
-tick-once-requires-3 c κs = search needs
+tick-once-requires-3 c κs =
+    let a = c .before .before in
+    rw (c .tick-once2 .ensures, c .before .tick-once .ensures) (ticked-room (tick (a .args .s) (a .args .t)) (a .args .t) (ticked-room (a .args .s) (a .args .t) (a .pre)))
 
 none-requires : tie.Need-none-requires
 none-requires c κs = search needs
@@ -26,26 +33,33 @@ noted-requires : tie.Need-noted-requires
 noted-requires c κs = search needs
 
 add-requires : tie.Need-add-requires
-add-requires c κs = search needs
+add-requires c κs = rw (c .before .none .ensures) none-fits
 
 noted-requires-2 : tie.Need-noted-requires-2
 noted-requires-2 c κs = search needs
 
 add-requires-2 : tie.Need-add-requires-2
-add-requires-2 c κs = search needs
+add-requires-2 c κs = rw (c .before .add .ensures, c .before .before .noted .ensures, c .before .before .before .none .ensures) (one-fits _ _ _ _)
 
 noted-requires-3 : tie.Need-noted-requires-3
 noted-requires-3 c κs = search needs
 
 add-requires-3 : tie.Need-add-requires-3
-add-requires-3 c κs = search needs
+add-requires-3 c κs =
+    rw (c .before .add2 .ensures, c .before .before .noted2 .ensures, c .before .before .before .add .ensures, c .before .before .before .before .noted .ensures, c .before .before .before .before .before .none .ensures)
+    (two-fit _ _ _ _)
 
 at-moment-requires : tie.Need-at-moment-requires
 at-moment-requires c κs = search needs
 
 returns : tie.Need-returns
-unfolding clocked
-returns c = simp (← c .at-moment .ensures, ← c .before .add3 .ensures, ← c .before .before .noted3 .ensures, ← c .before .before .before .add2 .ensures, ← c .before .before .before .before .noted2 .ensures, ← c .before .before .before .before .before .add .ensures, ← c .before .before .before .before .before .before .noted .ensures, ← c .before .before .before .before .before .before .before .none .ensures, ← c .before .before .before .before .before .before .before .before .tick-once3 .ensures, ← c .before .before .before .before .before .before .before .before .before .tick-once2 .ensures, ← c .before .before .before .before .before .before .before .before .before .before .tick-once .ensures)
+unfolding clocked clockMove ticked
+returns c =
+    let a = c .before .before .before .before .before .before .before .before .before .before .before in
+    let s = a .args .s in
+    let t = a .args .t in
+    let e = three-noted s (tick s t) (tick (tick s t) t) (tick (tick (tick s t) t) t) in
+    simp (c .at-moment .ensures, c .before .add3 .ensures, c .before .before .noted3 .ensures, c .before .before .before .add2 .ensures, c .before .before .before .before .noted2 .ensures, c .before .before .before .before .before .add .ensures, c .before .before .before .before .before .before .noted .ensures, c .before .before .before .before .before .before .before .none .ensures, c .before .before .before .before .before .before .before .before .tick-once3 .ensures, c .before .before .before .before .before .before .before .before .before .tick-once2 .ensures, c .before .before .before .before .before .before .before .before .before .before .tick-once .ensures, e)
 
 pub move-clock-spec : {M : Type 1} → statement M
 move-clock-spec =
