@@ -1,11 +1,12 @@
 -- Loops over the scene table, one entry at a time.
-use Prim.Native.Nat.{ℕ, suc, _≤_, _<_}
+use Prim.Native.Nat.{ℕ, suc, _+_, _<_}
 use mathlib.Core.Bool.{Bool, true, false, not, _&&_, _||_}
 use mathlib.Core.List.{List, [], _∷_}
-use mathlib.Core.Path.{_≡_, refl}
+use mathlib.Core.Path.{_≡_, refl, _∙_, ap}
 use lib.ListN.{length, getD, drop}
 use lib.Seq.{drop-cons}
 use lib.Dec.{eqb}
+use native.Mathlib.Numerals.{add-one}
 use native.Mathlib.Omega.{arith}
 use Rattle.rules.specs.declared.parameters.Scene.{Scene}
 use Rattle.rules.specs.Scenes.{entryInRange, absent, scenesInRange}
@@ -31,9 +32,20 @@ unfolding absent
 absent-none [] number h = refl
 absent-none (e ∷ k) number h = absurd (omega arith)
 
-pub range-step : (k : List Scene) (i : ℕ) → i < length k → scenesInRange (drop i k) ≡ ((entryInRange (getD k i past) && (eqb (getD k i past .number) 255 || absent (drop (suc i) k) (getD k i past .number))) && scenesInRange (drop (suc i) k))
-unfolding scenesInRange
-range-step k i h = rw (drop-cons k i past h)
+-- the entry at i decides, by whether it is in range and its number does not come again
+module _ (k : List Scene) (i : ℕ) (within : i < length k) where
+  abbrev fits : Bool
+  fits = entryInRange (getD k i past) && (eqb (getD k i past .number) 255 || absent (drop (i + 1) k) (getD k i past .number))
+
+  range-step : scenesInRange (drop i k) ≡ (fits && scenesInRange (drop (i + 1) k))
+  unfolding scenesInRange
+  range-step = rw (drop-cons k i past within, add-one i)
+
+  pub range-goes-on : fits ≡ true → scenesInRange (drop i k) ≡ scenesInRange (drop (i + 1) k)
+  range-goes-on h = range-step ∙ ap (λ (b : Bool). b && scenesInRange (drop (i + 1) k)) h
+
+  pub range-ends : fits ≡ false → scenesInRange (drop i k) ≡ false
+  range-ends h = range-step ∙ ap (λ (b : Bool). b && scenesInRange (drop (i + 1) k)) h
 
 pub range-none : (k : List Scene) → length k ≡ 0 → scenesInRange k ≡ true
 unfolding scenesInRange

@@ -42,7 +42,7 @@ unfolding noNotes notes
 none-fits = omega arith
 
 -- one, two and three changes noted after each other
-module _ (s a b c : State) where
+module _ (s a : State) where
   pub one-noted : added noNotes (noteOf byItself s a) ≡ notes (written byItself s a)
   unfolding noNotes
   one-noted = added-written [] byItself s a (omega arith)
@@ -50,8 +50,9 @@ module _ (s a b c : State) where
   pub one-fits : added noNotes (noteOf byItself s a) .count ≤ 2
   one-fits = rw (one-noted, notes-count (written byItself s a)) (omega (arith, one-record-at-most byItself s a))
 
-  pub two-noted : added (added noNotes (noteOf byItself s a)) (noteOf byItself a b) ≡ notes (written byItself s a ++ written byItself a b)
-  two-noted = rw one-noted (added-written (written byItself s a) byItself a b (omega (arith, one-record-at-most byItself s a)))
+module _ (s a b : State) where
+  two-noted : added (added noNotes (noteOf byItself s a)) (noteOf byItself a b) ≡ notes (written byItself s a ++ written byItself a b)
+  two-noted = rw (one-noted s a) (added-written (written byItself s a) byItself a b (omega (arith, one-record-at-most byItself s a)))
 
   two-long : length (written byItself s a ++ written byItself a b) ≤ 2
   two-long = rw (length-append (written byItself s a) (written byItself a b)) (omega (arith, one-record-at-most byItself s a, one-record-at-most byItself a b))
@@ -59,5 +60,5 @@ module _ (s a b c : State) where
   pub two-fit : added (added noNotes (noteOf byItself s a)) (noteOf byItself a b) .count ≤ 2
   two-fit = rw (two-noted, notes-count (written byItself s a ++ written byItself a b)) two-long
 
-  pub three-noted : added (added (added noNotes (noteOf byItself s a)) (noteOf byItself a b)) (noteOf byItself b c) ≡ notes (written byItself s a ++ (written byItself a b ++ written byItself b c))
-  three-noted = rw (two-noted, added-written (written byItself s a ++ written byItself a b) byItself b c two-long, append-assoc)
+pub three-noted : (s a b c : State) → added (added (added noNotes (noteOf byItself s a)) (noteOf byItself a b)) (noteOf byItself b c) ≡ notes (written byItself s a ++ (written byItself a b ++ written byItself b c))
+three-noted s a b c = rw (two-noted s a b, added-written (written byItself s a ++ written byItself a b) byItself b c (two-long s a b), append-assoc)

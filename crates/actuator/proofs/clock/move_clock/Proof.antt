@@ -39,7 +39,7 @@ noted-requires-2 : tie.Need-noted-requires-2
 noted-requires-2 c κs = search needs
 
 add-requires-2 : tie.Need-add-requires-2
-add-requires-2 c κs = rw (c .before .add .ensures, c .before .before .noted .ensures, c .before .before .before .none .ensures) (one-fits _ _ _ _)
+add-requires-2 c κs = rw (c .before .add .ensures, c .before .before .noted .ensures, c .before .before .before .none .ensures) (one-fits _ _)
 
 noted-requires-3 : tie.Need-noted-requires-3
 noted-requires-3 c κs = search needs
@@ -47,7 +47,7 @@ noted-requires-3 c κs = search needs
 add-requires-3 : tie.Need-add-requires-3
 add-requires-3 c κs =
     rw (c .before .add2 .ensures, c .before .before .noted2 .ensures, c .before .before .before .add .ensures, c .before .before .before .before .noted .ensures, c .before .before .before .before .before .none .ensures)
-    (two-fit _ _ _ _)
+    (two-fit _ _ _)
 
 at-moment-requires : tie.Need-at-moment-requires
 at-moment-requires c κs = search needs

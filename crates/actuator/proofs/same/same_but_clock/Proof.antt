@@ -1,3 +1,4 @@
+use Rattle.rules.specs.Answers.{sameButClock}
 use borrow.Author.Needs.{needs}
 use Rattle.actuator.proofs.same.same_but_clock.Statement.{statement}
 use Rattle.actuator.proofs.same.same_but_clock.Tie as tie
@@ -8,29 +9,24 @@ use Rattle.actuator.proofs.same.same_phase.Reads as same-phase-reads
 use Rattle.actuator.proofs.same.same_scenes.Reads as same-scenes-reads
 use Rattle.phases.proofs.logic.both.Reads as both-reads
 
--- src/same.rt:119:15
 same-phase-requires : tie.Need-same-phase-requires
 same-phase-requires c κs = search needs
 
--- src/same.rt:119:33
 same-flags-requires : tie.Need-same-flags-requires
 same-flags-requires c κs = search needs
 
--- src/same.rt:119:10
 both-requires : tie.Need-both-requires
 both-requires c κs = search needs
 
--- src/same.rt:119:52
 same-scenes-requires : tie.Need-same-scenes-requires
 same-scenes-requires c κs = search needs
 
--- src/same.rt:119:5
 both-requires-2 : tie.Need-both-requires-2
 both-requires-2 c κs = search needs
 
--- src/same.rt:112:1
 returns : tie.Need-returns
-returns c = ?
+unfolding sameButClock
+returns c = simp (← c .both2 .ensures, ← c .before .same-scenes .ensures, ← c .before .before .both .ensures, ← c .before .before .before .same-flags .ensures, ← c .before .before .before .before .same-phase .ensures)
 
 pub same-but-clock-spec : {M : Type 1} → statement M
 same-but-clock-spec =

@@ -1,58 +1,68 @@
+use Prim.Native.Nat.{ℕ, _≤_, _-_}
+use mathlib.Core.Path.{_≡_, sym, _∙_}
+use lib.ListN.{length, drop, length-drop}
+use native.Mathlib.Numerals.{add-one}
+use native.Mathlib.Omega.{arith}
+use borrow.Author.Needs.{needs}
+use Rattle.rules.specs.Answers.{sameScenes}
+use Rattle.actuator.proofs.Tables.{same-step, same-none}
 use Rattle.actuator.proofs.same.same_scenes.Statement.{statement}
 use Rattle.actuator.proofs.same.same_scenes.Tie as tie
 use Rattle.actuator.proofs.same.same_scenes.Reads as reads
 use Rattle.actuator.proofs.same.same_scenes.Lts as lts
 use Rattle.actuator.proofs.same.same_scene.Reads as same-scene-reads
 
+-- the entries so far are the same
 abbrev Inv-loop : tie.InvT-loop
-Inv-loop a b i₀ i = ?
+Inv-loop a b i₀ i = (i ≤ 8) × (length a ≡ 8) × (length b ≡ 8) × (sameScenes a b ≡ sameScenes (drop i a) (drop i b))
 
 abbrev μ-loop : tie.MeasureT-loop
-μ-loop a b i₀ i = ?
+μ-loop a b i₀ i = 8 - i
 
--- src/same.rt:78:5
 loop-holds : tie.Need-loop-holds Inv-loop μ-loop
-loop-holds c = ?
+loop-holds c = search needs
 
--- src/same.rt:79:17
 mul-x : tie.Need-mul-x Inv-loop μ-loop
-mul-x c = ?
+mul-x c = search needs
 
--- src/same.rt:79:17
 array-copy-out-x : tie.Need-array-copy-out-x Inv-loop μ-loop
-array-copy-out-x c = ?
+array-copy-out-x c = search needs
 
--- src/same.rt:80:17
 mul-y : tie.Need-mul-y Inv-loop μ-loop
-mul-y c = ?
+mul-y c = search needs
 
--- src/same.rt:80:17
 array-copy-out-y : tie.Need-array-copy-out-y Inv-loop μ-loop
-array-copy-out-y c = ?
+array-copy-out-y c = search needs
 
--- src/same.rt:81:12
 same-scene-requires : tie.Need-same-scene-requires Inv-loop μ-loop
-same-scene-requires c κs = ?
+same-scene-requires c κs = search needs
 
--- src/same.rt:82:13
 add-i : tie.Need-add-i Inv-loop μ-loop
-add-i c = ?
+add-i c = search needs
 
--- src/same.rt:78:5
 loop-less : tie.Need-loop-less Inv-loop μ-loop
-loop-less c = ?
+loop-less c = search needs
 
--- src/same.rt:78:5
 loop-again : tie.Need-loop-again Inv-loop μ-loop
-loop-again c = ?
+loop-again c =
+    let a = c .before .before .before .before .before .before .args in
+    let l = c .before .before .before .before .before .loop in
+    (search needs,
+    search needs,
+    search needs,
+    simp (add-one (l .i)) (l .inv .3 ∙ (simp (sym (c .before .same-scene .ensures) ∙ c .if1 .taken) at (same-step (a .t1) (a .t2) (l .i) (omega arith) (omega arith)))))
 
--- src/same.rt:84:13
 returns : tie.Need-returns Inv-loop μ-loop
-returns c = ?
+returns c =
+    let a = c .before .before .before .before .before .before .args in
+    let l = c .before .before .before .before .before .loop in
+    sym (l .inv .3 ∙ (simp (sym (c .before .same-scene .ensures) ∙ c .if1 .left) at (same-step (a .t1) (a .t2) (l .i) (omega arith) (omega arith))))
 
--- src/same.rt:74:1
 returns-2 : tie.Need-returns-2 Inv-loop μ-loop
-returns-2 c = ?
+returns-2 c =
+    let a = c .before .before .args in
+    let l = c .before .loop in
+    sym (l .inv .3 ∙ same-none (drop (l .i) (a .t1)) (drop (l .i) (a .t2)) (omega (arith, length-drop (l .i) (a .t1))) (omega (arith, length-drop (l .i) (a .t2))))
 
 pub same-scenes-spec : {M : Type 1} → statement M
 same-scenes-spec =

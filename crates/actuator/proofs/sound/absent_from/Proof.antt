@@ -1,45 +1,58 @@
+use Prim.Native.Nat.{ℕ, _≤_, _-_}
+use mathlib.Core.Path.{_≡_, sym, _∙_}
+use lib.ListN.{length, drop, length-drop}
+use native.Mathlib.Numerals.{add-one}
+use native.Mathlib.Omega.{arith}
+use borrow.Author.Tests.{eq-eqb, ne-eqb}
+use borrow.Author.Needs.{needs}
+use Rattle.rules.specs.Scenes.{absent}
+use Rattle.actuator.proofs.Tables.{absent-step, absent-none}
 use Rattle.actuator.proofs.sound.absent_from.Statement.{statement}
 use Rattle.actuator.proofs.sound.absent_from.Tie as tie
 use Rattle.actuator.proofs.sound.absent_from.Reads as reads
 use Rattle.actuator.proofs.sound.absent_from.Lts as lts
 
+-- no entry so far has the number
 abbrev Inv-loop : tie.InvT-loop
-Inv-loop from number k i₀ i = ?
+Inv-loop from number k i₀ i = (i ≤ 8) × (length k ≡ 8) × (absent (drop from k) number ≡ absent (drop i k) number)
 
 abbrev μ-loop : tie.MeasureT-loop
-μ-loop from number k i₀ i = ?
+μ-loop from number k i₀ i = 8 - i
 
--- src/sound.rt:67:5
 loop-holds : tie.Need-loop-holds Inv-loop μ-loop
-loop-holds c = ?
+loop-holds c = search needs
 
--- src/sound.rt:68:17
 mul-e : tie.Need-mul-e Inv-loop μ-loop
-mul-e c = ?
+mul-e c = search needs
 
--- src/sound.rt:68:17
 array-copy-out-e : tie.Need-array-copy-out-e Inv-loop μ-loop
-array-copy-out-e c = ?
+array-copy-out-e c = search needs
 
--- src/sound.rt:70:13
 returns : tie.Need-returns Inv-loop μ-loop
-returns c = ?
+returns c =
+    let a = c .before .before .before .before .before .args in
+    let l = c .before .before .before .before .loop in
+    sym (l .inv .2 ∙ (simp (eq-eqb _ _ (c .if1 .taken)) at (absent-step (a .t1) (a .number) (l .i) (omega arith))))
 
--- src/sound.rt:72:9
 add-i : tie.Need-add-i Inv-loop μ-loop
-add-i c = ?
+add-i c = search needs
 
--- src/sound.rt:67:5
 loop-less : tie.Need-loop-less Inv-loop μ-loop
-loop-less c = ?
+loop-less c = search needs
 
--- src/sound.rt:67:5
 loop-again : tie.Need-loop-again Inv-loop μ-loop
-loop-again c = ?
+loop-again c =
+    let a = c .before .before .before .before .before .args in
+    let l = c .before .before .before .before .loop in
+    (search needs,
+    search needs,
+    simp (add-one (l .i)) (l .inv .2 ∙ (simp (ne-eqb _ _ (c .if1 .left)) at (absent-step (a .t1) (a .number) (l .i) (omega arith)))))
 
--- src/sound.rt:62:1
 returns-2 : tie.Need-returns-2 Inv-loop μ-loop
-returns-2 c = ?
+returns-2 c =
+    let a = c .before .before .args in
+    let l = c .before .loop in
+    sym (l .inv .2 ∙ absent-none (drop (l .i) (a .t1)) (a .number) (omega (arith, length-drop (l .i) (a .t1))))
 
 pub absent-from-spec : {M : Type 1} → statement M
 absent-from-spec =

@@ -8,25 +8,20 @@ use Rattle.actuator.proofs.sound.entry_in_range.Reads as entry-in-range
 use Rattle.phases.proofs.logic.both.Reads as both-reads
 use Rattle.phases.proofs.logic.either.Reads as either-reads
 
--- src/sound.rt:84:9
 entry-in-range-requires : tie.Need-entry-in-range-requires
 entry-in-range-requires c κs = search needs
 
--- src/sound.rt:85:24
 absent-from-requires : tie.Need-absent-from-requires
 absent-from-requires c κs = search needs
 
--- src/sound.rt:85:9
 either-requires : tie.Need-either-requires
 either-requires c κs = search needs
 
--- src/sound.rt:83:5
 both-requires : tie.Need-both-requires
 both-requires c κs = search needs
 
--- src/sound.rt:78:1
 returns : tie.Need-returns
-returns c = ?
+returns c = simp (← c .both .ensures, ← c .before .either .ensures, ← c .before .before .absent-from .ensures, ← c .before .before .before .entry-in-range .ensures)
 
 pub entry-fits-spec : {M : Type 1} → statement M
 entry-fits-spec =

@@ -1,3 +1,4 @@
+use Rattle.rules.specs.Soundness.{sound}
 use borrow.Author.Needs.{needs}
 use Rattle.actuator.proofs.sound.is_sound.Statement.{statement}
 use Rattle.actuator.proofs.sound.is_sound.Tie as tie
@@ -10,45 +11,36 @@ use Rattle.actuator.proofs.sound.scenes_in_range.Reads as scenes-in-ran
 use Rattle.phases.proofs.logic.both.Reads as both-reads
 use Rattle.phases.proofs.phase.deadline_of.Reads as deadline-of-reads
 
--- src/sound.rt:229:23
 params-in-range-requires : tie.Need-params-in-range-requires
 params-in-range-requires c κs = search needs
 
--- src/sound.rt:229:43
 scenes-in-range-requires : tie.Need-scenes-in-range-requires
 scenes-in-range-requires c κs = search needs
 
--- src/sound.rt:229:9
 both-requires : tie.Need-both-requires
 both-requires c κs = search needs
 
--- src/sound.rt:230:47
 deadline-of-requires : tie.Need-deadline-of-requires
 deadline-of-requires c κs = search needs
 
--- src/sound.rt:230:30
 is-soon-requires : tie.Need-is-soon-requires
 is-soon-requires c κs = search needs
 
--- src/sound.rt:230:9
 both-requires-2 : tie.Need-both-requires-2
 both-requires-2 c κs = search needs
 
--- src/sound.rt:232:9
 both-requires-3 : tie.Need-both-requires-3
 both-requires-3 c κs = search needs
 
--- src/sound.rt:233:9
 is-consistent-requires : tie.Need-is-consistent-requires
 is-consistent-requires c κs = search needs
 
--- src/sound.rt:231:5
 both-requires-4 : tie.Need-both-requires-4
 both-requires-4 c κs = search needs
 
--- src/sound.rt:220:1
 returns : tie.Need-returns
-returns c = ?
+unfolding sound
+returns c = simp (← c .both4 .ensures, ← c .before .is-consistent .ensures, ← c .before .before .both3 .ensures, ← c .before .before .before .both2 .ensures, ← c .before .before .before .before .is-soon .ensures, ← c .before .before .before .before .before .deadline-of .ensures, ← c .before .before .before .before .before .before .both .ensures, ← c .before .before .before .before .before .before .before .scenes-in-range .ensures, ← c .before .before .before .before .before .before .before .before .params-in-range .ensures)
 
 pub is-sound-spec : {M : Type 1} → statement M
 is-sound-spec =
