@@ -6,7 +6,6 @@ use mathlib.Core.Path.{_≡_, refl, ap}
 use native.Mathlib.Nat.{sub-zero, suc-sub-suc}
 use native.Mathlib.Omega.{arith}
 use lib.ListN.{length, length-append}
-use borrow.Author.Tests.{eq-eqb}
 use Rattle.rules.specs.declared.parameters.Params.{Params}
 use Rattle.rules.specs.declared.phase.Phase.{Phase}
 use Rattle.rules.specs.declared.phase.Phase.the-variants.{Dark, Lit, Starting, Timed, Warning, Ending}
@@ -23,7 +22,6 @@ use Rattle.rules.specs.Status.{value, staircase, attributes, sameStatus,
 use Rattle.rules.specs.Steps.{atMoment, Moved, clockMove, taken, meet, act, step}
 use Rattle.rules.specs.Calls.{places}
 use Rattle.rules.proofs.Tests.{cond-case, cond-zero}
-use Rattle.rules.proofs.Ticks.{fired}
 use Rattle.rules.proofs.Timers.{Moves, rest, fire, alike-writes-nothing, clock-moves}
 
 -- ---- how many are written

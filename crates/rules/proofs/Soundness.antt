@@ -16,7 +16,7 @@ use Rattle.rules.specs.declared.barrier.Barrier.{Barrier}
 use Rattle.rules.specs.declared.barrier.Barrier.the-variants.{Open, NoPower, NoBus, Locked, Forced}
 use Rattle.rules.specs.Time.{lastStamp}
 use Rattle.rules.specs.Parameters.{timeInRange, paramsInRange}
-use Rattle.rules.specs.Scenes.{learnt, entryInRange, scenesInRange}
+use Rattle.rules.specs.Scenes.{entryInRange, scenesInRange}
 use Rattle.rules.specs.Phases.{output, deadline}
 use Rattle.rules.specs.Orders.{order}
 use Rattle.rules.specs.Barriers.{barrier}
@@ -27,10 +27,11 @@ use Rattle.rules.specs.Calls.{leastParams, unused, noScenes, ownState}
 use Rattle.rules.proofs.Tests.{both}
 use Rattle.rules.proofs.Deadlines.{times-bounded, soon-within, within-soon, soon-due, due-is}
 use Rattle.rules.proofs.Phases.{timer-unheld}
-use Rattle.rules.proofs.Holding.{waiting-is-loose}
+use Rattle.rules.proofs.Holding.{Fits, fits-view, fits-consistent, waiting-is-loose, fits-unheld, unheld-fits}
 use Rattle.rules.proofs.Ticks.{Quiet, fired, tick-case, tick-keeps, three-are-enough}
 use Rattle.rules.proofs.Scenes.{learnt-in-range}
-use Rattle.rules.proofs.Orders.{sceneNumber, Kept, order-keeps, Fits, unheld-fits, fits-unheld, order-fits}
+use Rattle.rules.proofs.Fitting.{order-fits}
+use Rattle.rules.proofs.Orders.{sceneNumber, order-keeps}
 
 -- ---- the rules of a sound state by name
 
@@ -55,7 +56,7 @@ unfolding sound
 sound-whole s h = simp (h .params, h .scenes, le-leb (s .clock) lastStamp (h .clock), h .soon, h .consistent)
 
 fits : (s : State) → Sound s → Fits s
-fits s h = record { soon = h .soon; consistent = h .consistent }
+fits s h = fits-view s (h .soon) (h .consistent)
 
 -- a deadline, also where there is none, is near
 pub due-near : (s : State) → sound s ≡ true → due (s .phase) ≤ s .clock + 655_350
@@ -69,8 +70,8 @@ due-bounded s h = omega (arith, due-near s h, sound-view s h .clock)
 pub fresh-is-sound : (p : Params) (k : List Scene) → paramsInRange p ≡ true → scenesInRange k ≡ true → sound (fresh p k) ≡ true
 unfolding fresh
 fresh-is-sound p k params scenes =
-    let f = unheld-fits (fresh p k) record { held = refl; powered = refl } tt in
-    sound-whole (fresh p k) record { params = params; scenes = scenes; clock = omega arith; soon = f .soon; consistent = f .consistent }
+    let f = unheld-fits (fresh p k) record { free = refl; powered = refl } tt in
+    sound-whole (fresh p k) record { params = params; scenes = scenes; clock = omega arith; soon = f .soon; consistent = fits-consistent _ f }
 
 pub own-state-is-sound : sound ownState ≡ true
 unfolding ownState leastParams noScenes unused paramsInRange timeInRange scenesInRange entryInRange
@@ -80,9 +81,9 @@ own-state-is-sound = fresh-is-sound leastParams noScenes refl refl
 
 fired-is-sound : (s : State) (t d : ℕ) → t ≤ lastStamp → Sound s → deadline (s .phase) ≡ At d → d ≤ t → Sound (fired s d)
 fired-is-sound s t d end h e past =
-    let l = waiting-is-loose (s .night) (s .lock) (s .force) (s .link) (s .phase) d e (h .consistent) in
-    let f = unheld-fits (fired s d) l (rw (due-is (s .phase) d e) at (timer-unheld (s .params) (s .night) (s .clock) (s .phase) (times-bounded (s .params) (h .params)) (fits-unheld s l (fits s h)))) in
-    record { params = h .params; scenes = h .scenes; clock = omega arith; soon = f .soon; consistent = f .consistent }
+    let l = waiting-is-loose s d e (fits s h) in
+    let f = unheld-fits (fired s d) l (rw (due-is (s .phase) d e) at (timer-unheld (s .params) (times-bounded (s .params) (h .params)) (s .night) (s .clock) (s .phase) (fits-unheld s l (fits s h)))) in
+    record { params = h .params; scenes = h .scenes; clock = omega arith; soon = f .soon; consistent = fits-consistent _ f }
 
 pub tick-is-sound : (s : State) (t : ℕ) → sound s ≡ true → t ≤ 864_000 → sound (tick s t) ≡ true
 tick-is-sound s t h end =
@@ -149,7 +150,7 @@ order-is-sound s i small h way =
       scenes = ⊎-elim (λ e. rw e (view .scenes)) (λ e. ap scenesInRange e ∙ (learnt-in-range (s .scenes) (sceneNumber i) (output (s .phase)) small ∙ view .scenes)) (k .scenes);
       clock = rw (k .clock) (view .clock);
       soon = f .soon;
-      consistent = f .consistent;
+      consistent = fits-consistent _ f;
     }
 
 meet-is-sound : (x : Barrier) (m : Moved) (i : Input) → sceneNumber i ≤ 63 → sound (m .state) ≡ true → barrier (m .state) i ≡ x → sound (meet x m i .state) ≡ true

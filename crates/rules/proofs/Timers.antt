@@ -2,7 +2,7 @@
 use Prim.Native.Nat.{ℕ, _≤_}
 use mathlib.Core.Bool.{true}
 use mathlib.Core.List.{List, [], _++_, append-nil, append-assoc}
-use mathlib.Core.Path.{_≡_, refl, sym, ap}
+use mathlib.Core.Path.{_≡_, refl, sym}
 use native.Mathlib.Omega.{arith}
 use borrow.Author.Tests.{le-leb, eq-eqb}
 use Rattle.rules.specs.declared.phase.Deadline.{Deadline}
@@ -11,7 +11,7 @@ use Rattle.rules.specs.declared.state.State.{State}
 use Rattle.rules.specs.declared.record.Record.{Record}
 use Rattle.rules.specs.Phases.{deadline, atDeadline}
 use Rattle.rules.specs.Status.{value, attributes, sameStatus, written, byItself}
-use Rattle.rules.specs.Steps.{atMoment, tickAt, tick, Moved, ticked, clockMove}
+use Rattle.rules.specs.Steps.{atMoment, tickAt, tick, ticked, clockMove}
 use Rattle.rules.specs.Soundness.{soon, sound}
 use Rattle.rules.proofs.Deadlines.{soon-within}
 use Rattle.rules.proofs.Ticks.{Quiet, fired, tick-case, tick-rests, three-are-enough}
