@@ -16,7 +16,7 @@ use Rattle.rules.specs.Answers.{due}
 use Rattle.rules.specs.Soundness.{soon}
 use Rattle.rules.proofs.Tests.{no, both, cond-case}
 
--- what range the times of parameters in range have
+-- the ranges of the times
 pub record Times (p : Params) : Type 0 where
   pub ondelay : p .ondelay ≤ 655_350
   pub offdelay : p .offdelay ≤ 655_350
@@ -58,7 +58,7 @@ pub within-soon : (t d : ℕ) → Within t d → soon t (At d) ≡ true
 unfolding soon
 within-soon t d w = simp (lt-ltb t d (w .after), le-leb (d - t) longestDelay (omega arith))
 
--- a phase without deadline has the number 0 for it
+-- (a phase without a deadline has the number 0 for it)
 pub soon-due : (t : ℕ) (phase : Phase) → soon t (deadline phase) ≡ true → due phase ≤ t + longestDelay
 soon-due t Dark h = omega arith
 soon-due t Lit h = omega arith
@@ -67,6 +67,7 @@ soon-due t (Timed d) h = soon-within t d h .near
 soon-due t (Warning d) h = soon-within t d h .near
 soon-due t (Ending d) h = soon-within t d h .near
 
+-- the number of a deadline is the deadline
 pub due-is : (phase : Phase) (d : ℕ) → deadline phase ≡ At d → due phase ≡ d
 due-is Dark d e = cc
 due-is Lit d e = cc

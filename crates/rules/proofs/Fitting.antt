@@ -22,19 +22,20 @@ use Rattle.rules.specs.Phases.{output}
 use Rattle.rules.specs.Orders.{withPhase, withNight, withForce, withLink, withLock, standing, held, settle, byMode, switch, timed, recall, learn, scene, nightMode, forced, locked, unlocked, lockDevice, busMode, bus, powerFails, powerReturns, power, order}
 use Rattle.rules.specs.Barriers.{powerDown, rows, rowOf, barrier}
 use Rattle.rules.specs.Soundness.{soon, heldIsSteady, forceDecides, nightEnds, powerDownIsClear}
-use Rattle.rules.proofs.Tests.{neither, cond-case}
+use Rattle.rules.proofs.Tests.{neither-left, cond-case}
 use Rattle.rules.proofs.Deadlines.{Times}
 use Rattle.rules.proofs.Phases.{Unheld, set-on-unheld, on-unheld, timed-start-unheld, off-unheld, timed-stop-unheld, night-falls-unheld}
 use Rattle.rules.proofs.Holding.{Fits, LooseIn, unheld-fits, fits-unheld, held-fits, power-down-is-free}
 use Rattle.rules.proofs.Barriers.{Unstopped, open-is-unstopped}
 
+-- set on or set off, where nothing holds the phase
 settle-fits : (s : State) (output : Bool) → Times (s .params) → LooseIn s → Fits (settle s output)
 unfolding settle held
 settle-fits s true n l = unheld-fits (withPhase s _) l (rw (l .free) (set-on-unheld (s .params) n (s .night) (s .clock)))
 settle-fits s false n l = unheld-fits (withPhase s _) l tt
 
 module _ (s : State) (n : Times (s .params)) (f : Fits s) where
-  -- an order to a phase that nothing holds
+  -- where nothing holds the phase, an order to it only has to lead to another that may stand so
   turned : LooseIn s → (next : Phase) → (Unheld (s .night) (s .clock) (s .phase) → Unheld (s .night) (s .clock) next) → Fits (withPhase s next)
   turned l next turns = unheld-fits (withPhase s next) l (turns (fits-unheld s l f))
 
@@ -74,6 +75,7 @@ module _ (s : State) (n : Times (s .params)) (f : Fits s) where
   forced-fits free powered Free =
       cond-case Fits (standing (s .force)) _ _ (λ stood. settle-fits (withForce s Free) _ n record { free = rw free; powered = powered }) (λ never. f)
 
+  -- the force that stands decides, or else nothing holds the phase any longer
   unlocked-fits : powerDown (s .link) ≡ false → (force : Force) → s .force ≡ force → Fits (unlocked s force)
   unfolding unlocked held forceDecides
   unlocked-fits powered Off e = held-fits (withLock s false (s .atlocking)) false (rw e) (rw e) powered
@@ -91,7 +93,7 @@ module _ (s : State) (n : Times (s .params)) (f : Fits s) where
   bus-mode-fits link mode powered =
       cond-case Fits (held s || eqb mode 0) (withLink s link) (settle (withLink s link) (eqb mode 2))
       (λ keep. record { soon = f .soon; steady = f .steady; decided = f .decided; ends = f .ends; clear = rw powered })
-      (λ acts. settle-fits (withLink s link) (eqb mode 2) n record { free = neither (held s) (eqb mode 0) acts; powered = powered })
+      (λ acts. settle-fits (withLink s link) (eqb mode 2) n record { free = neither-left (held s) (eqb mode 0) acts; powered = powered })
 
   bus-fits : (link : Link) (event : Event) → Fits (bus s link event)
   unfolding bus
@@ -101,6 +103,7 @@ module _ (s : State) (n : Times (s .params)) (f : Fits s) where
   bus-fits BusDown Return = bus-mode-fits Up _ refl
   bus-fits PowerDown event = f
 
+  -- Dark with nothing standing fits every rule
   fails-fits : Fits (powerFails s)
   unfolding powerFails soon heldIsSteady forceDecides nightEnds powerDownIsClear
   fails-fits = record { soon = refl; steady = refl; decided = refl; ends = refl; clear = refl }
@@ -122,6 +125,7 @@ module _ (s : State) (n : Times (s .params)) (f : Fits s) where
   freely : Unstopped (powerDown (s .link)) (s .lock) (standing (s .force)) → LooseIn s
   freely c = record { free = rw (c .unlocked) (c .unforced); powered = c .powered }
 
+  -- each kind of input by what its row of barriers has left standing
   pub order-fits : (i : Input) → barrier s i ≡ Open → Fits (order s i)
   unfolding order scene rowOf rows
   order-fits (SwitchOnOff value) way = switch-fits (freely (unstopped (SwitchOnOff value) way)) value

@@ -40,11 +40,12 @@ pub record Kept (p : Params) (t : ℕ) (k taught : List Scene) (u : State) : Typ
   pub clock : u .clock ≡ t
   pub scenes : (u .scenes ≡ k) ⊎ (u .scenes ≡ taught)
 
+-- an order that touches none of the three
 same : {taught : List Scene} {u : State} → Kept (u .params) (u .clock) (u .scenes) taught u
 same = record { params = refl; clock = refl; scenes = inl refl }
 
 module _ (taught : List Scene) where
-  -- kept from s to u
+  -- what s has, u has too
   abbrev Keeps : State → State → Type 0
   Keeps s u = Kept (s .params) (s .clock) (s .scenes) taught u
 
@@ -118,6 +119,7 @@ learn-keeps s number =
     (λ enabled. record { params = refl; clock = refl; scenes = inr refl })
     (λ disabled. same)
 
+-- only a scene input that teaches writes one of the three
 pub order-keeps : (s : State) (i : Input) → Kept (s .params) (s .clock) (s .scenes) (learnt (s .scenes) (sceneNumber i) (output (s .phase))) (order s i)
 unfolding order scene
 order-keeps s (SwitchOnOff value) = switch-keeps _ s value

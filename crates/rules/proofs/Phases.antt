@@ -33,7 +33,7 @@ module _ (p : Params) (n : Times p) where
   set-on-unheld true t = lit-unheld true true t
   set-on-unheld false t = lit-unheld false false t
 
-  -- a phase that has no deadline stays as it was
+  -- a timer sets its next deadline from its own moment (a phase without a deadline stays as it was)
   pub timer-unheld : (night : Bool) (t : ℕ) (phase : Phase) → Unheld night t phase → Unheld night (due phase) (atDeadline p night phase)
   unfolding atDeadline
   timer-unheld night t Dark h = tt

@@ -58,15 +58,17 @@ sound-whole s h = simp (h .params, h .scenes, le-leb (s .clock) lastStamp (h .cl
 fits : (s : State) → Sound s → Fits s
 fits s h = fits-view s (h .soon) (h .consistent)
 
--- a deadline, also where there is none, is near
+-- a deadline lies at most 655,350 after the clock, and where there is none its number is 0
 pub due-near : (s : State) → sound s ≡ true → due (s .phase) ≤ s .clock + 655_350
 due-near s h = soon-due (s .clock) (s .phase) (sound-view s h .soon)
 
+-- the clock is at most 864,000
 pub due-bounded : (s : State) → sound s ≡ true → due (s .phase) ≤ 1_519_350
 due-bounded s h = omega (arith, due-near s h, sound-view s h .clock)
 
 -- ---- the start
 
+-- Dark with nothing standing asks for parameters and scenes in range alone
 pub fresh-is-sound : (p : Params) (k : List Scene) → paramsInRange p ≡ true → scenesInRange k ≡ true → sound (fresh p k) ≡ true
 unfolding fresh
 fresh-is-sound p k params scenes =
@@ -79,6 +81,7 @@ own-state-is-sound = fresh-is-sound leastParams noScenes refl refl
 
 -- ---- a timer
 
+-- a phase with a deadline is one that nothing holds, and its timer leads to another that may stand so
 fired-is-sound : (s : State) (t d : ℕ) → t ≤ lastStamp → Sound s → deadline (s .phase) ≡ At d → d ≤ t → Sound (fired s d)
 fired-is-sound s t d end h e past =
     let l = waiting-is-loose s d e (fits s h) in
@@ -90,6 +93,7 @@ tick-is-sound s t h end =
     let view = sound-view s h in
     sound-whole (tick s t) (tick-case Sound s t (λ d e past. fired-is-sound s t d end view e past) (λ quiet. view))
 
+-- no timer runs after t
 pub tick-clock : (s : State) (t : ℕ) → s .clock ≤ t → tick s t .clock ≤ t
 tick-clock s t h = tick-case (λ (u : State). u .clock ≤ t) s t (λ d e past. past) (λ quiet. h)
 
@@ -101,6 +105,7 @@ unfolding soon
 soon-later clock t Never later quiet h = refl
 soon-later clock t (At d) later quiet h = within-soon t d (omega (arith, soon-within clock d h))
 
+-- the timers keep the state sound, and leave no deadline at or before t
 pub move-is-sound : (s : State) (t : ℕ) → sound s ≡ true → s .clock ≤ t → t ≤ 864_000 → sound (clockMove s t .state) ≡ true
 unfolding clockMove ticked
 move-is-sound s t h later end =
@@ -139,6 +144,7 @@ move-scenes s t = ap (λ u. u .scenes) (move-keeps s t)
 
 -- ---- an order and a step
 
+-- an order keeps clock and parameters, teaches a used entry at most, and sets a phase that fits
 pub order-is-sound : (s : State) (i : Input) → sceneNumber i ≤ 63 → sound s ≡ true → barrier s i ≡ Open → sound (order s i) ≡ true
 order-is-sound s i small h way =
     let view = sound-view s h in
@@ -161,6 +167,7 @@ meet-is-sound NoBus m i small h way = h
 meet-is-sound Locked m i small h way = h
 meet-is-sound Forced m i small h way = h
 
+-- a stopped input changes nothing after the clock move, any other is an order
 pub step-is-sound : (s : State) (i : Input) (t : ℕ) → sceneNumber i ≤ 63 → sound s ≡ true → s .clock ≤ t → t ≤ 864_000 → sound (step s i t .state) ≡ true
 unfolding step act
 step-is-sound s i t small h later end = meet-is-sound _ (clockMove s t) i small (move-is-sound s t h later end) refl
