@@ -8,6 +8,7 @@ use Rattle.rules.specs.declared.barrier.Barrier.the-variants.{Open, NoPo
 use Rattle.rules.specs.Orders.{standing}
 use Rattle.rules.specs.Barriers.{powerDown, busDown, firstBarrier}
 
+-- none of these three stands, as far as the row names it
 pub record Unstopped (power lock force : Bool) : Type 0 where
   pub powered : power ≡ false
   pub unlocked : lock ≡ false

@@ -1,15 +1,14 @@
 -- Times in range, and deadlines that lie 1 to 655,350 after the clock: what keeps every sum within its type.
 use Prim.Native.Nat.{ℕ, _+_, _-_, _≤_, _<_}
 use mathlib.Core.Bool.{Bool, true, false}
-use mathlib.Core.Path.{_≡_, refl}
+use mathlib.Core.Path.{_≡_}
 use native.Mathlib.Omega.{arith}
 use lib.Dec.{leb, ltb}
 use borrow.Author.Tests.{leb-true, ltb-true, le-leb, lt-ltb}
 use Rattle.rules.specs.declared.parameters.Params.{Params}
 use Rattle.rules.specs.declared.phase.Phase.{Phase}
 use Rattle.rules.specs.declared.phase.Phase.the-variants.{Dark, Lit, Starting, Timed, Warning, Ending}
-use Rattle.rules.specs.declared.phase.Deadline.{Deadline}
-use Rattle.rules.specs.declared.phase.Deadline.the-variants.{Never, At}
+use Rattle.rules.specs.declared.phase.Deadline.the-variants.{At}
 use Rattle.rules.specs.Time.{longestDelay}
 use Rattle.rules.specs.Parameters.{timeInRange, paramsInRange}
 use Rattle.rules.specs.Phases.{deadline}
@@ -17,7 +16,7 @@ use Rattle.rules.specs.Answers.{due}
 use Rattle.rules.specs.Soundness.{soon}
 use Rattle.rules.proofs.Tests.{no, both, cond-case}
 
--- what range the times of parameters in range have
+-- the ranges of the times
 pub record Times (p : Params) : Type 0 where
   pub ondelay : p .ondelay ≤ 655_350
   pub offdelay : p .offdelay ≤ 655_350
@@ -59,7 +58,7 @@ pub within-soon : (t d : ℕ) → Within t d → soon t (At d) ≡ true
 unfolding soon
 within-soon t d w = simp (lt-ltb t d (w .after), le-leb (d - t) longestDelay (omega arith))
 
--- a phase without deadline has the number 0 for it
+-- (a phase without a deadline has the number 0 for it)
 pub soon-due : (t : ℕ) (phase : Phase) → soon t (deadline phase) ≡ true → due phase ≤ t + longestDelay
 soon-due t Dark h = omega arith
 soon-due t Lit h = omega arith
@@ -68,6 +67,7 @@ soon-due t (Timed d) h = soon-within t d h .near
 soon-due t (Warning d) h = soon-within t d h .near
 soon-due t (Ending d) h = soon-within t d h .near
 
+-- the number of a deadline is the deadline
 pub due-is : (phase : Phase) (d : ℕ) → deadline phase ≡ At d → due phase ≡ d
 due-is Dark d e = cc
 due-is Lit d e = cc

@@ -6,6 +6,7 @@ pub mod Holding
 pub mod Ticks
 pub mod Scenes
 pub mod Barriers
+pub mod Fitting
 pub mod Orders
 pub mod Soundness
 pub mod Timers

@@ -1,5 +1,5 @@
--- What the orders and the timers make of a phase that nothing holds: its deadline stays soon, and night leaves no Lit.
-use Prim.Native.Nat.{ℕ, _+_, _≤_}
+-- What the timers and the orders make of a phase that nothing holds: its deadline stays soon, and night leaves no Lit.
+use Prim.Native.Nat.{ℕ, _≤_}
 use mathlib.Core.Bool.{Bool, true, false, _||_}
 use mathlib.Core.Path.{_≡_, refl}
 use native.Mathlib.Omega.{arith}
@@ -21,73 +21,74 @@ Unheld night t (Timed d) = Within t d
 Unheld night t (Warning d) = Within t d
 Unheld night t (Ending d) = Within t d
 
-lit-unheld : (p : Params) (night timed : Bool) (t : ℕ) → Times p → Unheld night t (litAt p (timed || night) t)
-unfolding litAt
-lit-unheld p night true t n = omega arith
-lit-unheld p true false t n = omega arith
-lit-unheld p false false t n = refl
+module _ (p : Params) (n : Times p) where
+  lit-unheld : (night timed : Bool) (t : ℕ) → Unheld night t (litAt p (timed || night) t)
+  unfolding litAt
+  lit-unheld night true t = omega arith
+  lit-unheld true false t = omega arith
+  lit-unheld false false t = refl
 
-pub set-on-unheld : (p : Params) (night : Bool) (t : ℕ) → Times p → Unheld night t (setOn p night false t)
-unfolding setOn
-set-on-unheld p true t n = lit-unheld p true true t n
-set-on-unheld p false t n = lit-unheld p false false t n
+  pub set-on-unheld : (night : Bool) (t : ℕ) → Unheld night t (setOn p night false t)
+  unfolding setOn
+  set-on-unheld true t = lit-unheld true true t
+  set-on-unheld false t = lit-unheld false false t
 
--- a phase that has no deadline stays as it was
-pub timer-unheld : (p : Params) (night : Bool) (t : ℕ) (phase : Phase) → Times p → Unheld night t phase → Unheld night (due phase) (atDeadline p night phase)
-unfolding atDeadline
-timer-unheld p night t Dark n h = tt
-timer-unheld p night t Lit n h = h
-timer-unheld p night t (Starting timed d) n h = lit-unheld p night timed d n
-timer-unheld p night t (Timed d) n h = cond-zero (Unheld night d) (p .prewarning) _ _ tt (λ some. omega arith)
-timer-unheld p night t (Warning d) n h = tt
-timer-unheld p night t (Ending d) n h = tt
+  -- a timer sets its next deadline from its own moment (a phase without a deadline stays as it was)
+  pub timer-unheld : (night : Bool) (t : ℕ) (phase : Phase) → Unheld night t phase → Unheld night (due phase) (atDeadline p night phase)
+  unfolding atDeadline
+  timer-unheld night t Dark h = tt
+  timer-unheld night t Lit h = h
+  timer-unheld night t (Starting timed d) h = lit-unheld night timed d
+  timer-unheld night t (Timed d) h = cond-zero (Unheld night d) (p .prewarning) _ _ tt (λ some. omega arith)
+  timer-unheld night t (Warning d) h = tt
+  timer-unheld night t (Ending d) h = tt
 
-pub on-unheld : (p : Params) (night : Bool) (t : ℕ) (phase : Phase) → Times p → Unheld night t phase → Unheld night t (on p night false t phase)
-unfolding on
-on-unheld p night t Dark n h = cond-zero (Unheld night t) (p .ondelay) _ _ (lit-unheld p night false t n) (λ some. omega arith)
-on-unheld p night t (Starting timed d) n h = h
-on-unheld p night t Lit n h = h
-on-unheld p night t (Timed d) n h = set-on-unheld p night t n
-on-unheld p night t (Warning d) n h = set-on-unheld p night t n
-on-unheld p night t (Ending d) n h = set-on-unheld p night t n
+  pub on-unheld : (night : Bool) (t : ℕ) (phase : Phase) → Unheld night t phase → Unheld night t (on p night false t phase)
+  unfolding on
+  on-unheld night t Dark h = cond-zero (Unheld night t) (p .ondelay) _ _ (lit-unheld night false t) (λ some. omega arith)
+  on-unheld night t (Starting timed d) h = h
+  on-unheld night t Lit h = h
+  on-unheld night t (Timed d) h = set-on-unheld night t
+  on-unheld night t (Warning d) h = set-on-unheld night t
+  on-unheld night t (Ending d) h = set-on-unheld night t
 
-pub timed-start-unheld : (p : Params) (night : Bool) (t : ℕ) (phase : Phase) → Times p → Unheld night t phase → Unheld night t (timedStart p t phase)
-unfolding timedStart
-timed-start-unheld p night t Dark n h = cond-zero (Unheld night t) (p .ondelay) _ _ (omega arith) (λ some. omega arith)
-timed-start-unheld p night t (Starting timed d) n h = h
-timed-start-unheld p night t Lit n h = omega arith
-timed-start-unheld p night t (Timed d) n h = omega arith
-timed-start-unheld p night t (Warning d) n h = omega arith
-timed-start-unheld p night t (Ending d) n h = omega arith
+  pub timed-start-unheld : (night : Bool) (t : ℕ) (phase : Phase) → Unheld night t phase → Unheld night t (timedStart p t phase)
+  unfolding timedStart
+  timed-start-unheld night t Dark h = cond-zero (Unheld night t) (p .ondelay) _ _ (omega arith) (λ some. omega arith)
+  timed-start-unheld night t (Starting timed d) h = h
+  timed-start-unheld night t Lit h = omega arith
+  timed-start-unheld night t (Timed d) h = omega arith
+  timed-start-unheld night t (Warning d) h = omega arith
+  timed-start-unheld night t (Ending d) h = omega arith
 
-off-after-delay-unheld : (p : Params) (night : Bool) (t : ℕ) (phase : Phase) → Times p → 1 ≤ p .offdelay → Unheld night t phase → Unheld night t (offAfterDelay p t phase)
-unfolding offAfterDelay
-off-after-delay-unheld p night t Dark n some h = tt
-off-after-delay-unheld p night t (Starting timed d) n some h = tt
-off-after-delay-unheld p night t Lit n some h = omega arith
-off-after-delay-unheld p night t (Timed d) n some h = omega arith
-off-after-delay-unheld p night t (Warning d) n some h = omega arith
-off-after-delay-unheld p night t (Ending d) n some h = omega arith
+  off-after-delay-unheld : (night : Bool) (t : ℕ) (phase : Phase) → 1 ≤ p .offdelay → Unheld night t phase → Unheld night t (offAfterDelay p t phase)
+  unfolding offAfterDelay
+  off-after-delay-unheld night t Dark some h = tt
+  off-after-delay-unheld night t (Starting timed d) some h = tt
+  off-after-delay-unheld night t Lit some h = omega arith
+  off-after-delay-unheld night t (Timed d) some h = omega arith
+  off-after-delay-unheld night t (Warning d) some h = omega arith
+  off-after-delay-unheld night t (Ending d) some h = omega arith
 
-pub off-unheld : (p : Params) (night : Bool) (t : ℕ) (phase : Phase) → Times p → Unheld night t phase → Unheld night t (off p t phase)
-unfolding off
-off-unheld p night t phase n h = cond-zero (Unheld night t) (p .offdelay) _ _ tt (λ some. off-after-delay-unheld p night t phase n some h)
+  pub off-unheld : (night : Bool) (t : ℕ) (phase : Phase) → Unheld night t phase → Unheld night t (off p t phase)
+  unfolding off
+  off-unheld night t phase h = cond-zero (Unheld night t) (p .offdelay) _ _ tt (λ some. off-after-delay-unheld night t phase some h)
 
-pub timed-stop-unheld : (p : Params) (night : Bool) (t : ℕ) (phase : Phase) → Times p → Unheld night t phase → Unheld night t (timedStop p t phase)
-unfolding timedStop
-timed-stop-unheld p night t Dark n h = tt
-timed-stop-unheld p night t Lit n h = h
-timed-stop-unheld p night t (Starting true d) n h = off-unheld p night t (Starting true d) n h
-timed-stop-unheld p night t (Starting false d) n h = h
-timed-stop-unheld p night t (Timed d) n h = off-unheld p night t (Timed d) n h
-timed-stop-unheld p night t (Warning d) n h = off-unheld p night t (Warning d) n h
-timed-stop-unheld p night t (Ending d) n h = h
+  pub timed-stop-unheld : (night : Bool) (t : ℕ) (phase : Phase) → Unheld night t phase → Unheld night t (timedStop p t phase)
+  unfolding timedStop
+  timed-stop-unheld night t Dark h = tt
+  timed-stop-unheld night t Lit h = h
+  timed-stop-unheld night t (Starting true d) h = off-unheld night t (Starting true d) h
+  timed-stop-unheld night t (Starting false d) h = h
+  timed-stop-unheld night t (Timed d) h = off-unheld night t (Timed d) h
+  timed-stop-unheld night t (Warning d) h = off-unheld night t (Warning d) h
+  timed-stop-unheld night t (Ending d) h = h
 
-pub night-falls-unheld : (p : Params) (night : Bool) (t : ℕ) (phase : Phase) → Times p → Unheld night t phase → Unheld true t (nightFalls p t phase)
-unfolding nightFalls
-night-falls-unheld p night t Dark n h = tt
-night-falls-unheld p night t Lit n h = omega arith
-night-falls-unheld p night t (Starting timed d) n h = h
-night-falls-unheld p night t (Timed d) n h = h
-night-falls-unheld p night t (Warning d) n h = h
-night-falls-unheld p night t (Ending d) n h = omega arith
+  pub night-falls-unheld : (night : Bool) (t : ℕ) (phase : Phase) → Unheld night t phase → Unheld true t (nightFalls p t phase)
+  unfolding nightFalls
+  night-falls-unheld night t Dark h = tt
+  night-falls-unheld night t Lit h = omega arith
+  night-falls-unheld night t (Starting timed d) h = h
+  night-falls-unheld night t (Timed d) h = h
+  night-falls-unheld night t (Warning d) h = h
+  night-falls-unheld night t (Ending d) h = omega arith

@@ -1,13 +1,11 @@
--- How many records are written: one for each timer or input that shows, at most two for a clock move, at most three for an input.
+-- How many records are written: at most one by a timer or an order, two by a clock move, three by an input; and their places by value.
 use Prim.Native.Nat.{ℕ, zero, suc, _+_, _-_, _≤_}
-use mathlib.Core.Bool.{Bool, _||_}
+use mathlib.Core.Bool.{_||_}
 use mathlib.Core.List.{List, [], _∷_, _++_}
 use mathlib.Core.Path.{_≡_, refl, ap}
 use native.Mathlib.Nat.{sub-zero, suc-sub-suc}
 use native.Mathlib.Omega.{arith}
 use lib.ListN.{length, length-append}
-use borrow.Author.Tests.{eq-eqb}
-use Rattle.rules.specs.declared.parameters.Params.{Params}
 use Rattle.rules.specs.declared.phase.Phase.{Phase}
 use Rattle.rules.specs.declared.phase.Phase.the-variants.{Dark, Lit, Starting, Timed, Warning, Ending}
 use Rattle.rules.specs.declared.input.Input.{Input}
@@ -23,11 +21,9 @@ use Rattle.rules.specs.Status.{value, staircase, attributes, sameStatus,
 use Rattle.rules.specs.Steps.{atMoment, Moved, clockMove, taken, meet, act, step}
 use Rattle.rules.specs.Calls.{places}
 use Rattle.rules.proofs.Tests.{cond-case, cond-zero}
-use Rattle.rules.proofs.Ticks.{fired}
 use Rattle.rules.proofs.Timers.{Moves, rest, fire, alike-writes-nothing, clock-moves}
 
--- ---- how many are written
-
+-- none where nothing shows, else one
 pub one-record-at-most : (cause : ℕ) (before after : State) → length (written cause before after) ≤ 1
 unfolding written
 one-record-at-most cause before after = cond-case (λ (l : List Record). length l ≤ 1) (sameStatus before after) _ _ (λ same. omega arith) (λ differs. omega arith)
@@ -41,10 +37,6 @@ shows (Timed d) = 1
 shows (Warning d) = 1
 shows (Ending d) = 1
 
-lit-shows : (p : Params) (timed : Bool) (t : ℕ) → shows (litAt p timed t) ≤ 1
-unfolding litAt
-lit-shows p timed t = cond-case (λ (x : Phase). shows x ≤ 1) timed _ _ (λ e. omega arith) (λ e. omega arith)
-
 -- the record of a timer that leads from a phase to the next, if it writes one, is taken from those of the phase
 abbrev Spends : State → ℕ → Phase → Phase → Type 0
 Spends s d phase next = length (written byItself (withPhase s phase) (atMoment s d next)) + shows next ≤ shows phase
@@ -56,11 +48,15 @@ writes-nothing : (s : State) (d : ℕ) (phase next : Phase) → output phase ≡
 unfolding value attributes
 writes-nothing s d phase next lit timed less = rw (alike-writes-nothing byItself (withPhase s phase) (atMoment s d next) (rw lit) (rw timed)) (omega arith)
 
+-- Timed and Warning show alike, so of three timers only two write
 timer-spends : (s : State) (d : ℕ) (phase : Phase) → Spends s d phase (atDeadline (s .params) (s .night) phase)
-unfolding atDeadline
+unfolding atDeadline litAt
 timer-spends s d Dark = writes-nothing s d Dark Dark refl refl (omega arith)
 timer-spends s d Lit = writes-nothing s d Lit Lit refl refl (omega arith)
-timer-spends s d (Starting timed x) = may-write s d (Starting timed x) _ (omega (arith, lit-shows (s .params) (timed || s .night) x))
+timer-spends s d (Starting timed x) =
+    cond-case (Spends s d (Starting timed x)) (timed || s .night) _ _
+    (λ is-timed. may-write s d (Starting timed x) (Timed (x + s .params .timedon)) (omega arith))
+    (λ steady. may-write s d (Starting timed x) Lit (omega arith))
 timer-spends s d (Timed x) =
     cond-zero (Spends s d (Timed x)) (s .params .prewarning) _ _
     (may-write s d (Timed x) Dark (omega arith))
@@ -91,6 +87,7 @@ meet-writes NoBus m i = omega arith
 meet-writes Locked m i = omega arith
 meet-writes Forced m i = omega arith
 
+-- two of the clock move, and one of the order
 pub an-input-writes-at-most-three : (s : State) (i : Input) (t : ℕ) → length (step s i t .records) ≤ 3
 unfolding step act
 an-input-writes-at-most-three s i t = omega (arith, meet-writes (barrier (clockMove s t .state) i) (clockMove s t) i, a-move-writes-at-most-two s t)

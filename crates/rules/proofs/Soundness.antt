@@ -16,7 +16,7 @@ use Rattle.rules.specs.declared.barrier.Barrier.{Barrier}
 use Rattle.rules.specs.declared.barrier.Barrier.the-variants.{Open, NoPower, NoBus, Locked, Forced}
 use Rattle.rules.specs.Time.{lastStamp}
 use Rattle.rules.specs.Parameters.{timeInRange, paramsInRange}
-use Rattle.rules.specs.Scenes.{learnt, entryInRange, scenesInRange}
+use Rattle.rules.specs.Scenes.{entryInRange, scenesInRange}
 use Rattle.rules.specs.Phases.{output, deadline}
 use Rattle.rules.specs.Orders.{order}
 use Rattle.rules.specs.Barriers.{barrier}
@@ -27,10 +27,11 @@ use Rattle.rules.specs.Calls.{leastParams, unused, noScenes, ownState}
 use Rattle.rules.proofs.Tests.{both}
 use Rattle.rules.proofs.Deadlines.{times-bounded, soon-within, within-soon, soon-due, due-is}
 use Rattle.rules.proofs.Phases.{timer-unheld}
-use Rattle.rules.proofs.Holding.{waiting-is-loose}
+use Rattle.rules.proofs.Holding.{Fits, fits-view, fits-consistent, waiting-is-loose, fits-unheld, unheld-fits}
 use Rattle.rules.proofs.Ticks.{Quiet, fired, tick-case, tick-keeps, three-are-enough}
 use Rattle.rules.proofs.Scenes.{learnt-in-range}
-use Rattle.rules.proofs.Orders.{sceneNumber, Kept, order-keeps, Fits, unheld-fits, fits-unheld, order-fits}
+use Rattle.rules.proofs.Fitting.{order-fits}
+use Rattle.rules.proofs.Orders.{sceneNumber, order-keeps}
 
 -- ---- the rules of a sound state by name
 
@@ -55,22 +56,24 @@ unfolding sound
 sound-whole s h = simp (h .params, h .scenes, le-leb (s .clock) lastStamp (h .clock), h .soon, h .consistent)
 
 fits : (s : State) → Sound s → Fits s
-fits s h = record { soon = h .soon; consistent = h .consistent }
+fits s h = fits-view s (h .soon) (h .consistent)
 
--- a deadline, also where there is none, is near
+-- a deadline lies at most 655,350 after the clock, and where there is none its number is 0
 pub due-near : (s : State) → sound s ≡ true → due (s .phase) ≤ s .clock + 655_350
 due-near s h = soon-due (s .clock) (s .phase) (sound-view s h .soon)
 
+-- the clock is at most 864,000
 pub due-bounded : (s : State) → sound s ≡ true → due (s .phase) ≤ 1_519_350
 due-bounded s h = omega (arith, due-near s h, sound-view s h .clock)
 
 -- ---- the start
 
+-- Dark with nothing standing asks for parameters and scenes in range alone
 pub fresh-is-sound : (p : Params) (k : List Scene) → paramsInRange p ≡ true → scenesInRange k ≡ true → sound (fresh p k) ≡ true
 unfolding fresh
 fresh-is-sound p k params scenes =
-    let f = unheld-fits (fresh p k) record { held = refl; powered = refl } tt in
-    sound-whole (fresh p k) record { params = params; scenes = scenes; clock = omega arith; soon = f .soon; consistent = f .consistent }
+    let f = unheld-fits (fresh p k) record { free = refl; powered = refl } tt in
+    sound-whole (fresh p k) record { params = params; scenes = scenes; clock = omega arith; soon = f .soon; consistent = fits-consistent _ f }
 
 pub own-state-is-sound : sound ownState ≡ true
 unfolding ownState leastParams noScenes unused paramsInRange timeInRange scenesInRange entryInRange
@@ -78,17 +81,19 @@ own-state-is-sound = fresh-is-sound leastParams noScenes refl refl
 
 -- ---- a timer
 
+-- a phase with a deadline is one that nothing holds, and its timer leads to another that may stand so
 fired-is-sound : (s : State) (t d : ℕ) → t ≤ lastStamp → Sound s → deadline (s .phase) ≡ At d → d ≤ t → Sound (fired s d)
 fired-is-sound s t d end h e past =
-    let l = waiting-is-loose (s .night) (s .lock) (s .force) (s .link) (s .phase) d e (h .consistent) in
-    let f = unheld-fits (fired s d) l (rw (due-is (s .phase) d e) at (timer-unheld (s .params) (s .night) (s .clock) (s .phase) (times-bounded (s .params) (h .params)) (fits-unheld s l (fits s h)))) in
-    record { params = h .params; scenes = h .scenes; clock = omega arith; soon = f .soon; consistent = f .consistent }
+    let l = waiting-is-loose s d e (fits s h) in
+    let f = unheld-fits (fired s d) l (rw (due-is (s .phase) d e) at (timer-unheld (s .params) (times-bounded (s .params) (h .params)) (s .night) (s .clock) (s .phase) (fits-unheld s l (fits s h)))) in
+    record { params = h .params; scenes = h .scenes; clock = omega arith; soon = f .soon; consistent = fits-consistent _ f }
 
 pub tick-is-sound : (s : State) (t : ℕ) → sound s ≡ true → t ≤ 864_000 → sound (tick s t) ≡ true
 tick-is-sound s t h end =
     let view = sound-view s h in
     sound-whole (tick s t) (tick-case Sound s t (λ d e past. fired-is-sound s t d end view e past) (λ quiet. view))
 
+-- no timer runs after t
 pub tick-clock : (s : State) (t : ℕ) → s .clock ≤ t → tick s t .clock ≤ t
 tick-clock s t h = tick-case (λ (u : State). u .clock ≤ t) s t (λ d e past. past) (λ quiet. h)
 
@@ -100,6 +105,7 @@ unfolding soon
 soon-later clock t Never later quiet h = refl
 soon-later clock t (At d) later quiet h = within-soon t d (omega (arith, soon-within clock d h))
 
+-- the timers keep the state sound, and leave no deadline at or before t
 pub move-is-sound : (s : State) (t : ℕ) → sound s ≡ true → s .clock ≤ t → t ≤ 864_000 → sound (clockMove s t .state) ≡ true
 unfolding clockMove ticked
 move-is-sound s t h later end =
@@ -138,6 +144,7 @@ move-scenes s t = ap (λ u. u .scenes) (move-keeps s t)
 
 -- ---- an order and a step
 
+-- an order keeps clock and parameters, teaches a used entry at most, and sets a phase that fits
 pub order-is-sound : (s : State) (i : Input) → sceneNumber i ≤ 63 → sound s ≡ true → barrier s i ≡ Open → sound (order s i) ≡ true
 order-is-sound s i small h way =
     let view = sound-view s h in
@@ -149,7 +156,7 @@ order-is-sound s i small h way =
       scenes = ⊎-elim (λ e. rw e (view .scenes)) (λ e. ap scenesInRange e ∙ (learnt-in-range (s .scenes) (sceneNumber i) (output (s .phase)) small ∙ view .scenes)) (k .scenes);
       clock = rw (k .clock) (view .clock);
       soon = f .soon;
-      consistent = f .consistent;
+      consistent = fits-consistent _ f;
     }
 
 meet-is-sound : (x : Barrier) (m : Moved) (i : Input) → sceneNumber i ≤ 63 → sound (m .state) ≡ true → barrier (m .state) i ≡ x → sound (meet x m i .state) ≡ true
@@ -160,6 +167,7 @@ meet-is-sound NoBus m i small h way = h
 meet-is-sound Locked m i small h way = h
 meet-is-sound Forced m i small h way = h
 
+-- a stopped input changes nothing after the clock move, any other is an order
 pub step-is-sound : (s : State) (i : Input) (t : ℕ) → sceneNumber i ≤ 63 → sound s ≡ true → s .clock ≤ t → t ≤ 864_000 → sound (step s i t .state) ≡ true
 unfolding step act
 step-is-sound s i t small h later end = meet-is-sound _ (clockMove s t) i small (move-is-sound s t h later end) refl

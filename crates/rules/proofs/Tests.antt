@@ -14,9 +14,9 @@ pub both : (a b : Bool) → (a && b) ≡ true → (a ≡ true) × (b ≡ true)
 both true b h = (refl, h)
 both false b h = no h
 
-pub neither : (a b : Bool) → (a || b) ≡ false → a ≡ false
-neither true b h = h
-neither false b h = refl
+pub neither-left : (a b : Bool) → (a || b) ≡ false → a ≡ false
+neither-left true b h = h
+neither-left false b h = refl
 
 -- what holds of either branch, under what its test says, holds of the choice
 pub cond-case : {A : Type 0} (P : A → Type 0) (b : Bool) (x y : A) → (b ≡ true → P x) → (b ≡ false → P y) → P (cond b x y)

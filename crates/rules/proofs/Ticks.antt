@@ -1,6 +1,6 @@
 -- One timer: it runs at its own moment or not at all, and three of them leave nothing due.
 use Prim.Native.Nat.{ℕ, suc, _-_, _≤_, _<_}
-use mathlib.Core.Bool.{Bool}
+use mathlib.Core.Bool.{Bool, _||_}
 use mathlib.Core.Logic.{_⊎_, inl, inr}
 use mathlib.Core.Path.{_≡_, refl}
 use native.Mathlib.Omega.{arith}
@@ -50,16 +50,12 @@ rank (Timed d) = 2
 rank (Warning d) = 1
 rank (Ending d) = 1
 
-lit-rank : (p : Params) (timed : Bool) (t : ℕ) → rank (litAt p timed t) ≤ 2
-unfolding litAt
-lit-rank p timed t = cond-case (λ (x : Phase). rank x ≤ 2) timed _ _ (λ e. omega arith) (λ e. omega arith)
-
 -- each timer that runs leaves one less
 timer-rank : (p : Params) (night : Bool) (phase : Phase) → rank (atDeadline p night phase) ≤ rank phase - 1
-unfolding atDeadline
+unfolding atDeadline litAt
 timer-rank p night Dark = omega arith
 timer-rank p night Lit = omega arith
-timer-rank p night (Starting timed d) = lit-rank p _ d
+timer-rank p night (Starting timed d) = cond-case (λ (x : Phase). rank x ≤ 2) (timed || night) _ _ (λ e. omega arith) (λ e. omega arith)
 timer-rank p night (Timed d) = cond-zero (λ (x : Phase). rank x ≤ 1) (p .prewarning) _ _ (omega arith) (λ some. omega arith)
 timer-rank p night (Warning d) = omega arith
 timer-rank p night (Ending d) = omega arith
@@ -68,6 +64,7 @@ timer-rank p night (Ending d) = omega arith
 abbrev Left : ℕ → ℕ → Phase → Type 0
 Left n t phase = Quiet t (deadline phase) ⊎ (rank phase ≤ n)
 
+-- a tick runs one of them, or nothing is due any more
 tick-left : (s : State) (n t : ℕ) → Left (suc n) t (s .phase) → Left n t (tick s t .phase)
 tick-left s n t (inl q) = rw (tick-rests s t q) (inl q)
 tick-left s n t (inr few) = tick-case (λ (u : State). Left n t (u .phase)) s t (λ d e past. inr (omega (arith, timer-rank (s .params) (s .night) (s .phase)))) inl
@@ -89,6 +86,7 @@ most-left t (Timed d) = inr (omega arith)
 most-left t (Warning d) = inr (omega arith)
 most-left t (Ending d) = inr (omega arith)
 
+-- a phase has at most three timers to run, and each tick leaves one less
 pub three-are-enough : (s : State) (t : ℕ) → Quiet t (deadline (tick (tick (tick s t) t) t .phase))
 three-are-enough s t =
     let a = tick s t in

@@ -2,7 +2,7 @@
 use Prim.Native.Nat.{ℕ, _≤_}
 use mathlib.Core.Bool.{true}
 use mathlib.Core.List.{List, [], _++_, append-nil, append-assoc}
-use mathlib.Core.Path.{_≡_, refl, sym, ap}
+use mathlib.Core.Path.{_≡_, refl, sym}
 use native.Mathlib.Omega.{arith}
 use borrow.Author.Tests.{le-leb, eq-eqb}
 use Rattle.rules.specs.declared.phase.Deadline.{Deadline}
@@ -11,7 +11,7 @@ use Rattle.rules.specs.declared.state.State.{State}
 use Rattle.rules.specs.declared.record.Record.{Record}
 use Rattle.rules.specs.Phases.{deadline, atDeadline}
 use Rattle.rules.specs.Status.{value, attributes, sameStatus, written, byItself}
-use Rattle.rules.specs.Steps.{atMoment, tickAt, tick, Moved, ticked, clockMove}
+use Rattle.rules.specs.Steps.{atMoment, tickAt, tick, ticked, clockMove}
 use Rattle.rules.specs.Soundness.{soon, sound}
 use Rattle.rules.proofs.Deadlines.{soon-within}
 use Rattle.rules.proofs.Ticks.{Quiet, fired, tick-case, tick-rests, three-are-enough}
@@ -19,10 +19,12 @@ use Rattle.rules.proofs.Soundness.{sound-view}
 
 -- ---- one timer
 
+-- a due timer takes the state to its own moment and the phase to the next, and changes nothing else
 pub each-timer-at-its-own-moment : (s : State) (t d : ℕ) → deadline (s .phase) ≡ At d → d ≤ t → tick s t ≡ atMoment s d (atDeadline (s .params) (s .night) (s .phase))
 unfolding tick tickAt
 each-timer-at-its-own-moment s t d e past = rw (e, le-leb d t past)
 
+-- three timers are always enough
 pub nothing-due-after-a-move : (s : State) (t : ℕ) → tick (clockMove s t .state) t ≡ clockMove s t .state
 unfolding clockMove ticked
 nothing-due-after-a-move s t = tick-rests (clockMove s t .state) t (three-are-enough s t)
@@ -34,7 +36,7 @@ pub data Moves (t : ℕ) : State → State → List Record → Type 0 where
   rest : {s : State} → Quiet t (deadline (s .phase)) → Moves t s (atMoment s t (s .phase)) []
   fire : {s u : State} {l : List Record} (d : ℕ) → deadline (s .phase) ≡ At d → d ≤ t → Moves t (fired s d) u l → Moves t s u (written byItself s (fired s d) ++ l)
 
--- no two moves to one moment differ
+-- no two ways lead to one moment: at each state a timer is due or not, at one moment
 moves-once : {t : ℕ} {s a b : State} {l m : List Record} → Moves t s a l → Moves t s b m → (a ≡ b) × (l ≡ m)
 moves-once (rest q) (rest r) = (refl, refl)
 moves-once (rest q) (fire d e past y) = absurd (omega (arith, rw e at q))
@@ -44,20 +46,23 @@ moves-once {s} (fire d e past x) (fire f g other y) =
     let r = moves-once x (rw same at y) in
     (r .0, rw (same, r .1))
 
+-- only a change of value or attributes is recorded
 pub alike-writes-nothing : (cause : ℕ) (before after : State) → value before ≡ value after → attributes before ≡ attributes after → written cause before after ≡ []
 unfolding written sameStatus
 alike-writes-nothing cause before after v a = simp (eq-eqb (value before) (value after) v, eq-eqb (attributes before) (attributes after) a)
 
+-- a tick is the first step of a move, or none
 tick-moves : (t : ℕ) (s u : State) (l : List Record) → Moves t (tick s t) u l → Moves t s u (written byItself s (tick s t) ++ l)
 tick-moves t s u l =
     tick-case (λ (a : State). Moves t a u l → Moves t s u (written byItself s a ++ l)) s t fire
     (λ quiet m. rw (alike-writes-nothing byItself s s refl refl) m)
 
--- a clock move is one: after three timers nothing is due
+-- a clock move is such a move, since three ticks leave nothing due
 pub clock-moves : (s : State) (t : ℕ) → Moves t s (clockMove s t .state) (clockMove s t .records)
 unfolding clockMove ticked
 clock-moves s t = rw append-nil at (tick-moves t s _ _ (tick-moves t _ _ _ (tick-moves t _ _ _ (rest (three-are-enough s t)))))
 
+-- and there is no other
 the-clock-move : {t : ℕ} {s u : State} {l : List Record} → Moves t s u l → clockMove s t ≡ record { state = u; records = l }
 the-clock-move {t} {s} m = let r = moves-once (clock-moves s t) m in rw (← (r .0), ← (r .1))
 
@@ -65,6 +70,7 @@ the-clock-move {t} {s} m = let r = moves-once (clock-moves s t) m in rw (← (r 
 pub no-timer-due-no-move : (s : State) (t : ℕ) → Quiet t (deadline (s .phase)) → clockMove s t ≡ record { state = atMoment s t (s .phase); records = [] }
 no-timer-due-no-move s t q = the-clock-move (rest q)
 
+-- the first move has left nothing due
 pub a-second-move-changes-nothing : (s : State) (t : ℕ) → clockMove (clockMove s t .state) t ≡ record { state = clockMove s t .state; records = [] }
 unfolding clockMove ticked
 a-second-move-changes-nothing s t = no-timer-due-no-move (clockMove s t .state) t (three-are-enough s t)
@@ -74,6 +80,7 @@ soon-quiet : (t : ℕ) (x : Deadline) → soon t x ≡ true → Quiet t x
 soon-quiet t Never h = tt
 soon-quiet t (At d) h = soon-within t d h .after
 
+-- a sound state has no timer due at its clock
 pub quiet-move : (s : State) → sound s ≡ true → clockMove s (s .clock) ≡ record { state = s; records = [] }
 quiet-move s h = no-timer-due-no-move s (s .clock) (soon-quiet (s .clock) (deadline (s .phase)) (sound-view s h .soon))
 
@@ -85,6 +92,7 @@ unfolding written sameStatus value attributes
 moves-from-earlier t u s b m (rest r) = rest r
 moves-from-earlier t u s b m (fire d e past x) = fire d e past x
 
+-- the timers due up to t, then those due up to u
 moves-join : {t u : ℕ} {s a b : State} {l m : List Record} → t ≤ u → Moves t s a l → Moves u a b m → Moves u s b (l ++ m)
 moves-join later (rest q) y = moves-from-earlier _ _ _ _ _ y
 moves-join later (fire d e past x) y = rw append-assoc (fire d e (omega arith) (moves-join later x y))
