@@ -1,0 +1,214 @@
+-- The answer octet tells exactly whether an input that is taken changed anything but the clock.
+use Prim.Native.Nat.{ℕ}
+use mathlib.Core.Bool.{Bool, true, false, true≢false, cond, _&&_, _||_, Bool·beq}
+use mathlib.Core.Path.{_≡_, refl, sym, ap, _∙_}
+use mathlib.Core.Logic.{_↔_, Iff·trans, eq-comm}
+use mathlib.Core.List.{List, [], _∷_}
+use native.Mathlib.Omega.{arith}
+use lib.Dec.{eqb}
+use borrow.Author.Tests.{eqb-true, eq-eqb}
+use Rattle.rules.specs.declared.parameters.Scene.{Scene}
+use Rattle.rules.specs.declared.parameters.Recalled.{Recalled}
+use Rattle.rules.specs.declared.parameters.Recalled.the-variants.{Nothing, Output}
+use Rattle.rules.specs.declared.phase.Phase.{Phase}
+use Rattle.rules.specs.declared.phase.Phase.the-variants.{Dark, Lit, Starting, Timed, Warning, Ending}
+use Rattle.rules.specs.declared.input.Force.{Force}
+use Rattle.rules.specs.declared.input.Force.the-variants.{Free, Off, On}
+use Rattle.rules.specs.declared.input.Event.{Event}
+use Rattle.rules.specs.declared.input.Event.the-variants.{Failure, Return}
+use Rattle.rules.specs.declared.input.Input.{Input}
+use Rattle.rules.specs.declared.input.Input.the-variants.{SwitchOnOff, TimedStartStop, SceneControl, SwitchOnOffForced, LockDevice, NightMode, Bus, Power}
+use Rattle.rules.specs.declared.state.Link.{Link}
+use Rattle.rules.specs.declared.state.Link.the-variants.{Up, BusDown, PowerDown}
+use Rattle.rules.specs.declared.state.State.{State}
+use Rattle.rules.specs.Scenes.{learnt}
+use Rattle.rules.specs.Phases.{output}
+use Rattle.rules.specs.Orders.{nightFalls, withPhase, withNight, withForce, withScenes, standing, held, settle, switch, timed, recall, learn, scene, forced, locked, unlocked, lockDevice, nightMode, busMode, bus, powerFails, powerReturns, power, order}
+use Rattle.rules.specs.declared.barrier.Barrier.the-variants.{Open}
+use Rattle.rules.specs.Barriers.{barrier}
+use Rattle.rules.specs.Answers.{answer, phaseNumber, due, forceNumber, linkNumber, samePhase, sameScene, sameScenes, sameFlags, sameButClock}
+use Rattle.rules.specs.Steps.{Moved, taken, meet, act}
+use Rattle.rules.proofs.Bools.{and-left, and-right, beq-true, beq-same, either-way}
+
+-- a phase, a force and a link can be read back from their numbers, so equal numbers mean equal things
+
+phaseOf : ℕ → ℕ → Phase
+phaseOf n d =
+    cond (eqb n 0) Dark
+    (cond (eqb n 1) Lit
+    (cond (eqb n 2) (Starting false d)
+    (cond (eqb n 3) (Starting true d)
+    (cond (eqb n 4) (Timed d)
+    (cond (eqb n 5) (Warning d) (Ending d))))))
+
+phase-back : (p : Phase) → phaseOf (phaseNumber p) (due p) ≡ p
+unfolding phaseOf
+phase-back Dark = refl
+phase-back Lit = refl
+phase-back (Starting true d) = refl
+phase-back (Starting false d) = refl
+phase-back (Timed d) = refl
+phase-back (Warning d) = refl
+phase-back (Ending d) = refl
+
+forceOf : ℕ → Force
+forceOf n = cond (eqb n 0) Free (cond (eqb n 1) Off On)
+
+force-back : (f : Force) → forceOf (forceNumber f) ≡ f
+unfolding forceOf
+force-back Free = refl
+force-back Off = refl
+force-back On = refl
+
+linkOf : ℕ → Link
+linkOf n = cond (eqb n 0) Up (cond (eqb n 1) BusDown PowerDown)
+
+link-back : (l : Link) → linkOf (linkNumber l) ≡ l
+unfolding linkOf
+link-back Up = refl
+link-back BusDown = refl
+link-back PowerDown = refl
+
+-- a test that passes means equality
+
+force-equal : (a b : Force) → forceNumber a ≡ forceNumber b → a ≡ b
+force-equal a b h = cc (force-back a, force-back b)
+
+link-equal : (a b : Link) → linkNumber a ≡ linkNumber b → a ≡ b
+link-equal a b h = cc (link-back a, link-back b)
+
+phase-equal : (a b : Phase) → samePhase a b ≡ true → a ≡ b
+unfolding samePhase
+phase-equal a b h =
+    let n : phaseNumber a ≡ phaseNumber b = eqb-true _ _ (search and-left) in
+    let d : due a ≡ due b = eqb-true _ _ (search (and-left, and-right)) in
+    cc (phase-back a, phase-back b)
+
+scenes-equal : (a b : List Scene) → sameScenes a b ≡ true → a ≡ b
+unfolding sameScenes sameScene
+scenes-equal [] [] h = refl
+scenes-equal [] (y ∷ ys) h = cc
+scenes-equal (x ∷ xs) [] h = cc
+scenes-equal (x ∷ xs) (y ∷ ys) h =
+    let n : x .number ≡ y .number = eqb-true _ _ (search (and-left, and-right)) in
+    let v : x .value ≡ y .value = beq-true _ _ (search (and-left, and-right)) in
+    let t : x .taught ≡ y .taught = beq-true _ _ (search (and-left, and-right)) in
+    let rest : xs ≡ ys = scenes-equal xs ys (search (and-left, and-right)) in
+    rw (n, v, t, rest) refl
+
+states-equal : (a b : State) → a .clock ≡ b .clock → a .params ≡ b .params → sameButClock a b ≡ true → a ≡ b
+unfolding sameButClock sameFlags
+states-equal a b clock params h =
+    let phase : a .phase ≡ b .phase = phase-equal _ _ (search (and-left, and-right) depth 9) in
+    let scenes : a .scenes ≡ b .scenes = scenes-equal _ _ (search (and-left, and-right) depth 9) in
+    let night : a .night ≡ b .night = beq-true _ _ (search (and-left, and-right) depth 9) in
+    let lock : a .lock ≡ b .lock = beq-true _ _ (search (and-left, and-right) depth 9) in
+    let force : a .force ≡ b .force = force-equal _ _ (eqb-true _ _ (search (and-left, and-right) depth 9)) in
+    let link : a .link ≡ b .link = link-equal _ _ (eqb-true _ _ (search (and-left, and-right) depth 9)) in
+    let atlocking : a .atlocking ≡ b .atlocking = beq-true _ _ (search (and-left, and-right) depth 9) in
+    let atfailure : a .atfailure ≡ b .atfailure = beq-true _ _ (search (and-left, and-right) depth 9) in
+    rw (clock, params, phase, scenes, night, lock, force, link, atlocking, atfailure) refl
+
+-- a test passes at equal things
+
+eqb-same : (n : ℕ) → eqb n n ≡ true
+eqb-same n = eq-eqb n n refl
+
+scenes-same : (l : List Scene) → sameScenes l l ≡ true
+unfolding sameScenes sameScene
+scenes-same [] = refl
+scenes-same (x ∷ xs) = simp (eqb-same, beq-same, scenes-same xs)
+
+state-same : (s : State) → sameButClock s s ≡ true
+unfolding sameButClock sameFlags samePhase
+state-same s = simp (eqb-same, beq-same, scenes-same)
+
+-- `sameButClock` is equality of all but the clock and the parameters
+pub same-but-clock-is-exact : (a b : State) → a .clock ≡ b .clock → a .params ≡ b .params → (sameButClock a b ≡ true) ↔ (a ≡ b)
+same-but-clock-is-exact a b c p = (states-equal a b c p, λ e. rw e (state-same b))
+
+-- ---- an order leaves the clock and the parameters alone
+
+Keeps : State → State → Type 0
+Keeps s after = (after .clock ≡ s .clock) × (after .params ≡ s .params)
+
+settle-keeps : (s : State) (value : Bool) → Keeps s (settle s value)
+unfolding settle Keeps
+settle-keeps s true = (refl, refl)
+settle-keeps s false = (refl, refl)
+
+switch-keeps : (s : State) (value : Bool) → Keeps s (switch s value)
+unfolding switch Keeps
+switch-keeps s true = (refl, refl)
+switch-keeps s false = (refl, refl)
+
+recall-keeps : (s : State) (r : Recalled) → Keeps s (recall s r)
+unfolding recall Keeps
+recall-keeps s Nothing = (refl, refl)
+recall-keeps s (Output value) = switch-keeps s value
+
+unlocked-keeps : (s : State) (force : Force) → Keeps s (unlocked s force)
+unfolding unlocked Keeps
+unlocked-keeps s Off = (refl, refl)
+unlocked-keeps s On = (refl, refl)
+unlocked-keeps s Free = settle-keeps _ _
+
+bus-mode-keeps : (s : State) (mode : ℕ) → Keeps s (busMode s mode)
+unfolding busMode Keeps
+bus-mode-keeps s mode = either-way (Keeps s) (held s || eqb mode 0) s (settle s (eqb mode 2)) (refl, refl) (settle-keeps s _)
+
+bus-keeps : (s : State) (link : Link) (event : Event) → Keeps s (bus s link event)
+unfolding bus Keeps
+bus-keeps s Up Failure = bus-mode-keeps _ _
+bus-keeps s Up Return = (refl, refl)
+bus-keeps s BusDown Failure = (refl, refl)
+bus-keeps s BusDown Return = bus-mode-keeps _ _
+bus-keeps s PowerDown event = (refl, refl)
+
+power-keeps : (s : State) (link : Link) (event : Event) → Keeps s (power s link event)
+unfolding power powerFails powerReturns Keeps
+power-keeps s Up Failure = (refl, refl)
+power-keeps s Up Return = (refl, refl)
+power-keeps s BusDown Failure = (refl, refl)
+power-keeps s BusDown Return = (refl, refl)
+power-keeps s PowerDown Failure = (refl, refl)
+power-keeps s PowerDown Return = settle-keeps _ _
+
+pub order-keeps-clock-and-params : (s : State) (i : Input) → (order s i .clock ≡ s .clock) × (order s i .params ≡ s .params)
+unfolding order timed scene learn forced lockDevice locked nightMode Keeps
+order-keeps-clock-and-params s (SwitchOnOff value) = switch-keeps s value
+order-keeps-clock-and-params s (TimedStartStop true) = (refl, refl)
+order-keeps-clock-and-params s (TimedStartStop false) = (refl, refl)
+order-keeps-clock-and-params s (SceneControl true number) =
+    either-way (Keeps s) (s .params .learning) (withScenes s (learnt (s .scenes) number (output (s .phase)))) s (refl, refl) (refl, refl)
+order-keeps-clock-and-params s (SceneControl false number) = recall-keeps s _
+order-keeps-clock-and-params s (SwitchOnOffForced Off) = (refl, refl)
+order-keeps-clock-and-params s (SwitchOnOffForced On) = (refl, refl)
+order-keeps-clock-and-params s (SwitchOnOffForced Free) =
+    either-way (Keeps s) (standing (s .force)) (settle (withForce s Free) (output (s .phase))) s (settle-keeps _ _) (refl, refl)
+order-keeps-clock-and-params s (LockDevice true) = either-way (Keeps s) (s .lock) s (locked s) (refl, refl) (refl, refl)
+order-keeps-clock-and-params s (LockDevice false) = either-way (Keeps s) (s .lock) (unlocked s (s .force)) s (unlocked-keeps s _) (refl, refl)
+order-keeps-clock-and-params s (NightMode true) =
+    either-way (Keeps s) (s .night) s (withPhase (withNight s true) (nightFalls (s .params) (s .clock) (s .phase))) (refl, refl) (refl, refl)
+order-keeps-clock-and-params s (NightMode false) = (refl, refl)
+order-keeps-clock-and-params s (Bus event) = bus-keeps s _ event
+order-keeps-clock-and-params s (Power event) = power-keeps s _ event
+
+-- ---- the answer of an input that is taken: 1 exactly when it changed nothing, 0 exactly when it changed something
+
+one-or-zero : {Same : Type 0} (b : Bool) → (b ≡ true) ↔ Same → ((answer Open b ≡ 1) ↔ Same) × ((answer Open b ≡ 0) ↔ (Same → ⊥))
+one-or-zero true e = ((λ _. e .0 refl, λ _. refl), (λ h _. omega arith, λ no. absurd (no (e .0 refl))))
+one-or-zero false e = ((λ h. absurd (omega arith), λ same. cc (e .1 same)), (λ _ same. true≢false (sym (e .1 same)), λ _. refl))
+
+-- the test behind the answer is exact, since an order keeps what the test leaves out
+pub answer-one-means-nothing-changed : (s : State) (i : Input) →
+    ((answer Open (sameButClock s (order s i)) ≡ 1) ↔ (order s i ≡ s)) × ((answer Open (sameButClock s (order s i)) ≡ 0) ↔ (order s i ≡ s → ⊥))
+answer-one-means-nothing-changed s i =
+    let kept = order-keeps-clock-and-params s i in
+    one-or-zero (sameButClock s (order s i)) (Iff·trans (same-but-clock-is-exact s (order s i) (sym (kept .0)) (sym (kept .1))) eq-comm)
+
+-- the same of the answer and the state that an input gives, after the due timers had run
+pub taken-is-answered-by-its-change : (m : Moved) (i : Input) → barrier (m .state) i ≡ Open →
+    ((act m i .answer ≡ 1) ↔ (act m i .state ≡ m .state)) × ((act m i .answer ≡ 0) ↔ (act m i .state ≡ m .state → ⊥))
+unfolding act meet taken
+taken-is-answered-by-its-change m i free = rw free (answer-one-means-nothing-changed (m .state) i)
