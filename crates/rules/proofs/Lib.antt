@@ -1,2 +1,4 @@
+-- The theorems about the rules, one topic to a file.
 pub mod Bools
 pub mod Answers
+pub mod Barriers
