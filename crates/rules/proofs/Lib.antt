@@ -2,3 +2,5 @@
 pub mod Bools
 pub mod Answers
 pub mod Barriers
+pub mod Plays
+pub mod Rank

@@ -1,0 +1,86 @@
+-- "They hold a cue back while the lock is set and play it afterwards. An outranked cue is dropped."
+-- A stopped input leaves what the clock move alone leaves, so that nothing of it can come back.
+use Prim.Native.Nat.{ℕ, _≤_}
+use mathlib.Core.Path.{_≡_, refl, sym, ap, _∙_, fun-ext}
+use mathlib.Core.List.{List, [], _∷_, _++_, append-assoc}
+use Rattle.rules.specs.declared.input.Input.{Input}
+use Rattle.rules.specs.declared.state.State.{State}
+use Rattle.rules.specs.declared.barrier.Barrier.{Barrier}
+use Rattle.rules.specs.declared.barrier.Barrier.the-variants.{Open, NoPower, NoBus, Locked, Forced}
+use Rattle.rules.specs.Barriers.{barrier}
+use Rattle.rules.specs.Steps.{Moved, meet, clockMove, act, step}
+use Rattle.rules.proofs.Plays.{Cue, cue, Played, andThen, moved, stepped, still, plays, playsTo, andThen-assoc, plays-to-append, acts-after-the-move}
+
+dropped : (b : Barrier) (m : Moved) (i : Input) → (b ≡ Open → ⊥) → (meet b m i .state ≡ m .state) × (meet b m i .records ≡ m .records)
+unfolding meet
+dropped Open m i stops = absurd (stops refl)
+dropped NoPower m i stops = (refl, refl)
+dropped NoBus m i stops = (refl, refl)
+dropped Locked m i stops = (refl, refl)
+dropped Forced m i stops = (refl, refl)
+
+pub dropped-leaves-no-trace : (s : State) (i : Input) (t : ℕ) → (barrier (clockMove s t .state) i ≡ Open → ⊥) →
+    (step s i t .state ≡ clockMove s t .state) × (step s i t .records ≡ clockMove s t .records)
+unfolding step act
+dropped-leaves-no-trace s i t stops = dropped _ (clockMove s t) i stops
+
+-- whatever is played later, it gives what it gives after the clock move alone
+pub nothing-of-it-comes-back : (s : State) (i : Input) (t : ℕ) (later : List Cue) → (barrier (clockMove s t .state) i ≡ Open → ⊥) →
+    plays later (step s i t .state) ≡ plays later (clockMove s t .state)
+nothing-of-it-comes-back s i t later stops = ap (plays later) (dropped-leaves-no-trace s i t stops .0)
+
+-- ---- struck from the list altogether
+
+-- what comes next, a cue or the end, is not before t
+abbrev pub NotBefore : ℕ → List Cue → ℕ → Type 0
+NotBefore t [] end = t ≤ end
+NotBefore t (cue u i ∷ later) end = t ≤ u
+
+-- to move the clock by way of t is to move it at once
+abbrev pub ByWayOf : ℕ → State → Type 0
+ByWayOf t s = (u : ℕ) → t ≤ u → andThen (moved (clockMove s t)) (λ x. moved (clockMove x u)) ≡ moved (clockMove s u)
+
+-- then a step by way of t is the step at once
+step-by-way-of : (s : State) (i : Input) (t u : ℕ) → ByWayOf t s → t ≤ u → andThen (moved (clockMove s t)) (λ x. stepped (step x i u)) ≡ stepped (step s i u)
+unfolding step
+step-by-way-of s i t u way h =
+    let acting : State → Played = λ x. stepped (act (still x) i) in
+    let later : State → Moved = λ x. clockMove x u in
+    ap (andThen (moved (clockMove s t))) (fun-ext (λ x. acts-after-the-move (later x) i))
+    ∙ sym (andThen-assoc (moved (clockMove s t)) (λ x. moved (later x)) acting)
+    ∙ ap (λ (a : Played). andThen a acting) (way u h)
+    ∙ sym (acts-after-the-move (later s) i)
+
+-- and so is whatever is played from then on
+plays-by-way-of : (t end : ℕ) (later : List Cue) (s : State) → ByWayOf t s → NotBefore t later end → andThen (moved (clockMove s t)) (playsTo end later) ≡ playsTo end later s
+unfolding playsTo plays
+plays-by-way-of t end [] s way h = way end h
+plays-by-way-of t end (cue u i ∷ later) s way h =
+    let rest : Played → Played = λ a. andThen (andThen a (plays later)) (λ x. moved (clockMove x end)) in
+    simp append-assoc (simp append-assoc at (ap rest (step-by-way-of s i t u way h)))
+
+-- an answer before all others
+abbrev answeredFirst : ℕ → Played → Played
+answeredFirst a p = record { state = p .state; answers = a ∷ p .answers; records = p .records }
+
+struck-at-the-front : (t end : ℕ) (i : Input) (later : List Cue) (s : State) → ByWayOf t s → NotBefore t later end → (barrier (clockMove s t .state) i ≡ Open → ⊥) →
+    playsTo end (cue t i ∷ later) s ≡ answeredFirst (step s i t .answer) (playsTo end later s)
+unfolding playsTo plays
+struck-at-the-front t end i later s way h stops =
+    let trace = dropped-leaves-no-trace s i t stops in
+    rw (trace .0, trace .1) (simp append-assoc (ap (answeredFirst (step s i t .answer)) (plays-by-way-of t end later s way h)))
+
+-- A cue that is dropped, in the middle of a list that is played to its end, may be struck from the list: the end state, the
+-- records and the other answers stay.
+pub struck-leaves-no-trace : (s : State) (before : List Cue) (t : ℕ) (i : Input) (later : List Cue) (end : ℕ) →
+    ByWayOf t (plays before s .state) →
+    NotBefore t later end →
+    (barrier (clockMove (plays before s .state) t .state) i ≡ Open → ⊥) →
+    (playsTo end (before ++ (cue t i ∷ later)) s .state ≡ playsTo end (before ++ later) s .state) ×
+    (playsTo end (before ++ (cue t i ∷ later)) s .records ≡ playsTo end (before ++ later) s .records) ×
+    (playsTo end (before ++ (cue t i ∷ later)) s .answers ≡
+    plays before s .answers ++ (step (plays before s .state) i t .answer ∷ playsTo end later (plays before s .state) .answers)) ×
+    (playsTo end (before ++ later) s .answers ≡ plays before s .answers ++ playsTo end later (plays before s .state) .answers)
+struck-leaves-no-trace s before t i later end way h stops =
+    rw (plays-to-append end before (cue t i ∷ later) s, plays-to-append end before later s, struck-at-the-front t end i later (plays before s .state) way h stops)
+    (refl, refl, refl, refl)
