@@ -4,3 +4,4 @@ pub mod Answers
 pub mod Barriers
 pub mod Plays
 pub mod Rank
+pub mod Ties

@@ -1,0 +1,62 @@
+-- "Two cues at one stamp are not a set. They run in list order, and a timer due at that stamp runs before both."
+use Prim.Native.Nat.{ℕ, _≤_}
+use mathlib.Core.Bool.{true}
+use mathlib.Core.Path.{_≡_, refl, sym, ap, _∙_}
+use mathlib.Core.List.{List, [], _∷_}
+use native.Mathlib.Omega.{arith}
+use Rattle.rules.specs.declared.input.Input.{Input}
+use Rattle.rules.specs.declared.state.State.{State}
+use Rattle.rules.specs.declared.barrier.Barrier.{Barrier}
+use Rattle.rules.specs.declared.barrier.Barrier.the-variants.{Open, NoPower, NoBus, Locked, Forced}
+use Rattle.rules.specs.Time.{lastStamp}
+use Rattle.rules.specs.Barriers.{barrier}
+use Rattle.rules.specs.Steps.{taken, meet, ticked, clockMove, act, step}
+use Rattle.rules.specs.Soundness.{sound}
+use Rattle.rules.proofs.Answers.{order-keeps-clock-and-params}
+use Rattle.rules.proofs.Plays.{Cue, cue, Played, andThen, moved, stepped, still, plays, acts, andThen-assoc, acts-after-the-move}
+
+-- these inputs, all at the one stamp
+abbrev pub ties : ℕ → List Input → List Cue
+ties t [] = []
+ties t (i ∷ is) = cue t i ∷ ties t is
+
+-- an input acts at the moment to which the clock has moved
+step-ends-at : (s : State) (i : Input) (t : ℕ) → step s i t .state .clock ≡ t
+unfolding step act
+step-ends-at s i t = go (barrier (clockMove s t .state) i)
+  where
+    moved-clock : clockMove s t .state .clock ≡ t
+    moved-clock = unfold clockMove ticked in refl
+
+    go : (b : Barrier) → meet b (clockMove s t) i .state .clock ≡ t
+    go Open = unfold meet taken in order-keeps-clock-and-params (clockMove s t .state) i .0 ∙ moved-clock
+    go NoPower = unfold meet in moved-clock
+    go NoBus = unfold meet in moved-clock
+    go Locked = unfold meet in moved-clock
+    go Forced = unfold meet in moved-clock
+
+abbrev pub All : (Input → Type 0) → List Input → Type 0
+All InRange [] = Unit
+All InRange (i ∷ is) = InRange i × All InRange is
+
+module _
+    (InRange : Input → Type 0)
+    (quiet-move : (s : State) → sound s ≡ true → clockMove s (s .clock) ≡ still s)
+    (step-is-sound : (s : State) (i : Input) (t : ℕ) → sound s ≡ true → InRange i → s .clock ≤ t → t ≤ lastStamp → sound (step s i t .state) ≡ true) where
+  -- where the clock stands at t already, no timer is due before any of them
+  no-timer-between : (is : List Input) (s : State) (t : ℕ) → sound s ≡ true → s .clock ≡ t → t ≤ lastStamp → All InRange is → plays (ties t is) s ≡ acts is s
+  unfolding plays acts step
+  no-timer-between [] s t safe now h r = refl
+  no-timer-between (i ∷ is) s t safe now h r =
+      let quiet : clockMove s t ≡ still s = ap (clockMove s) (sym now) ∙ quiet-move s safe in
+      let rest = no-timer-between is (step s i t .state) t (step-is-sound s i t safe (r .0) (omega arith) h) (step-ends-at s i t) h (r .1) in
+      rw (rest, quiet) refl
+
+  -- the first of them brings the clock to t, by all timers due up to then; the others find it there
+  pub ties-run-in-list-order-after-the-timers : (s : State) (t : ℕ) (i : Input) (is : List Input) → sound s ≡ true → s .clock ≤ t → t ≤ lastStamp → All InRange (i ∷ is) →
+      plays (ties t (i ∷ is)) s ≡ andThen (moved (clockMove s t)) (acts (i ∷ is))
+  unfolding plays acts step
+  ties-run-in-list-order-after-the-timers s t i is safe later h r =
+      let rest = no-timer-between is (step s i t .state) t (step-is-sound s i t safe (r .0) later h) (step-ends-at s i t) h (r .1) in
+      rw rest
+      (ap (λ (a : Played). andThen a (acts is)) (acts-after-the-move (clockMove s t) i) ∙ andThen-assoc (moved (clockMove s t)) (λ x. stepped (act (still x) i)) (acts is))
