@@ -69,6 +69,10 @@ acts (i ∷ is) s = andThen (stepped (act (still s) i)) (acts is)
 pub andThen-assoc : (a : Played) (f g : State → Played) → andThen (andThen a f) g ≡ andThen a (λ x. andThen (f x) g)
 andThen-assoc a f g = simp append-assoc
 
+-- only what is played from the state reached counts
+pub andThen-from : (a : Played) (f g : State → Played) → f (a .state) ≡ g (a .state) → andThen a f ≡ andThen a g
+andThen-from a f g e = rw e refl
+
 pub plays-append : (before later : List Cue) (s : State) → plays (before ++ later) s ≡ andThen (plays before s) (plays later)
 unfolding plays
 plays-append [] later s = refl

@@ -1,7 +1,7 @@
 -- "They hold a cue back while the lock is set and play it afterwards. An outranked cue is dropped."
 -- A stopped input leaves what the clock move alone leaves, so that nothing of it can come back.
 use Prim.Native.Nat.{ℕ, _≤_}
-use mathlib.Core.Path.{_≡_, refl, sym, ap, _∙_, fun-ext}
+use mathlib.Core.Path.{_≡_, refl, sym, ap, _∙_}
 use mathlib.Core.List.{List, [], _∷_, _++_, append-assoc}
 use Rattle.rules.specs.declared.input.Input.{Input}
 use Rattle.rules.specs.declared.state.State.{State}
@@ -9,7 +9,7 @@ use Rattle.rules.specs.declared.barrier.Barrier.{Barrier}
 use Rattle.rules.specs.declared.barrier.Barrier.the-variants.{Open, NoPower, NoBus, Locked, Forced}
 use Rattle.rules.specs.Barriers.{barrier}
 use Rattle.rules.specs.Steps.{Moved, meet, clockMove, act, step}
-use Rattle.rules.proofs.Plays.{Cue, cue, Played, andThen, moved, stepped, still, plays, playsTo, andThen-assoc, plays-to-append, acts-after-the-move}
+use Rattle.rules.proofs.Plays.{Cue, cue, Played, andThen, moved, stepped, still, plays, playsTo, andThen-assoc, andThen-from, plays-to-append, acts-after-the-move}
 
 dropped : (b : Barrier) (m : Moved) (i : Input) → (b ≡ Open → ⊥) → (meet b m i .state ≡ m .state) × (meet b m i .records ≡ m .records)
 unfolding meet
@@ -44,12 +44,13 @@ ByWayOf t s = (u : ℕ) → t ≤ u → andThen (moved (clockMove s t)) (λ x. m
 step-by-way-of : (s : State) (i : Input) (t u : ℕ) → ByWayOf t s → t ≤ u → andThen (moved (clockMove s t)) (λ x. stepped (step x i u)) ≡ stepped (step s i u)
 unfolding step
 step-by-way-of s i t u way h =
+    let early : Played = moved (clockMove s t) in
+    let moving : State → Played = λ x. moved (clockMove x u) in
     let acting : State → Played = λ x. stepped (act (still x) i) in
-    let later : State → Moved = λ x. clockMove x u in
-    ap (andThen (moved (clockMove s t))) (fun-ext (λ x. acts-after-the-move (later x) i))
-    ∙ sym (andThen-assoc (moved (clockMove s t)) (λ x. moved (later x)) acting)
+    andThen-from early (λ x. stepped (step x i u)) (λ x. andThen (moving x) acting) (acts-after-the-move (clockMove (early .state) u) i)
+    ∙ sym (andThen-assoc early moving acting)
     ∙ ap (λ (a : Played). andThen a acting) (way u h)
-    ∙ sym (acts-after-the-move (later s) i)
+    ∙ sym (acts-after-the-move (clockMove s u) i)
 
 -- and so is whatever is played from then on
 plays-by-way-of : (t end : ℕ) (later : List Cue) (s : State) → ByWayOf t s → NotBefore t later end → andThen (moved (clockMove s t)) (playsTo end later) ≡ playsTo end later s
