@@ -6,7 +6,7 @@ use mathlib.Core.Logic.{_↔_, Iff·trans, eq-comm}
 use mathlib.Core.List.{List, [], _∷_}
 use native.Mathlib.Omega.{arith}
 use lib.Dec.{eqb}
-use borrow.Author.Tests.{eqb-true, eq-eqb}
+use borrow.Author.Tests.{eqb-true}
 use Rattle.rules.specs.declared.parameters.Scene.{Scene}
 use Rattle.rules.specs.declared.parameters.Recalled.{Recalled}
 use Rattle.rules.specs.declared.parameters.Recalled.the-variants.{Nothing, Output}
@@ -28,7 +28,7 @@ use Rattle.rules.specs.declared.barrier.Barrier.the-variants.{Open}
 use Rattle.rules.specs.Barriers.{barrier}
 use Rattle.rules.specs.Answers.{answer, phaseNumber, due, forceNumber, linkNumber, samePhase, sameScene, sameScenes, sameFlags, sameButClock}
 use Rattle.rules.specs.Steps.{Moved, taken, meet, act}
-use Rattle.rules.proofs.Bools.{and-left, and-right, beq-true, beq-same, either-way}
+use Rattle.rules.proofs.Bools.{and-left, and-right, beq-true, beq-same, eqb-same, either-way}
 
 -- a phase, a force and a link can be read back from their numbers, so equal numbers mean equal things
 
@@ -110,9 +110,6 @@ states-equal a b clock params h =
     rw (clock, params, phase, scenes, night, lock, force, link, atlocking, atfailure) refl
 
 -- a test passes at equal things
-
-eqb-same : (n : ℕ) → eqb n n ≡ true
-eqb-same n = eq-eqb n n refl
 
 scenes-same : (l : List Scene) → sameScenes l l ≡ true
 unfolding sameScenes sameScene

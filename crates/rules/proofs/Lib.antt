@@ -5,3 +5,4 @@ pub mod Barriers
 pub mod Plays
 pub mod Rank
 pub mod Ties
+pub mod Delays

@@ -2,27 +2,43 @@
 -- A stopped input leaves what the clock move alone leaves, so that nothing of it can come back.
 use Prim.Native.Nat.{ℕ, _≤_}
 use mathlib.Core.Path.{_≡_, refl, sym, ap, _∙_}
-use mathlib.Core.List.{List, [], _∷_, _++_, append-assoc}
+use mathlib.Core.List.{List, [], _∷_, _++_, append-assoc, append-nil}
 use Rattle.rules.specs.declared.input.Input.{Input}
 use Rattle.rules.specs.declared.state.State.{State}
 use Rattle.rules.specs.declared.barrier.Barrier.{Barrier}
 use Rattle.rules.specs.declared.barrier.Barrier.the-variants.{Open, NoPower, NoBus, Locked, Forced}
+use Rattle.rules.specs.Orders.{order}
 use Rattle.rules.specs.Barriers.{barrier}
-use Rattle.rules.specs.Steps.{Moved, meet, clockMove, act, step}
+use Rattle.rules.specs.Status.{sameStatus, written}
+use Rattle.rules.specs.Steps.{Moved, taken, meet, clockMove, act, step}
+use Rattle.rules.proofs.Bools.{eqb-same}
 use Rattle.rules.proofs.Plays.{Cue, cue, Played, andThen, moved, stepped, still, plays, playsTo, andThen-assoc, andThen-from, plays-to-append, acts-after-the-move}
 
-dropped : (b : Barrier) (m : Moved) (i : Input) → (b ≡ Open → ⊥) → (meet b m i .state ≡ m .state) × (meet b m i .records ≡ m .records)
-unfolding meet
-dropped Open m i stops = absurd (stops refl)
-dropped NoPower m i stops = (refl, refl)
-dropped NoBus m i stops = (refl, refl)
-dropped Locked m i stops = (refl, refl)
-dropped Forced m i stops = (refl, refl)
+-- an input leaves what the clock move alone leaves
+abbrev pub LeavesNoTrace : State → Input → ℕ → Type 0
+LeavesNoTrace s i t = (step s i t .state ≡ clockMove s t .state) × (step s i t .records ≡ clockMove s t .records)
+
+nothing-written : (cause : ℕ) (s : State) → written cause s s ≡ []
+unfolding written sameStatus
+nothing-written cause s = simp eqb-same
+
+-- so does every input that changes nothing if it is taken at all
+no-trace : (b : Barrier) (m : Moved) (i : Input) → (b ≡ Open → order (m .state) i ≡ m .state) → (meet b m i .state ≡ m .state) × (meet b m i .records ≡ m .records)
+unfolding meet taken
+no-trace Open m i same = rw (same refl) (refl, simp (nothing-written, append-nil))
+no-trace NoPower m i same = (refl, refl)
+no-trace NoBus m i same = (refl, refl)
+no-trace Locked m i same = (refl, refl)
+no-trace Forced m i same = (refl, refl)
+
+pub unchanged-leaves-no-trace : (s : State) (i : Input) (t : ℕ) →
+    (barrier (clockMove s t .state) i ≡ Open → order (clockMove s t .state) i ≡ clockMove s t .state) → LeavesNoTrace s i t
+unfolding step act
+unchanged-leaves-no-trace s i t same = no-trace _ (clockMove s t) i same
 
 pub dropped-leaves-no-trace : (s : State) (i : Input) (t : ℕ) → (barrier (clockMove s t .state) i ≡ Open → ⊥) →
     (step s i t .state ≡ clockMove s t .state) × (step s i t .records ≡ clockMove s t .records)
-unfolding step act
-dropped-leaves-no-trace s i t stops = dropped _ (clockMove s t) i stops
+dropped-leaves-no-trace s i t stops = unchanged-leaves-no-trace s i t (λ e. absurd (stops e))
 
 -- whatever is played later, it gives what it gives after the clock move alone
 pub nothing-of-it-comes-back : (s : State) (i : Input) (t : ℕ) (later : List Cue) → (barrier (clockMove s t .state) i ≡ Open → ⊥) →
@@ -64,24 +80,31 @@ plays-by-way-of t end (cue u i ∷ later) s way h =
 abbrev answeredFirst : ℕ → Played → Played
 answeredFirst a p = record { state = p .state; answers = a ∷ p .answers; records = p .records }
 
-struck-at-the-front : (t end : ℕ) (i : Input) (later : List Cue) (s : State) → ByWayOf t s → NotBefore t later end → (barrier (clockMove s t .state) i ≡ Open → ⊥) →
+struck-at-the-front : (t end : ℕ) (i : Input) (later : List Cue) (s : State) → ByWayOf t s → NotBefore t later end → LeavesNoTrace s i t →
     playsTo end (cue t i ∷ later) s ≡ answeredFirst (step s i t .answer) (playsTo end later s)
 unfolding playsTo plays
-struck-at-the-front t end i later s way h stops =
-    let trace = dropped-leaves-no-trace s i t stops in
+struck-at-the-front t end i later s way h trace =
     rw (trace .0, trace .1) (simp append-assoc (ap (answeredFirst (step s i t .answer)) (plays-by-way-of t end later s way h)))
 
--- A cue that is dropped, in the middle of a list that is played to its end, may be struck from the list: the end state, the
--- records and the other answers stay.
+-- the same, but for one answer between the early and the late ones
+pub record SameBut (early : List ℕ) (own : ℕ) (late : List ℕ) (full without : Played) : Type 0 where
+  pub state : full .state ≡ without .state
+  pub records : full .records ≡ without .records
+  pub answers : full .answers ≡ early ++ (own ∷ late)
+  pub other-answers : without .answers ≡ early ++ late
+
+-- a list that is played to its end gives the same without this cue, but for the cue's own answer
+abbrev pub MayBeStruck : State → List Cue → ℕ → Input → List Cue → ℕ → Type 0
+MayBeStruck s before t i later end =
+    let met : State = plays before s .state in
+    SameBut (plays before s .answers) (step met i t .answer) (playsTo end later met .answers) (playsTo end (before ++ (cue t i ∷ later)) s) (playsTo end (before ++ later) s)
+
+pub no-trace-may-be-struck : (s : State) (before : List Cue) (t : ℕ) (i : Input) (later : List Cue) (end : ℕ) →
+    ByWayOf t (plays before s .state) → NotBefore t later end → LeavesNoTrace (plays before s .state) i t → MayBeStruck s before t i later end
+no-trace-may-be-struck s before t i later end way h trace =
+    rw (plays-to-append end before (cue t i ∷ later) s, plays-to-append end before later s, struck-at-the-front t end i later (plays before s .state) way h trace)
+    (record { state = refl; records = refl; answers = refl; other-answers = refl })
+
 pub struck-leaves-no-trace : (s : State) (before : List Cue) (t : ℕ) (i : Input) (later : List Cue) (end : ℕ) →
-    ByWayOf t (plays before s .state) →
-    NotBefore t later end →
-    (barrier (clockMove (plays before s .state) t .state) i ≡ Open → ⊥) →
-    (playsTo end (before ++ (cue t i ∷ later)) s .state ≡ playsTo end (before ++ later) s .state) ×
-    (playsTo end (before ++ (cue t i ∷ later)) s .records ≡ playsTo end (before ++ later) s .records) ×
-    (playsTo end (before ++ (cue t i ∷ later)) s .answers ≡
-    plays before s .answers ++ (step (plays before s .state) i t .answer ∷ playsTo end later (plays before s .state) .answers)) ×
-    (playsTo end (before ++ later) s .answers ≡ plays before s .answers ++ playsTo end later (plays before s .state) .answers)
-struck-leaves-no-trace s before t i later end way h stops =
-    rw (plays-to-append end before (cue t i ∷ later) s, plays-to-append end before later s, struck-at-the-front t end i later (plays before s .state) way h stops)
-    (refl, refl, refl, refl)
+    ByWayOf t (plays before s .state) → NotBefore t later end → (barrier (clockMove (plays before s .state) t .state) i ≡ Open → ⊥) → MayBeStruck s before t i later end
+struck-leaves-no-trace s before t i later end way h stops = no-trace-may-be-struck s before t i later end way h (dropped-leaves-no-trace _ i t stops)
