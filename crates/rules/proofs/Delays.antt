@@ -6,6 +6,7 @@ use mathlib.Core.Path.{_≡_, refl, sym, ap, _∙_}
 use mathlib.Core.List.{List, [], _∷_}
 use native.Mathlib.Omega.{arith}
 use lib.Dec.{eqb, leb}
+use borrow.Author.Tests.{le-leb}
 use Rattle.rules.specs.declared.parameters.Params.{Params}
 use Rattle.rules.specs.declared.phase.Phase.{Phase}
 use Rattle.rules.specs.declared.phase.Phase.the-variants.{Dark, Lit, Starting, Timed, Warning, Ending}
@@ -32,6 +33,18 @@ DarkBy p m (Starting timed d) = ⊥
 DarkBy p m (Timed d) = d + p .prewarning ≤ m
 DarkBy p m (Warning d) = d ≤ m
 DarkBy p m (Ending d) = d ≤ m
+
+-- the timers bear that out
+by-the-timers : (s : State) (c m : ℕ) (phase : Phase) (none : Bool) → eqb (s .params .prewarning) 0 ≡ none → DarkBy (s .params) m phase → clockMove (atMoment s c phase) m .state .phase ≡ Dark
+unfolding clockMove ticked tick tickAt atDeadline
+by-the-timers s c m Dark none e h = refl
+by-the-timers s c m (Timed d) true e h = simp (le-leb d m (omega arith), e)
+by-the-timers s c m (Timed d) false e h = simp (le-leb d m (omega arith), e, le-leb (d + s .params .prewarning) m h)
+by-the-timers s c m (Warning d) none e h = rw (le-leb d m h)
+by-the-timers s c m (Ending d) none e h = rw (le-leb d m h)
+
+pub dark-by-the-timers : (s : State) (m : ℕ) → DarkBy (s .params) m (s .phase) → clockMove s m .state .phase ≡ Dark
+dark-by-the-timers s m h = by-the-timers s (s .clock) m (s .phase) (eqb (s .params .prewarning) 0) refl h
 
 after-delay-is-never-later : (p : Params) (t m : ℕ) (phase : Phase) → DarkBy p m phase → DarkBy p m (offAfterDelay p t phase)
 unfolding offAfterDelay
@@ -97,6 +110,16 @@ pub repeated-on-keeps-its-deadline : (p : Params) (night held timed : Bool) (t d
     (on p night held t (Starting timed d) ≡ Starting false d) × (timedStart p t (Starting timed d) ≡ Starting true d)
 unfolding on timedStart
 repeated-on-keeps-its-deadline p night held timed t d = (refl, refl)
+
+-- so an On leaves no trace in a state that waits for steady light
+waiting-is-kept : (p : Params) (night held : Bool) (t d : ℕ) (phase : Phase) → phase ≡ Starting false d → on p night held t phase ≡ phase
+unfolding on
+waiting-is-kept p night held t d phase e = rw e refl
+
+pub repeated-on-leaves-no-trace : (s : State) (u d : ℕ) → clockMove s u .state .phase ≡ Starting false d → LeavesNoTrace s (SwitchOnOff true) u
+unfolding order switch
+repeated-on-leaves-no-trace s u d e =
+    unchanged-leaves-no-trace s (SwitchOnOff true) u (λ _. ap (withPhase (clockMove s u .state)) (waiting-is-kept _ _ _ _ d _ e))
 
 -- ---- Off, of a state
 
