@@ -6,3 +6,4 @@ pub mod Plays
 pub mod Rank
 pub mod Ties
 pub mod Delays
+pub mod Worked
