@@ -1,9 +1,7 @@
 -- The table of barriers says what 01 says in words, and the answer names the first barrier that stands.
-use Prim.Native.Nat.{ℕ}
 use mathlib.Core.Bool.{Bool, true, false, cond, not, _&&_, _||_}
 use mathlib.Core.Path.{_≡_, refl, subst}
 use mathlib.Core.Logic.{_↔_}
-use mathlib.Core.List.{List, [], _∷_}
 use lib.ListN.{length}
 use lib.Dec.{T, eqb, leb}
 use Rattle.rules.specs.declared.input.Input.{Input}

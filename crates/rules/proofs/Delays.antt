@@ -1,8 +1,8 @@
 -- "Newcomers let a repeated Off start the off delay again. A nervous operator then keeps the house lit by asking for dark."
 -- A repeated Off leaves the phase, deadline and all, as the first left it; a repeated On leaves the moment of light.
-use Prim.Native.Nat.{ℕ, _+_, _≤_, min}
+use Prim.Native.Nat.{ℕ, _+_, _≤_}
 use mathlib.Core.Bool.{Bool, true, false, cond, not, _&&_}
-use mathlib.Core.Path.{_≡_, refl, sym, ap, _∙_}
+use mathlib.Core.Path.{_≡_, refl, ap, _∙_}
 use mathlib.Core.List.{List, [], _∷_}
 use native.Mathlib.Omega.{arith}
 use lib.Dec.{eqb, leb}
