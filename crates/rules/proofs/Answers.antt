@@ -21,10 +21,10 @@ use Rattle.rules.specs.declared.input.Input.the-variants.{SwitchOnOff, T
 use Rattle.rules.specs.declared.state.Link.{Link}
 use Rattle.rules.specs.declared.state.Link.the-variants.{Up, BusDown, PowerDown}
 use Rattle.rules.specs.declared.state.State.{State}
+use Rattle.rules.specs.declared.barrier.Barrier.the-variants.{Open}
 use Rattle.rules.specs.Scenes.{learnt}
 use Rattle.rules.specs.Phases.{output}
 use Rattle.rules.specs.Orders.{nightFalls, withPhase, withNight, withForce, withScenes, standing, held, settle, switch, timed, recall, learn, scene, forced, locked, unlocked, lockDevice, nightMode, busMode, bus, powerFails, powerReturns, power, order}
-use Rattle.rules.specs.declared.barrier.Barrier.the-variants.{Open}
 use Rattle.rules.specs.Barriers.{barrier}
 use Rattle.rules.specs.Answers.{answer, phaseNumber, due, forceNumber, linkNumber, samePhase, sameScene, sameScenes, sameFlags, sameButClock}
 use Rattle.rules.specs.Steps.{Moved, taken, meet, act}
@@ -171,6 +171,7 @@ power-keeps s BusDown Return = (refl, refl)
 power-keeps s PowerDown Failure = (refl, refl)
 power-keeps s PowerDown Return = settle-keeps _ _
 
+-- every order builds its state by the setters of Orders.antt, and none of them sets these two
 pub order-keeps-clock-and-params : (s : State) (i : Input) → (order s i .clock ≡ s .clock) × (order s i .params ≡ s .params)
 unfolding order timed scene learn forced lockDevice locked nightMode Keeps
 order-keeps-clock-and-params s (SwitchOnOff value) = switch-keeps s value

@@ -10,13 +10,13 @@ use borrow.Author.Tests.{le-leb}
 use Rattle.rules.specs.declared.parameters.Params.{Params}
 use Rattle.rules.specs.declared.phase.Phase.{Phase}
 use Rattle.rules.specs.declared.phase.Phase.the-variants.{Dark, Lit, Starting, Timed, Warning, Ending}
-use Rattle.rules.specs.declared.state.State.{State}
 use Rattle.rules.specs.declared.phase.Deadline.{Deadline}
 use Rattle.rules.specs.declared.phase.Deadline.the-variants.{Never, At}
 use Rattle.rules.specs.declared.input.Input.the-variants.{SwitchOnOff}
+use Rattle.rules.specs.declared.state.State.{State}
+use Rattle.rules.specs.declared.barrier.Barrier.the-variants.{Open}
 use Rattle.rules.specs.Phases.{deadline, litAt, atDeadline, setOn}
 use Rattle.rules.specs.Orders.{on, timedStart, offAfterDelay, off, withPhase, switch, order}
-use Rattle.rules.specs.declared.barrier.Barrier.the-variants.{Open}
 use Rattle.rules.specs.Barriers.{barrier}
 use Rattle.rules.specs.Steps.{atMoment, tickAt, tick, ticked, clockMove, taken, meet, act, step}
 use Rattle.rules.proofs.Bools.{either-way}
@@ -46,6 +46,7 @@ by-the-timers s c m (Ending d) none e h = rw (le-leb d m h)
 pub dark-by-the-timers : (s : State) (m : ℕ) → DarkBy (s .params) m (s .phase) → clockMove s m .state .phase ≡ Dark
 dark-by-the-timers s m h = by-the-timers s (s .clock) m (s .phase) (eqb (s .params .prewarning) 0) refl h
 
+-- an Off takes the earlier of two moments, and the moment of dark is one of them
 after-delay-is-never-later : (p : Params) (t m : ℕ) (phase : Phase) → DarkBy p m phase → DarkBy p m (offAfterDelay p t phase)
 unfolding offAfterDelay
 after-delay-is-never-later p t m Dark h = tt
@@ -57,6 +58,7 @@ pub repeated-off-is-never-later : (p : Params) (t m : ℕ) (phase : Phase) → D
 unfolding off
 repeated-off-is-never-later p t m phase h = either-way (DarkBy p m) (eqb (p .offdelay) 0) Dark (offAfterDelay p t phase) tt (after-delay-is-never-later p t m phase h)
 
+-- the second Off's own moment is never the earlier one
 repeated-after-delay : (p : Params) (t u : ℕ) (phase : Phase) → t ≤ u → offAfterDelay p u (offAfterDelay p t phase) ≡ offAfterDelay p t phase
 unfolding offAfterDelay
 repeated-after-delay p t u Dark h = refl
@@ -89,6 +91,7 @@ set-on-is-lit : (p : Params) (night held : Bool) (t m : ℕ) → LitBy m (setOn 
 unfolding setOn litAt
 set-on-is-lit p night held t m = either-way (LitBy m) (night && not held) (Timed (t + p .timedon)) Lit tt tt
 
+-- light that waits keeps its moment, light that is on stays on
 pub repeated-on-is-never-later : (p : Params) (night held : Bool) (t m : ℕ) (phase : Phase) → LitBy m phase → LitBy m (on p night held t phase)
 unfolding on
 repeated-on-is-never-later p night held t m Lit h = tt
@@ -134,7 +137,7 @@ off-asks s u h = repeated-off-changes-nothing (s .params) (s .clock) u (s .phase
 asked-later : (s : State) (u v : ℕ) → u ≤ v → Asked u s → Asked v s
 asked-later s u v h e = rw e at (repeated-off-changes-nothing (s .params) u v (s .phase) h)
 
--- a phase in which an Off finds nothing to change ends by itself in one that is alike
+-- it is Dark or Ending then, and both end in Dark
 deadline-keeps-asked : (p : Params) (night none : Bool) (u : ℕ) (phase : Phase) →
     cond none Dark (offAfterDelay p u phase) ≡ phase → cond none Dark (offAfterDelay p u (atDeadline p night phase)) ≡ atDeadline p night phase
 unfolding atDeadline offAfterDelay

@@ -22,7 +22,7 @@ nothing-written : (cause : ℕ) (s : State) → written cause s s ≡ []
 unfolding written sameStatus
 nothing-written cause s = simp eqb-same
 
--- so does every input that changes nothing if it is taken at all
+-- so does every input that, if it is taken at all, changes nothing
 no-trace : (b : Barrier) (m : Moved) (i : Input) → (b ≡ Open → order (m .state) i ≡ m .state) → (meet b m i .state ≡ m .state) × (meet b m i .records ≡ m .records)
 unfolding meet taken
 no-trace Open m i same = rw (same refl) (refl, simp (nothing-written, append-nil))
@@ -36,6 +36,7 @@ pub unchanged-leaves-no-trace : (s : State) (i : Input) (t : ℕ) →
 unfolding step act
 unchanged-leaves-no-trace s i t same = no-trace _ (clockMove s t) i same
 
+-- a stopped input is not taken
 pub dropped-leaves-no-trace : (s : State) (i : Input) (t : ℕ) → (barrier (clockMove s t .state) i ≡ Open → ⊥) →
     (step s i t .state ≡ clockMove s t .state) × (step s i t .records ≡ clockMove s t .records)
 dropped-leaves-no-trace s i t stops = unchanged-leaves-no-trace s i t (λ e. absurd (stops e))
@@ -99,12 +100,14 @@ MayBeStruck s before t i later end =
     let met : State = plays before s .state in
     SameBut (plays before s .answers) (step met i t .answer) (playsTo end later met .answers) (playsTo end (before ++ (cue t i ∷ later)) s) (playsTo end (before ++ later) s)
 
+-- the clock stops at t on its way to what comes next, and that is all the cue has brought
 pub no-trace-may-be-struck : (s : State) (before : List Cue) (t : ℕ) (i : Input) (later : List Cue) (end : ℕ) →
     ByWayOf t (plays before s .state) → NotBefore t later end → LeavesNoTrace (plays before s .state) i t → MayBeStruck s before t i later end
 no-trace-may-be-struck s before t i later end way h trace =
     rw (plays-to-append end before (cue t i ∷ later) s, plays-to-append end before later s, struck-at-the-front t end i later (plays before s .state) way h trace)
     (record { state = refl; records = refl; answers = refl; other-answers = refl })
 
+-- a dropped cue may be struck, since it leaves no trace
 pub struck-leaves-no-trace : (s : State) (before : List Cue) (t : ℕ) (i : Input) (later : List Cue) (end : ℕ) →
     ByWayOf t (plays before s .state) → NotBefore t later end → (barrier (clockMove (plays before s .state) t .state) i ≡ Open → ⊥) → MayBeStruck s before t i later end
 struck-leaves-no-trace s before t i later end way h stops = no-trace-may-be-struck s before t i later end way h (dropped-leaves-no-trace _ i t stops)

@@ -106,6 +106,7 @@ cases =
     case (on-at 0 ∷ night-at 100 ∷ []) (0 ∷ 0 ∷ []) (rec 0 0 1 0 ∷ rec 20 255 1 0 ∷ rec 100 255 25 6 ∷ rec 800 0 9 0 ∷ []) ∷
     []
 
+-- every case shows what the paper says
 pub worked-on-paper : map (λ (c : Case). played (c .cues)) cases ≡ map (λ (c : Case). c .shows) cases
 unfolding cases played playList playsTo plays step act meet taken clockMove ticked tick tickAt fresh litAt atDeadline setOn on timedStart offAfterDelay off nightFalls held settle byMode switch timed nightMode forced locked unlocked lockDevice order rows rowOf firstBarrier barrier value attributes recordOf sameStatus written samePhase sameScene sameScenes sameFlags sameButClock unused noScenes
 worked-on-paper = refl
