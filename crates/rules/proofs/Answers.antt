@@ -171,7 +171,7 @@ power-keeps s BusDown Return = (refl, refl)
 power-keeps s PowerDown Failure = (refl, refl)
 power-keeps s PowerDown Return = settle-keeps _ _
 
--- every order builds its state by the setters of Orders.antt, and none of them sets these two
+-- every order that builds a new state copies these two into it
 pub order-keeps-clock-and-params : (s : State) (i : Input) → (order s i .clock ≡ s .clock) × (order s i .params ≡ s .params)
 unfolding order timed scene learn forced lockDevice locked nightMode Keeps
 order-keeps-clock-and-params s (SwitchOnOff value) = switch-keeps s value
