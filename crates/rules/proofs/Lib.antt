@@ -1,4 +1,4 @@
--- Theorems about the rules, one topic to a file.
+-- The theorems about the rules, one topic to a file.
 pub mod Tests
 pub mod Deadlines
 pub mod Phases
@@ -11,3 +11,9 @@ pub mod Orders
 pub mod Soundness
 pub mod Timers
 pub mod Records
+pub mod Answers
+pub mod Plays
+pub mod Rank
+pub mod Ties
+pub mod Delays
+pub mod Worked

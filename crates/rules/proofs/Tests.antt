@@ -1,10 +1,10 @@
 -- Laws of tests that the theorems share.
 use Prim.Native.Nat.{ℕ, _≤_}
-use mathlib.Core.Bool.{Bool, true, false, cond, _&&_, _||_, true≢false}
+use mathlib.Core.Bool.{Bool, true, false, cond, _&&_, _||_, Bool·beq, true≢false}
 use mathlib.Core.Path.{_≡_, refl, sym}
 use native.Mathlib.Omega.{arith}
 use lib.Dec.{eqb}
-use borrow.Author.Tests.{eqb-false}
+use borrow.Author.Tests.{eq-eqb, eqb-false}
 
 -- a test that both failed and passed
 pub no : {A : Type 0} → false ≡ true → A
@@ -25,3 +25,26 @@ cond-case P false x y f g = g refl
 
 pub cond-zero : {A : Type 0} (P : A → Type 0) (n : ℕ) (x y : A) → P x → (1 ≤ n → P y) → P (cond (eqb n 0) x y)
 cond-zero P n x y f g = cond-case P (eqb n 0) x y (λ e. f) (λ e. g (omega (arith, eqb-false n 0 e)))
+
+pub beq-true : (a b : Bool) → Bool·beq a b ≡ true → a ≡ b
+beq-true true true h = refl
+beq-true true false h = cc
+beq-true false true h = cc
+beq-true false false h = refl
+
+pub beq-same : (a : Bool) → Bool·beq a a ≡ true
+beq-same true = refl
+beq-same false = refl
+
+pub eqb-same : (n : ℕ) → eqb n n ≡ true
+eqb-same n = eq-eqb n n refl
+
+-- what holds of both branches holds of the choice
+pub either-way : {A : Type 0} (P : A → Type 0) (b : Bool) (x y : A) → P x → P y → P (cond b x y)
+either-way P b x y f g = cond-case P b x y (λ e. f) (λ e. g)
+
+pub and-left : (a b : Bool) → (a && b) ≡ true → a ≡ true
+and-left a b h = both a b h .0
+
+pub and-right : (a b : Bool) → (a && b) ≡ true → b ≡ true
+and-right a b h = both a b h .1

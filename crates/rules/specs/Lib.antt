@@ -9,6 +9,7 @@ pub mod Barriers
 pub mod Status
 pub mod Answers
 pub mod Steps
+pub mod Lists
 pub mod Soundness
 pub mod Refusals
 pub mod Calls

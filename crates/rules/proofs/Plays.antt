@@ -1,0 +1,50 @@
+-- Laws of playing lists, and what inputs give while the clock stands.
+use mathlib.Core.Path.{_≡_, refl}
+use mathlib.Core.List.{List, [], _∷_, _++_, append-assoc, append-nil}
+use Prim.Native.Nat.{ℕ}
+use Rattle.rules.specs.declared.input.Input.{Input}
+use Rattle.rules.specs.declared.state.State.{State}
+use Rattle.rules.specs.declared.barrier.Barrier.{Barrier}
+use Rattle.rules.specs.declared.barrier.Barrier.the-variants.{Open, NoPower, NoBus, Locked, Forced}
+use Rattle.rules.specs.Barriers.{barrier}
+use Rattle.rules.specs.Steps.{Moved, taken, meet, act, step}
+use Rattle.rules.specs.Lists.{Cue, cue, Played, andThen, unplayed, moved, stepped, plays, playsTo}
+
+-- a state that no timer has led to
+abbrev pub still : State → Moved
+still s = record { state = s; records = [] }
+
+-- inputs that act one after the other while the clock stands
+unfoldable pub acts : List Input → State → Played
+acts [] s = unplayed s
+acts (i ∷ is) s = andThen (stepped (act (still s) i)) (acts is)
+
+-- ---- laws
+
+pub andThen-assoc : (a : Played) (f g : State → Played) → andThen (andThen a f) g ≡ andThen a (λ x. andThen (f x) g)
+andThen-assoc a f g = simp append-assoc
+
+-- only what is played from the state reached counts
+pub andThen-from : (a : Played) (f g : State → Played) → f (a .state) ≡ g (a .state) → andThen a f ≡ andThen a g
+andThen-from a f g e = rw e refl
+
+pub plays-append : (before later : List Cue) (s : State) → plays (before ++ later) s ≡ andThen (plays before s) (plays later)
+unfolding plays
+plays-append [] later s = refl
+plays-append (cue t i ∷ before) later s = rw (plays-append before later (step s i t .state)) (simp append-assoc)
+
+pub plays-to-append : (end : ℕ) (before later : List Cue) (s : State) → playsTo end (before ++ later) s ≡ andThen (plays before s) (playsTo end later)
+unfolding playsTo
+plays-to-append end before later s = rw (plays-append before later s) (simp append-assoc)
+
+-- an input's own records come after those of the clock move, and nothing else of that move reaches it but the state
+pub acts-after-the-move : (m : Moved) (i : Input) → stepped (act m i) ≡ andThen (moved m) (λ x. stepped (act (still x) i))
+unfolding act
+acts-after-the-move m i = go (barrier (m .state) i)
+  where
+    go : (b : Barrier) → stepped (meet b m i) ≡ andThen (moved m) (λ x. stepped (meet b (still x) i))
+    go Open = unfold meet taken in refl
+    go NoPower = unfold meet in simp append-nil
+    go NoBus = unfold meet in simp append-nil
+    go Locked = unfold meet in simp append-nil
+    go Forced = unfold meet in simp append-nil
