@@ -2,3 +2,4 @@ pub mod KindRange
 pub mod Rooms
 pub mod Written
 pub mod Tables
+pub mod Taken

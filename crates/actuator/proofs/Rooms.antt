@@ -1,7 +1,7 @@
 -- Where the room for the code's sums comes from: a sound state has it, and a timer leaves it.
 use Prim.Native.Nat.{ℕ, _≤_}
 use mathlib.Core.Bool.{true}
-use mathlib.Core.Path.{_≡_, sym, ap}
+use mathlib.Core.Path.{_≡_, ap}
 use native.Mathlib.Omega.{arith}
 use Rattle.rules.specs.declared.parameters.Params.{Params}
 use Rattle.rules.specs.declared.phase.Phase.{Phase}
@@ -11,11 +11,11 @@ use Rattle.rules.specs.declared.state.State.{State}
 use Rattle.rules.specs.Time.{lastStamp}
 use Rattle.rules.specs.Phases.{deadline}
 use Rattle.rules.specs.Answers.{due}
-use Rattle.rules.specs.Steps.{tick}
+use Rattle.rules.specs.Steps.{tick, clockMove}
 use Rattle.rules.specs.Soundness.{sound}
 use Rattle.rules.proofs.Deadlines.{times-bounded, due-is}
 use Rattle.rules.proofs.Ticks.{tick-keeps}
-use Rattle.rules.proofs.Soundness.{sound-view, due-bounded}
+use Rattle.rules.proofs.Soundness.{sound-view, due-bounded, move-is-sound}
 use Rattle.phases.specs.Room.{Room, Roomy}
 
 -- at an earlier moment
@@ -26,7 +26,8 @@ room-sooner p t d sooner r =
       ondelay = r .ondelay;
       offdelay = r .offdelay;
       timedon = r .timedon;
-      prewarning = r .prewarning }
+      prewarning = r .prewarning;
+    }
 
 -- at a deadline that is due
 pub due-room : (p : Params) (phase : Phase) (t d : ℕ) → deadline phase ≡ At d → d ≤ t → Room p t → Room p (due phase)
@@ -44,7 +45,12 @@ sound-room s t h b =
       ondelay = times .ondelay;
       offdelay = times .offdelay;
       timedon = times .timedon;
-      prewarning = times .prewarning }
+      prewarning = times .prewarning;
+    }
 
 pub sound-roomy : (s : State) → sound s ≡ true → Roomy (s .params) (s .clock) (s .phase)
 sound-roomy s h = record { room = sound-room s (s .clock) h (sound-view s h .clock); deadline = due-bounded s h }
+
+-- and so has the state after a clock move
+pub moved-roomy : (s : State) (t : ℕ) → sound s ≡ true → s .clock ≤ t → t ≤ lastStamp → Roomy (clockMove s t .state .params) (clockMove s t .state .clock) (clockMove s t .state .phase)
+moved-roomy s t h later b = sound-roomy (clockMove s t .state) (move-is-sound s t h later b)

@@ -3,9 +3,14 @@ use Prim.Native.Nat.{ℕ, _+_}
 use mathlib.Core.Bool.{Bool, true, false, cond}
 use mathlib.Core.List.{List, [], _∷_}
 use lib.ListN.{length, set}
+use Rattle.rules.specs.declared.input.Input.{Input}
 use Rattle.rules.specs.declared.state.State.{State}
+use Rattle.rules.specs.declared.barrier.Barrier.{Barrier}
+use Rattle.rules.specs.declared.barrier.Barrier.the-variants.{Open}
 use Rattle.rules.specs.declared.record.Record.{Record}
+use Rattle.rules.specs.Inputs.{kind}
 use Rattle.rules.specs.Status.{sameStatus, recordOf}
+use Rattle.rules.specs.Answers.{answer, sameButClock}
 use Rattle.rules.specs.Steps.{Moved, Stepped}
 use Rattle.rules.specs.Calls.{places}
 use Rattle.actuator.specs.declared.notes.Notes.{Notes}
@@ -35,3 +40,15 @@ clocked m = record { state = m .state; notes = notes (m .records) }
 
 unfoldable pub acted : Stepped → Acted
 acted d = record { state = d .state; answer = d .answer; notes = notes (d .records) }
+
+-- an input that is taken after a clock move, and one that is stopped
+unfoldable pub takenBy : Clocked → Input → State → Acted
+takenBy m i after =
+    record {
+      state = after;
+      answer = answer Open (sameButClock (m .state) after);
+      notes = added (m .notes) (noteOf (kind i) (m .state) after);
+    }
+
+unfoldable pub stoppedBy : Clocked → Barrier → Acted
+stoppedBy m b = record { state = m .state; answer = answer b true; notes = m .notes }

@@ -3,9 +3,11 @@ ghost use mathlib.Core.Path.{_≡_};
 ghost use mathlib.Core.Bool.{true};
 ghost use Prim.Native.Nat.{_≤_};
 ghost use Rattle.rules.specs.Answers.{answer};
-ghost use Rattle.rules.specs.Steps.{clockMove, step};
+ghost use Rattle.rules.specs.Orders.{order};
+ghost use Rattle.rules.specs.Steps.{step};
 ghost use Rattle.rules.specs.Soundness.{sound};
-ghost use Rattle.actuator.specs.Notes.{acted};
+ghost use Rattle.phases.specs.Room.{Roomy};
+ghost use Rattle.actuator.specs.Notes.{acted, takenBy, stoppedBy};
 use crate::barrier::barrier_to;
 use crate::barrier::kind_of;
 use crate::clock;
@@ -37,5 +39,50 @@ fn answer_number(b: Barrier, same: bool) -> u8
         Barrier::Locked => 3,
         Barrier::Forced => 2,
         Barrier::Open => { if same { 1 } else { 0 } }
+    }
+}
+
+// An input that nothing stops, at the moved clock.
+fn take(m: Clocked, i: Input) -> Acted
+    requires { ⌜ Roomy (m .state .params) (m .state .clock) (m .state .phase) × (m .notes .count ≤ 2) ⌝ }
+    ensures { λ r. ⌜ r ≡ takenBy m i (order (m .state) i) ⌝ }
+{
+    let s = m.state;
+    let n = m.notes;
+    let after = carry_out(s, i);
+    let written = notes::add(n, notes::noted(kind_of(i), s, after));
+    Acted {
+        state: after,
+        answer: answer_number(Barrier::Open, same_but_clock(s, after)),
+        notes: written,
+    }
+}
+
+// An input that a barrier stops: it leaves what the clock move left.
+fn stop(m: Clocked, b: Barrier) -> Acted
+    ensures { λ r. ⌜ r ≡ stoppedBy m b ⌝ }
+{
+    let s = m.state;
+    let n = m.notes;
+    Acted {
+        state: s,
+        answer: answer_number(b, true),
+        notes: n,
+    }
+}
+
+pub fn step_input(s: State, i: Input, t: u32) -> Acted
+    requires { ⌜ (sound s ≡ true) × (s .clock ≤ t) × (t ≤ 864000) ⌝ }
+    ensures { λ r. ⌜ r ≡ acted (step s i t) ⌝ }
+{
+    let m = clock::move_clock(s, t);
+    let moved = m.state;
+    let b = barrier_to(moved, i);
+    match b {
+        Barrier::Open => take(m, i),
+        Barrier::NoPower => stop(m, b),
+        Barrier::NoBus => stop(m, b),
+        Barrier::Locked => stop(m, b),
+        Barrier::Forced => stop(m, b),
     }
 }

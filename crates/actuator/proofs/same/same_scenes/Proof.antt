@@ -46,11 +46,12 @@ loop-less c = search needs
 loop-again : tie.Need-loop-again Inv-loop μ-loop
 loop-again c =
     let a = c .before .before .before .before .before .before .args in
-    let l = c .before .before .before .before .before .loop in
-    (search needs,
-    search needs,
-    search needs,
-    simp (add-one (l .i)) (l .inv .3 ∙ (simp (sym (c .before .same-scene .ensures) ∙ c .if1 .taken) at (same-step (a .t1) (a .t2) (l .i) (omega arith) (omega arith)))))
+    let l = c .before .before .before .before .before .loop in (
+      search needs,
+      search needs,
+      search needs,
+      simp (add-one (l .i)) (l .inv .3 ∙ (simp (sym (c .before .same-scene .ensures) ∙ c .if1 .taken) at (same-step (a .t1) (a .t2) (l .i) (omega arith) (omega arith)))),
+    )
 
 returns : tie.Need-returns Inv-loop μ-loop
 returns c =

@@ -43,10 +43,11 @@ loop-less c = search needs
 loop-again : tie.Need-loop-again Inv-loop μ-loop
 loop-again c =
     let a = c .before .before .before .before .before .args in
-    let l = c .before .before .before .before .loop in
-    (search needs,
-    search needs,
-    simp (add-one (l .i)) (l .inv .2 ∙ (simp (ne-eqb _ _ (c .if1 .left)) at (absent-step (a .t1) (a .number) (l .i) (omega arith)))))
+    let l = c .before .before .before .before .loop in (
+      search needs,
+      search needs,
+      simp (add-one (l .i)) (l .inv .2 ∙ (simp (ne-eqb _ _ (c .if1 .left)) at (absent-step (a .t1) (a .number) (l .i) (omega arith)))),
+    )
 
 returns-2 : tie.Need-returns-2 Inv-loop μ-loop
 returns-2 c =

@@ -42,10 +42,11 @@ loop-less c = search needs
 loop-again : tie.Need-loop-again Inv-loop μ-loop
 loop-again c =
     let a = c .before .before .before .before .before .args in
-    let l = c .before .before .before .before .loop in
-    (search needs,
-    search needs,
-    l .inv .2 ∙ range-goes-on (a .t1) (l .i) (omega arith) (sym (c .before .entry-fits .ensures) ∙ c .if1 .taken))
+    let l = c .before .before .before .before .loop in (
+      search needs,
+      search needs,
+      l .inv .2 ∙ range-goes-on (a .t1) (l .i) (omega arith) (sym (c .before .entry-fits .ensures) ∙ c .if1 .taken),
+    )
 
 returns : tie.Need-returns Inv-loop μ-loop
 returns c =

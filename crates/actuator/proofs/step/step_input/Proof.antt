@@ -1,0 +1,115 @@
+use mathlib.Core.Path.{sym, _∙_}
+use Rattle.rules.proofs.Records.{a-move-writes-at-most-two}
+use Rattle.actuator.specs.Notes.{notes, clocked}
+use Rattle.actuator.proofs.Rooms.{sound-room, moved-roomy}
+use Rattle.actuator.proofs.Taken.{open-is-taken, barred-is-stopped}
+use borrow.Author.Needs.{needs}
+use Rattle.actuator.proofs.step.step_input.Statement.{statement}
+use Rattle.actuator.proofs.step.step_input.Tie as tie
+use Rattle.actuator.proofs.step.step_input.Reads as reads
+use Rattle.actuator.proofs.step.step_input.Lts as lts
+use Rattle.actuator.proofs.barrier.barrier_to.Reads as barrier-to-reads
+use Rattle.actuator.proofs.clock.move_clock.Reads as move-clock-reads
+use Rattle.actuator.proofs.step.stop.Reads as stop-reads
+use Rattle.actuator.proofs.step.take.Reads as take-reads
+
+move-clock-requires : tie.Need-move-clock-requires
+move-clock-requires c κs = sound-room (c .args .s) (c .args .t) (c .pre .0) (c .pre .2)
+
+barrier-to-requires : tie.Need-barrier-to-requires
+barrier-to-requires c κs = search needs
+
+enum-told : tie.Need-enum-told
+enum-told c = search needs
+
+take-requires : tie.Need-take-requires
+unfolding clocked notes
+take-requires c κs =
+    let a = c .before .before .before .before .before in
+    rw (c .before .before .before .before .move-clock .ensures)
+    (moved-roomy (a .args .s) (a .args .t) (a .pre .0) (a .pre .1) (a .pre .2), a-move-writes-at-most-two (a .args .s) (a .args .t))
+
+enum-told-2 : tie.Need-enum-told-2
+enum-told-2 c = search needs
+
+stop-requires : tie.Need-stop-requires
+stop-requires c κs = search needs
+
+enum-told-3 : tie.Need-enum-told-3
+enum-told-3 c = search needs
+
+stop-requires-2 : tie.Need-stop-requires-2
+stop-requires-2 c κs = search needs
+
+enum-told-4 : tie.Need-enum-told-4
+enum-told-4 c = search needs
+
+stop-requires-3 : tie.Need-stop-requires-3
+stop-requires-3 c κs = search needs
+
+enum-told-5 : tie.Need-enum-told-5
+enum-told-5 c = search needs
+
+stop-requires-4 : tie.Need-stop-requires-4
+stop-requires-4 c κs = search needs
+
+returns : tie.Need-returns
+unfolding clocked
+returns c =
+    let a = c .before .before .before .before .before .before in
+    let e = c .before .before .before .before .before .move-clock .ensures in
+    c .take .ensures ∙ rw e (open-is-taken (a .args .s) (a .args .i) (a .args .t) (rw e at (sym (c .before .before .before .barrier-to .ensures) ∙ c .before .enum-told .given .1)))
+
+returns-2 : tie.Need-returns-2
+unfolding clocked
+returns-2 c =
+    let a = c .before .before .before .before .before .before in
+    let e = c .before .before .before .before .before .move-clock .ensures in
+    let bars = c .before .before .before .barrier-to .ensures in
+    c .stop .ensures ∙ rw (e, c .before .enum-told2 .given .1) (barred-is-stopped (a .args .s) (a .args .i) (a .args .t) _ tt (rw e at (sym bars ∙ c .before .enum-told2 .given .1)))
+
+returns-3 : tie.Need-returns-3
+unfolding clocked
+returns-3 c =
+    let a = c .before .before .before .before .before .before in
+    let e = c .before .before .before .before .before .move-clock .ensures in
+    let bars = c .before .before .before .barrier-to .ensures in
+    c .stop2 .ensures ∙ rw (e, c .before .enum-told3 .given .1) (barred-is-stopped (a .args .s) (a .args .i) (a .args .t) _ tt (rw e at (sym bars ∙ c .before .enum-told3 .given .1)))
+
+returns-4 : tie.Need-returns-4
+unfolding clocked
+returns-4 c =
+    let a = c .before .before .before .before .before .before in
+    let e = c .before .before .before .before .before .move-clock .ensures in
+    let bars = c .before .before .before .barrier-to .ensures in
+    c .stop3 .ensures ∙ rw (e, c .before .enum-told4 .given .1) (barred-is-stopped (a .args .s) (a .args .i) (a .args .t) _ tt (rw e at (sym bars ∙ c .before .enum-told4 .given .1)))
+
+returns-5 : tie.Need-returns-5
+unfolding clocked
+returns-5 c =
+    let a = c .before .before .before .before .before .before in
+    let e = c .before .before .before .before .before .move-clock .ensures in
+    let bars = c .before .before .before .barrier-to .ensures in
+    c .stop4 .ensures ∙ rw (e, c .before .enum-told5 .given .1) (barred-is-stopped (a .args .s) (a .args .i) (a .args .t) _ tt (rw e at (sym bars ∙ c .before .enum-told5 .given .1)))
+
+pub step-input-spec : {M : Type 1} → statement M
+step-input-spec =
+    tie.close
+    (tie.spec
+    move-clock-requires
+    barrier-to-requires
+    enum-told
+    take-requires
+    enum-told-2
+    stop-requires
+    enum-told-3
+    stop-requires-2
+    enum-told-4
+    stop-requires-3
+    enum-told-5
+    stop-requires-4
+    returns
+    returns-2
+    returns-3
+    returns-4
+    returns-5)
