@@ -17,3 +17,4 @@ pub mod Rank
 pub mod Ties
 pub mod Delays
 pub mod Worked
+pub mod Calls

@@ -1,0 +1,40 @@
+// The fresh state from parameters alone.
+ghost use mathlib.Core.Path.{_≡_};
+ghost use Rattle.rules.specs.Calls.{freshCall};
+use crate::refusal::number_of;
+use actuator::fresh::fresh_with;
+use actuator::fresh::own_state;
+use decode::parameters::check_parameters;
+use decode::parameters::params_of;
+use decode::parameters::scenes_of;
+use rules::call::Fresh;
+use rules::parameters::Params;
+use rules::parameters::Scene;
+use rules::refusal::Check;
+use rules::refusal::Refusal;
+use rules::state::State;
+
+// Any octets: 32 that are in range give the fresh state, all others a refusal with its place and its own state.
+pub fn fresh_state(octets: &[u8]) -> Fresh
+    ensures whole { λ r. ⌜ r ≡ freshCall (now (octets .entry)) ⌝ }
+{
+    let check = check_parameters(octets);
+    match check {
+        Check::Passed => {
+            let s = fresh_with(params_of(octets), scenes_of(octets));
+            Fresh {
+                state: s,
+                code: 0,
+                place: 0,
+            }
+        }
+        Check::Refused { why, place } => {
+            let s = own_state();
+            Fresh {
+                state: s,
+                code: number_of(why),
+                place,
+            }
+        }
+    }
+}

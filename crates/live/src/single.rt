@@ -1,0 +1,84 @@
+// A single input to a state.
+ghost use mathlib.Core.Path.{_≡_};
+ghost use mathlib.Core.Bool.{true, cond};
+ghost use Rattle.rules.specs.Soundness.{sound};
+ghost use Rattle.rules.specs.Steps.{step};
+ghost use Rattle.rules.specs.Refusals.{stampInRange};
+ghost use Rattle.rules.specs.Calls.{singleDone, singleRefused, singleCall};
+ghost use Rattle.live.specs.ByValue.{singleOf};
+use crate::refusal::number_of;
+use crate::refusal::stamp_in_range;
+use actuator::notes;
+use actuator::notes::Notes;
+use actuator::sound::is_sound;
+use actuator::step::Acted;
+use actuator::step::step_input;
+use decode::input::input_at;
+use decode::input::stamp_at;
+use rules::call::Single;
+use rules::input::Decoded;
+use rules::input::Event;
+use rules::input::Force;
+use rules::input::Input;
+use rules::record::Record;
+use rules::refusal::Refusal;
+use rules::state::State;
+
+// Eight octets: the state, answer and records that the input gives, or a refusal that hands back the state it was given.
+pub fn single_input(s: State, octets: [u8; 8]) -> Single
+    ensures whole { λ r. ⌜ r ≡ singleCall s octets ⌝ }
+{
+    if is_sound(s) {
+        let stamp = stamp_at(&octets, 0);
+        let meant = input_at(&octets, 0);
+        match meant {
+            Decoded::Meant(i) => stamped(s, i, stamp),
+            Decoded::Wrong => refused(s, Refusal::BadInput),
+        }
+    } else {
+        refused(s, Refusal::UnsoundState)
+    }
+}
+
+// An input to a sound state, where its stamp is in range.
+fn stamped(s: State, i: Input, stamp: u32) -> Single
+    requires { ⌜ sound s ≡ true ⌝ }
+    ensures { λ r. ⌜ r ≡ cond (stampInRange (s .clock) stamp) (singleDone (step s i stamp)) (singleRefused s Refusal.BadStamp) ⌝ }
+{
+    if stamp_in_range(s.clock, stamp) {
+        accepted(step_input(s, i, stamp))
+    } else {
+        refused(s, Refusal::BadStamp)
+    }
+}
+
+fn accepted(d: Acted) -> Single
+    ensures { λ r. ⌜ r ≡ singleOf d ⌝ }
+{
+    let s = d.state;
+    let n = d.notes;
+    let k = n.records;
+    Single {
+        state: s,
+        code: 0,
+        place: 0,
+        answer: d.answer,
+        count: n.count,
+        records: k,
+    }
+}
+
+fn refused(s: State, why: Refusal) -> Single
+    ensures { λ r. ⌜ r ≡ singleRefused s why ⌝ }
+{
+    let n = notes::none();
+    let k = n.records;
+    Single {
+        state: s,
+        code: number_of(why),
+        place: 0,
+        answer: 0,
+        count: 0,
+        records: k,
+    }
+}
