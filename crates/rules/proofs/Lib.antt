@@ -10,3 +10,4 @@ pub mod Orders
 pub mod Soundness
 pub mod Timers
 pub mod Records
+pub mod Inputs
