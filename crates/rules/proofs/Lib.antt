@@ -18,3 +18,4 @@ pub mod Ties
 pub mod Delays
 pub mod Worked
 pub mod Calls
+pub mod Inputs

@@ -1,0 +1,42 @@
+use Rattle.rules.specs.Inputs.{decoded}
+use mathlib.Core.Path.{_≡_}
+use native.Mathlib.Omega.{arith}
+use borrow.Author.Needs.{needs}
+use Rattle.decode.proofs.input.manager_input.Statement.{statement}
+use Rattle.decode.proofs.input.manager_input.Tie as tie
+use Rattle.decode.proofs.input.manager_input.Reads as reads
+use Rattle.decode.proofs.input.manager_input.Lts as lts
+use Rattle.decode.proofs.input.force_meant.Reads as force-meant-reads
+use Rattle.decode.proofs.input.zero_or_one.Reads as zero-or-one-reads
+
+force-meant-requires : tie.Need-force-meant-requires
+force-meant-requires c κs = search needs
+
+zero-or-one-requires : tie.Need-zero-or-one-requires
+zero-or-one-requires c κs = search needs
+
+zero-or-one-requires-2 : tie.Need-zero-or-one-requires-2
+zero-or-one-requires-2 c κs = search needs
+
+returns : tie.Need-returns
+unfolding decoded
+returns c = simp (c .force-meant .ensures, c .before .match .keys1)
+
+returns-2 : tie.Need-returns-2
+unfolding decoded
+returns-2 c = simp (c .zero-or-one .ensures, c .before .match .keys2)
+
+returns-3 : tie.Need-returns-3
+unfolding decoded
+returns-3 c = let last : c .before .before .args .kind ≡ 6 = omega arith in simp (c .zero-or-one2 .ensures, last)
+
+pub manager-input-spec : {M : Type 1} → statement M
+manager-input-spec =
+    tie.close
+    (tie.spec
+    force-meant-requires
+    zero-or-one-requires
+    zero-or-one-requires-2
+    returns
+    returns-2
+    returns-3)
