@@ -200,7 +200,7 @@ unfolding moveDone
 move-records-are-all s t = (refl, places-hold-all 2 (clockMove s t .records) (a-move-writes-at-most-two s t))
 
 -- a stamp in range is from the clock to the last stamp
-timely : (clock stamp : ℕ) → stampInRange clock stamp ≡ true → (clock ≤ stamp) × (stamp ≤ lastStamp)
+pub timely : (clock stamp : ℕ) → stampInRange clock stamp ≡ true → (clock ≤ stamp) × (stamp ≤ lastStamp)
 unfolding stampInRange
 timely clock stamp h = let e = both (leb clock stamp) (leb stamp lastStamp) h in (leb-true clock stamp (e .0), leb-true stamp lastStamp (e .1))
 

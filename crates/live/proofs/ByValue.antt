@@ -1,0 +1,41 @@
+-- What the code hands out is what the rules say, by value.
+use Prim.Native.Nat.{ℕ, _≤_}
+use mathlib.Core.Bool.{Bool, true, false, cond}
+use mathlib.Core.List.{List, [], _∷_}
+use mathlib.Core.Path.{_≡_, refl}
+use lib.ListN.{length, getD}
+use lib.Dec.{eqb}
+use borrow.Author.Tests.{eqb-true}
+use Rattle.rules.specs.declared.record.Record.{Record}
+use Rattle.rules.specs.declared.refusal.Check.{Check}
+use Rattle.rules.specs.declared.refusal.Check.the-variants.{Passed, Refused}
+use Rattle.rules.specs.declared.refusal.Refusal.the-variants.{WrongLength}
+use Rattle.rules.specs.Steps.{Moved, Stepped}
+use Rattle.rules.specs.Refusals.{lowestBad, checkParameters}
+use Rattle.rules.specs.Calls.{blank, places, singleDone, moveDone}
+use Rattle.rules.proofs.Tests.{cond-case}
+use Rattle.actuator.specs.Notes.{notes, clocked, acted}
+use Rattle.live.specs.ByValue.{singleOf, moveOf}
+
+pub acted-is-done : (d : Stepped) → singleOf (acted d) ≡ singleDone d
+unfolding singleOf acted notes singleDone
+acted-is-done d = refl
+
+-- the first two of three places are the two places
+two-of-three : (l : List Record) → getD (places 3 l) 0 blank ∷ getD (places 3 l) 1 blank ∷ [] ≡ places 2 l
+unfolding places
+two-of-three [] = refl
+two-of-three (a ∷ []) = refl
+two-of-three (a ∷ b ∷ l) = refl
+
+pub clocked-is-done : (m : Moved) → moveOf (clocked m) ≡ moveDone m
+unfolding moveOf clocked notes moveDone
+clocked-is-done m = rw (two-of-three (m .records))
+
+-- the length is tested first
+pub passed-length : (octets : List ℕ) → checkParameters octets ≡ Passed → length octets ≡ 32
+unfolding checkParameters
+passed-length octets h =
+    cond-case (λ (c : Check). c ≡ Passed → length octets ≡ 32) (eqb (length octets) 32) (lowestBad octets 32 0) (Refused WrongLength 0)
+    (λ e p. eqb-true (length octets) 32 e)
+    (λ e p. cc) h
