@@ -11,3 +11,4 @@ pub mod Soundness
 pub mod Timers
 pub mod Records
 pub mod Inputs
+pub mod Accepted
