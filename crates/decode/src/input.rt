@@ -47,7 +47,7 @@ fn force_meant(value: u8) -> Decoded
     }
 }
 
-// The kinds that sensors send: switch, timed and scene.
+// The kinds 1 to 3, which ask for light: switch, timed and scene.
 fn sensor_input(kind: u8, value: u8) -> Decoded
     requires { ⌜ (1 ≤ kind) × (kind ≤ 3) ⌝ }
     ensures { λ r. ⌜ r ≡ decoded kind value ⌝ }
@@ -63,7 +63,7 @@ fn sensor_input(kind: u8, value: u8) -> Decoded
     }
 }
 
-// The kinds that stand above the sensors: force, lock and night.
+// The kinds 4 to 6, which change what the others may do: force, lock and night.
 fn manager_input(kind: u8, value: u8) -> Decoded
     requires { ⌜ (4 ≤ kind) × (kind ≤ 6) ⌝ }
     ensures { λ r. ⌜ r ≡ decoded kind value ⌝ }
@@ -75,7 +75,7 @@ fn manager_input(kind: u8, value: u8) -> Decoded
     }
 }
 
-// The kinds that no one sends: bus and power fail and return.
+// The kinds 7 and 8, which nobody sends: bus and power fail and return.
 fn link_event(kind: u8, value: u8) -> Decoded
     requires { ⌜ (7 ≤ kind) × (kind ≤ 8) ⌝ }
     ensures { λ r. ⌜ r ≡ decoded kind value ⌝ }

@@ -1,4 +1,4 @@
 // What octets mean: the inputs, and the parameters with their scene table and ranges.
 pub mod input;
 pub mod parameters;
-pub mod range;
+mod range;

@@ -33,6 +33,7 @@ fn delay_at(octets: &[u8], at: usize) -> u32
     10 * read16(octets, at)
 }
 
+// The parameters that 32 octets say, accepted or not.
 pub fn params_of(octets: &[u8]) -> Params
     requires { ⌜ length (now octets) ≡ 32 ⌝ }
     ensures { λ r. ⌜ r ≡ paramsOf (now (octets .entry)) ⌝ }
@@ -63,6 +64,7 @@ fn scene_at(octets: &[u8], at: usize) -> Scene
     }
 }
 
+// The eight scene entries that 32 octets say, accepted or not.
 pub fn scenes_of(octets: &[u8]) -> [Scene; 8]
     requires { ⌜ length (now octets) ≡ 32 ⌝ }
     ensures { λ r. ⌜ r ≡ scenesOf (now (octets .entry)) ⌝ }

@@ -1,4 +1,4 @@
-// Which octets of the parameters are out of range. The length is tested before: every function takes 32 octets.
+// Which octets of the parameters are out of range. Their length is tested before: every slice here has 32 octets.
 ghost use mathlib.Core.Path.{_≡_};
 ghost use Prim.Native.Nat.{_≤_, _<_};
 ghost use mathlib.Core.Bool.{_&&_};
@@ -15,6 +15,7 @@ use rules::refusal::Refusal;
 // The greatest value of each of the octets 8 to 15: five modes, the learning mode, two octets that are zero.
 const GREATEST: [u8; 8] = [2, 3, 2, 2, 2, 1, 0, 0];
 
+// The table is read here alone.
 fn greatest_at(n: usize) -> u8
     requires { ⌜ n < 8 ⌝ }
     ensures { λ r. ⌜ r ≡ getD greatest n 0 ⌝ }
@@ -65,7 +66,7 @@ fn bad_flags(octets: &[u8], entry: usize) -> bool
     }
 }
 
-// Of the four delays only TimedOn may not be 0; it is bad at its first octet.
+// Of the four delays only TimedOn must not be 0; it is then bad at its first octet.
 fn bad_delay(octets: &[u8], at: usize) -> bool
     requires { ⌜ length (now octets) ≡ 32 ⌝ }
     ensures { λ r. ⌜ r ≡ (eqb at 4 && eqb (be16 (now (octets .entry)) 4) 0) ⌝ }

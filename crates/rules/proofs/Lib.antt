@@ -19,3 +19,4 @@ pub mod Delays
 pub mod Worked
 pub mod Calls
 pub mod Inputs
+pub mod Accepted

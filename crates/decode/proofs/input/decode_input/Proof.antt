@@ -28,6 +28,7 @@ returns-2 c = search needs
 returns-3 : tie.Need-returns-3
 returns-3 c = search needs
 
+-- below and above the three ranges the kind is none of the eight
 returns-4 : tie.Need-returns-4
 returns-4 c = sym (no-other-kind _ _ (λ some. omega arith))
 

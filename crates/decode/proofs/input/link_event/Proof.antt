@@ -18,6 +18,7 @@ returns : tie.Need-returns
 unfolding decoded
 returns c = simp (c .zero-or-one .ensures, c .before .match .keys1)
 
+-- the other kinds of the range are gone
 returns-2 : tie.Need-returns-2
 unfolding decoded
 returns-2 c = let last : c .before .before .args .kind ≡ 8 = omega arith in simp (c .zero-or-one2 .ensures, last)

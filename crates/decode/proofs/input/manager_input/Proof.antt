@@ -26,6 +26,7 @@ returns-2 : tie.Need-returns-2
 unfolding decoded
 returns-2 c = simp (c .zero-or-one .ensures, c .before .match .keys2)
 
+-- the other kinds of the range are gone
 returns-3 : tie.Need-returns-3
 unfolding decoded
 returns-3 c = let last : c .before .before .args .kind ≡ 6 = omega arith in simp (c .zero-or-one2 .ensures, last)
