@@ -20,7 +20,7 @@ use Rattle.rules.specs.Scenes.{entryInRange, absent, scenesInRange}
 use Rattle.rules.specs.Refusals.{lowestBad, checkParameters}
 use Rattle.rules.specs.Steps.{fresh}
 use Rattle.rules.specs.Soundness.{sound}
-use Rattle.rules.proofs.Tests.{no, neither, cond-case}
+use Rattle.rules.proofs.Tests.{no, neither-left, cond-case}
 use Rattle.rules.proofs.Soundness.{fresh-is-sound}
 
 -- ---- exactly what is answered
@@ -69,7 +69,7 @@ check-given octets =
 clash : {A : Type 0} (octets : List ℕ) (at : ℕ) → badOctet octets at ≡ true → badOctet octets at ≡ false → A
 clash octets at bad good = no (sym good ∙ bad)
 
--- neither of two first bad octets comes before the other
+-- neither-left of two first bad octets comes before the other
 same-place : (octets : List ℕ) (a b : ℕ) → FirstBad octets a → FirstBad octets b → a ≡ b
 same-place octets a b f g =
     let not-less : a < b → ⊥ = λ less. clash octets a (f .bad) (g .good a less) in
@@ -185,7 +185,7 @@ above-differs : (octets : List ℕ) (number n m : ℕ) → numberAbove octets nu
 unfolding numberAbove
 above-differs octets number zero m new earlier = absurd (omega arith)
 above-differs octets number (suc n) m new earlier =
-    let here = neither (eqb (numberOf octets n) number) _ new in
+    let here = neither-left (eqb (numberOf octets n) number) _ new in
     elim (eq-or-lt-of-le (le-of-suc-le-suc earlier)) [
       | inl same ↦ rw same here
       | inr less ↦ above-differs octets number n m (rw here at new) less

@@ -13,19 +13,21 @@ use Rattle.rules.specs.declared.input.Input.{Input}
 use Rattle.rules.specs.declared.input.Decoded.{Decoded}
 use Rattle.rules.specs.declared.input.Decoded.the-variants.{Meant, Wrong}
 use Rattle.rules.specs.declared.state.State.{State}
-use Rattle.rules.specs.declared.record.Record.{Record}
-use Rattle.rules.specs.declared.refusal.Refusal.{Refusal}
 use Rattle.rules.specs.declared.refusal.Refusal.the-variants.{BadInput, BadStamp, UnsoundState}
+use Rattle.rules.specs.declared.refusal.Check.{Check}
+use Rattle.rules.specs.declared.refusal.Check.the-variants.{Passed, Refused}
 use Rattle.rules.specs.declared.call.Single.{Single}
 use Rattle.rules.specs.declared.call.Move.{Move}
 use Rattle.rules.specs.Time.{lastStamp}
 use Rattle.rules.specs.Inputs.{stampAt, inputAt}
 use Rattle.rules.specs.Steps.{Moved, Stepped, clockMove, step}
 use Rattle.rules.specs.Soundness.{sound}
-use Rattle.rules.specs.Refusals.{number, stampInRange}
-use Rattle.rules.specs.Calls.{places, singleDone, singleRefused, singleMeant, singleCall, moveDone, moveRefused, moveCall}
+use Rattle.rules.specs.Refusals.{code, placeOf, checkParameters, stampInRange}
+use Rattle.rules.specs.Calls.{freshBy, freshCall, places, singleDone, singleRefused, singleMeant, singleCall, moveDone, moveRefused, moveCall}
 use Rattle.rules.proofs.Tests.{both, no}
-use Rattle.rules.proofs.Soundness.{move-is-sound}
+use Rattle.rules.proofs.Soundness.{own-state-is-sound, move-is-sound, step-is-sound}
+use Rattle.rules.proofs.Inputs.{input-number}
+use Rattle.rules.proofs.Accepted.{passed-is-sound}
 use Rattle.rules.proofs.Records.{a-move-writes-at-most-two, an-input-writes-at-most-three, places-hold-all}
 
 not-meant : {A : Type 0} {i : Input} → Wrong ≡ Meant i → A
@@ -211,3 +213,35 @@ move-call-keeps-sound s stamp safe = by (move-finds s stamp)
     by (MoveFinds.not-sound h) = unfold moveRefused in safe
     by (MoveFinds.untimely h t) = unfold moveRefused in safe
     by (moves h t) = let e = timely (s .clock) stamp t in unfold moveDone in move-is-sound s stamp safe (e .0) (e .1)
+
+pub single-call-keeps-sound : (s : State) (octets : List ℕ) → sound s ≡ true → sound (singleCall s octets .state) ≡ true
+single-call-keeps-sound s octets safe = by (single-finds s octets)
+  where
+    by : {r : Single} → SingleFinds s octets r → sound (r .state) ≡ true
+    by (SingleFinds.not-sound h) = unfold singleRefused in safe
+    by (wrong h m) = unfold singleRefused in safe
+    by (SingleFinds.untimely i h m t) = unfold singleRefused in safe
+    by (plays i h m t) =
+        let e = timely (s .clock) (stampAt octets 0) t in
+        unfold singleDone in
+        step-is-sound s i (stampAt octets 0) (input-number octets 0 i m) safe (e .0) (e .1)
+
+-- ---- the fresh state from parameters alone
+
+-- accepted parameters give a sound state, and so does a refusal
+pub fresh-call-is-sound : (octets : List ℕ) → ((i : ℕ) → octet octets i < 256) → sound (freshCall octets .state) ≡ true
+unfolding freshCall
+fresh-call-is-sound octets small = by (checkParameters octets) refl
+  where
+    by : (c : Check) → checkParameters octets ≡ c → sound (freshBy octets c .state) ≡ true
+    by Passed h = unfold freshBy in passed-is-sound octets small h
+    by (Refused why place) h = unfold freshBy in own-state-is-sound
+
+-- the code and the place are those of the check, which lowest-bad-octet describes both ways
+pub fresh-answers-the-check : (octets : List ℕ) → (freshCall octets .code ≡ code (checkParameters octets)) × (freshCall octets .place ≡ placeOf (checkParameters octets))
+unfolding freshCall
+fresh-answers-the-check octets = by (checkParameters octets)
+  where
+    by : (c : Check) → (freshBy octets c .code ≡ code c) × (freshBy octets c .place ≡ placeOf c)
+    by Passed = unfold freshBy in (refl, refl)
+    by (Refused why place) = unfold freshBy in (refl, refl)

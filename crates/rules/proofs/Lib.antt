@@ -1,13 +1,13 @@
--- The theorems about the rules, one topic to a file.
+-- The theorems about the rules, one topic to a file; the lower ones stand on the upper ones.
 pub mod Tests
 pub mod Deadlines
 pub mod Phases
 pub mod Holding
-pub mod Ticks
 pub mod Scenes
 pub mod Barriers
 pub mod Fitting
 pub mod Orders
+pub mod Ticks
 pub mod Soundness
 pub mod Timers
 pub mod Records
@@ -17,6 +17,7 @@ pub mod Rank
 pub mod Ties
 pub mod Delays
 pub mod Worked
-pub mod Calls
 pub mod Inputs
 pub mod Accepted
+pub mod Calls
+pub mod Unique
