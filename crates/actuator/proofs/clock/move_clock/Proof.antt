@@ -5,16 +5,6 @@ use Rattle.actuator.proofs.Written.{none-fits, one-fits, two-fit, three
 use borrow.Author.Needs.{needs}
 use Rattle.actuator.proofs.clock.move_clock.Statement.{statement}
 use Rattle.actuator.proofs.clock.move_clock.Tie as tie
-use Rattle.actuator.proofs.clock.move_clock.Reads as reads
-use Rattle.actuator.proofs.clock.move_clock.Lts as lts
-use Rattle.actuator.proofs.clock.at_moment.Reads as at-moment-reads
-use Rattle.actuator.proofs.clock.tick_once.Reads as tick-once-reads
-use Rattle.actuator.proofs.notes.add.Reads as add-reads
-use Rattle.actuator.proofs.notes.none.Reads as none-reads
-use Rattle.actuator.proofs.notes.noted.Reads as noted-reads
-
-tick-once-requires : tie.Need-tick-once-requires
-tick-once-requires c κs = search needs
 
 tick-once-requires-2 : tie.Need-tick-once-requires-2
 tick-once-requires-2 c κs =
@@ -26,31 +16,16 @@ tick-once-requires-3 c κs =
     let a = c .before .before in
     rw (c .tick-once2 .ensures, c .before .tick-once .ensures) (ticked-room (tick (a .args .s) (a .args .t)) (a .args .t) (ticked-room (a .args .s) (a .args .t) (a .pre)))
 
-none-requires : tie.Need-none-requires
-none-requires c κs = search needs
-
-noted-requires : tie.Need-noted-requires
-noted-requires c κs = search needs
-
 add-requires : tie.Need-add-requires
 add-requires c κs = rw (c .before .none .ensures) none-fits
 
-noted-requires-2 : tie.Need-noted-requires-2
-noted-requires-2 c κs = search needs
-
 add-requires-2 : tie.Need-add-requires-2
 add-requires-2 c κs = rw (c .before .add .ensures, c .before .before .noted .ensures, c .before .before .before .none .ensures) (one-fits _ _)
-
-noted-requires-3 : tie.Need-noted-requires-3
-noted-requires-3 c κs = search needs
 
 add-requires-3 : tie.Need-add-requires-3
 add-requires-3 c κs =
     rw (c .before .add2 .ensures, c .before .before .noted2 .ensures, c .before .before .before .add .ensures, c .before .before .before .before .noted .ensures, c .before .before .before .before .before .none .ensures)
     (two-fit _ _ _)
-
-at-moment-requires : tie.Need-at-moment-requires
-at-moment-requires c κs = search needs
 
 returns : tie.Need-returns
 unfolding clocked clockMove ticked
@@ -65,15 +40,15 @@ pub move-clock-spec : {M : Type 1} → statement M
 move-clock-spec =
     tie.close
     (tie.spec
-    tick-once-requires
+    (λ c κs. search needs)
     tick-once-requires-2
     tick-once-requires-3
-    none-requires
-    noted-requires
+    (λ c κs. search needs)
+    (λ c κs. search needs)
     add-requires
-    noted-requires-2
+    (λ c κs. search needs)
     add-requires-2
-    noted-requires-3
+    (λ c κs. search needs)
     add-requires-3
-    at-moment-requires
+    (λ c κs. search needs)
     returns)

@@ -5,28 +5,11 @@ use Rattle.actuator.proofs.Rooms.{due-room}
 use borrow.Author.Needs.{needs}
 use Rattle.actuator.proofs.clock.tick_once.Statement.{statement}
 use Rattle.actuator.proofs.clock.tick_once.Tie as tie
-use Rattle.actuator.proofs.clock.tick_once.Reads as reads
-use Rattle.actuator.proofs.clock.tick_once.Lts as lts
-use Rattle.actuator.proofs.clock.at_moment.Reads as at-moment-reads
-use Rattle.phases.proofs.phase.at_deadline.Reads as at-deadline-reads
-use Rattle.phases.proofs.phase.deadline_of.Reads as deadline-of-reads
-
-deadline-of-requires : tie.Need-deadline-of-requires
-deadline-of-requires c κs = search needs
-
-enum-told : tie.Need-enum-told
-enum-told c = search needs
-
-enum-known-deadline : tie.Need-enum-known-deadline
-enum-known-deadline c = search needs
 
 at-deadline-requires : tie.Need-at-deadline-requires
 at-deadline-requires c κs =
     let a = c .before .before .before .before .before .before in
     due-room (a .args .s .params) (a .args .s .phase) (a .args .t) _ (sym (c .before .before .before .before .deadline-of .ensures) ∙ c .before .before .deadline .given .1) (c .if1 .taken) (a .pre)
-
-at-moment-requires : tie.Need-at-moment-requires
-at-moment-requires c κs = search needs
 
 returns : tie.Need-returns
 unfolding tick tickAt
@@ -44,11 +27,11 @@ pub tick-once-spec : {M : Type 1} → statement M
 tick-once-spec =
     tie.close
     (tie.spec
-    deadline-of-requires
-    enum-told
-    enum-known-deadline
+    (λ c κs. search needs)
+    (λ c. search needs)
+    (λ c. search needs)
     at-deadline-requires
-    at-moment-requires
+    (λ c κs. search needs)
     returns
     returns-2
     returns-3)

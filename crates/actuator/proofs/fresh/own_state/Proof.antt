@@ -2,16 +2,10 @@ use Rattle.rules.specs.Calls.{leastParams, noScenes, ownState, unused}
 use borrow.Author.Needs.{needs}
 use Rattle.actuator.proofs.fresh.own_state.Statement.{statement}
 use Rattle.actuator.proofs.fresh.own_state.Tie as tie
-use Rattle.actuator.proofs.fresh.own_state.Reads as reads
-use Rattle.actuator.proofs.fresh.own_state.Lts as lts
-use Rattle.actuator.proofs.fresh.fresh_with.Reads as fresh-with-reads
-
-fresh-with-requires : tie.Need-fresh-with-requires
-fresh-with-requires c κs = search needs
 
 returns : tie.Need-returns
 unfolding ownState leastParams noScenes unused
 returns c = simp (c .fresh-with .ensures)
 
 pub own-state-spec : {M : Type 1} → statement M
-own-state-spec = tie.close (tie.spec fresh-with-requires returns)
+own-state-spec = tie.close (tie.spec (λ c κs. search needs) returns)

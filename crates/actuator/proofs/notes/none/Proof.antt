@@ -3,8 +3,6 @@ use Rattle.rules.specs.Calls.{places, blank}
 use borrow.Author.Needs.{needs}
 use Rattle.actuator.proofs.notes.none.Statement.{statement}
 use Rattle.actuator.proofs.notes.none.Tie as tie
-use Rattle.actuator.proofs.notes.none.Reads as reads
-use Rattle.actuator.proofs.notes.none.Lts as lts
 
 returns : tie.Need-returns
 unfolding noNotes notes places blank

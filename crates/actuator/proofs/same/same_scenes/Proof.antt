@@ -1,4 +1,4 @@
-use Prim.Native.Nat.{ℕ, _≤_, _-_}
+use Prim.Native.Nat.{_≤_, _-_}
 use mathlib.Core.Path.{_≡_, sym, _∙_}
 use lib.ListN.{length, drop, length-drop}
 use native.Mathlib.Numerals.{add-one}
@@ -8,9 +8,6 @@ use Rattle.rules.specs.Answers.{sameScenes}
 use Rattle.actuator.proofs.Tables.{same-step, same-none}
 use Rattle.actuator.proofs.same.same_scenes.Statement.{statement}
 use Rattle.actuator.proofs.same.same_scenes.Tie as tie
-use Rattle.actuator.proofs.same.same_scenes.Reads as reads
-use Rattle.actuator.proofs.same.same_scenes.Lts as lts
-use Rattle.actuator.proofs.same.same_scene.Reads as same-scene-reads
 
 -- the entries so far are the same
 abbrev Inv-loop : tie.InvT-loop
@@ -18,30 +15,6 @@ Inv-loop a b i₀ i = (i ≤ 8) × (length a ≡ 8) × (length b ≡ 8) × (same
 
 abbrev μ-loop : tie.MeasureT-loop
 μ-loop a b i₀ i = 8 - i
-
-loop-holds : tie.Need-loop-holds Inv-loop μ-loop
-loop-holds c = search needs
-
-mul-x : tie.Need-mul-x Inv-loop μ-loop
-mul-x c = search needs
-
-array-copy-out-x : tie.Need-array-copy-out-x Inv-loop μ-loop
-array-copy-out-x c = search needs
-
-mul-y : tie.Need-mul-y Inv-loop μ-loop
-mul-y c = search needs
-
-array-copy-out-y : tie.Need-array-copy-out-y Inv-loop μ-loop
-array-copy-out-y c = search needs
-
-same-scene-requires : tie.Need-same-scene-requires Inv-loop μ-loop
-same-scene-requires c κs = search needs
-
-add-i : tie.Need-add-i Inv-loop μ-loop
-add-i c = search needs
-
-loop-less : tie.Need-loop-less Inv-loop μ-loop
-loop-less c = search needs
 
 loop-again : tie.Need-loop-again Inv-loop μ-loop
 loop-again c =
@@ -71,14 +44,14 @@ same-scenes-spec =
     (tie.spec
     Inv-loop
     μ-loop
-    loop-holds
-    mul-x
-    array-copy-out-x
-    mul-y
-    array-copy-out-y
-    same-scene-requires
-    add-i
-    loop-less
+    (λ c. search needs)
+    (λ c. search needs)
+    (λ c. search needs)
+    (λ c. search needs)
+    (λ c. search needs)
+    (λ c κs. search needs)
+    (λ c. search needs)
+    (λ c. search needs)
     loop-again
     returns
     returns-2)

@@ -3,16 +3,6 @@ use borrow.Author.Tests.{eq-eqb, ne-eqb}
 use borrow.Author.Needs.{needs}
 use Rattle.actuator.proofs.sound.entry_in_range.Statement.{statement}
 use Rattle.actuator.proofs.sound.entry_in_range.Tie as tie
-use Rattle.actuator.proofs.sound.entry_in_range.Reads as reads
-use Rattle.actuator.proofs.sound.entry_in_range.Lts as lts
-use Rattle.phases.proofs.logic.either.Reads as either-reads
-use Rattle.phases.proofs.logic.negated.Reads as negated-reads
-
-either-requires : tie.Need-either-requires
-either-requires c κs = search needs
-
-negated-requires : tie.Need-negated-requires
-negated-requires c κs = search needs
 
 returns : tie.Need-returns
 unfolding entryInRange
@@ -23,4 +13,4 @@ unfolding entryInRange
 returns-2 c = simp (ne-eqb _ _ (c .before .if1 .left))
 
 pub entry-in-range-spec : {M : Type 1} → statement M
-entry-in-range-spec = tie.close (tie.spec either-requires negated-requires returns returns-2)
+entry-in-range-spec = tie.close (tie.spec (λ c κs. search needs) (λ c κs. search needs) returns returns-2)

@@ -2,24 +2,6 @@ use Rattle.rules.specs.Soundness.{nightEnds}
 use borrow.Author.Needs.{needs}
 use Rattle.actuator.proofs.sound.night_ends.Statement.{statement}
 use Rattle.actuator.proofs.sound.night_ends.Tie as tie
-use Rattle.actuator.proofs.sound.night_ends.Reads as reads
-use Rattle.actuator.proofs.sound.night_ends.Lts as lts
-use Rattle.actuator.proofs.sound.is_lit.Reads as is-lit-reads
-use Rattle.orders.proofs.state.stands.Reads as stands-reads
-use Rattle.phases.proofs.logic.both.Reads as both-reads
-use Rattle.phases.proofs.logic.either.Reads as either-reads
-
-is-lit-requires : tie.Need-is-lit-requires
-is-lit-requires c κs = search needs
-
-both-requires : tie.Need-both-requires
-both-requires c κs = search needs
-
-stands-requires : tie.Need-stands-requires
-stands-requires c κs = search needs
-
-either-requires : tie.Need-either-requires
-either-requires c κs = search needs
 
 returns : tie.Need-returns
 unfolding nightEnds
@@ -32,4 +14,4 @@ returns-2 c = simp (c .if1 .left, ← c .before .both .ensures, ← c .before .b
 pub night-ends-spec : {M : Type 1} → statement M
 night-ends-spec =
     tie.close
-    (tie.spec is-lit-requires both-requires stands-requires either-requires returns returns-2)
+    (tie.spec (λ c κs. search needs) (λ c κs. search needs) (λ c κs. search needs) (λ c κs. search needs) returns returns-2)

@@ -1,4 +1,4 @@
-use Prim.Native.Nat.{ℕ, _≤_, _-_}
+use Prim.Native.Nat.{_≤_, _-_}
 use mathlib.Core.Path.{_≡_, sym, _∙_}
 use lib.ListN.{length, drop, length-drop}
 use native.Mathlib.Omega.{arith}
@@ -7,9 +7,6 @@ use Rattle.rules.specs.Scenes.{scenesInRange}
 use Rattle.actuator.proofs.Tables.{range-goes-on, range-ends, range-none}
 use Rattle.actuator.proofs.sound.scenes_in_range.Statement.{statement}
 use Rattle.actuator.proofs.sound.scenes_in_range.Tie as tie
-use Rattle.actuator.proofs.sound.scenes_in_range.Reads as reads
-use Rattle.actuator.proofs.sound.scenes_in_range.Lts as lts
-use Rattle.actuator.proofs.sound.entry_fits.Reads as entry-fits-reads
 
 -- the entries so far are in range
 abbrev Inv-loop : tie.InvT-loop
@@ -17,27 +14,6 @@ Inv-loop k i₀ i = (i ≤ 8) × (length k ≡ 8) × (scenesInRange k ≡ scenes
 
 abbrev μ-loop : tie.MeasureT-loop
 μ-loop k i₀ i = 8 - i
-
-loop-holds : tie.Need-loop-holds Inv-loop μ-loop
-loop-holds c = search needs
-
-mul-e : tie.Need-mul-e Inv-loop μ-loop
-mul-e c = search needs
-
-array-copy-out-e : tie.Need-array-copy-out-e Inv-loop μ-loop
-array-copy-out-e c = search needs
-
-add-entry-fits : tie.Need-add-entry-fits Inv-loop μ-loop
-add-entry-fits c = search needs
-
-entry-fits-requires : tie.Need-entry-fits-requires Inv-loop μ-loop
-entry-fits-requires c κs = search needs
-
-add-i : tie.Need-add-i Inv-loop μ-loop
-add-i c = search needs
-
-loop-less : tie.Need-loop-less Inv-loop μ-loop
-loop-less c = search needs
 
 loop-again : tie.Need-loop-again Inv-loop μ-loop
 loop-again c =
@@ -66,13 +42,13 @@ scenes-in-range-spec =
     (tie.spec
     Inv-loop
     μ-loop
-    loop-holds
-    mul-e
-    array-copy-out-e
-    add-entry-fits
-    entry-fits-requires
-    add-i
-    loop-less
+    (λ c. search needs)
+    (λ c. search needs)
+    (λ c. search needs)
+    (λ c. search needs)
+    (λ c κs. search needs)
+    (λ c. search needs)
+    (λ c. search needs)
     loop-again
     returns
     returns-2)

@@ -2,12 +2,6 @@ use Rattle.rules.specs.Status.{value}
 use borrow.Author.Needs.{needs}
 use Rattle.actuator.proofs.status.value_of.Statement.{statement}
 use Rattle.actuator.proofs.status.value_of.Tie as tie
-use Rattle.actuator.proofs.status.value_of.Reads as reads
-use Rattle.actuator.proofs.status.value_of.Lts as lts
-use Rattle.phases.proofs.phase.output_of.Reads as output-of-reads
-
-output-of-requires : tie.Need-output-of-requires
-output-of-requires c κs = search needs
 
 returns : tie.Need-returns
 unfolding value
@@ -18,4 +12,4 @@ unfolding value
 returns-2 c = simp (c .if1 .left, ← c .before .output-of .ensures)
 
 pub value-of-spec : {M : Type 1} → statement M
-value-of-spec = tie.close (tie.spec output-of-requires returns returns-2)
+value-of-spec = tie.close (tie.spec (λ c κs. search needs) returns returns-2)

@@ -6,21 +6,9 @@ use Rattle.actuator.proofs.Taken.{open-is-taken, barred-is-stopped}
 use borrow.Author.Needs.{needs}
 use Rattle.actuator.proofs.step.step_input.Statement.{statement}
 use Rattle.actuator.proofs.step.step_input.Tie as tie
-use Rattle.actuator.proofs.step.step_input.Reads as reads
-use Rattle.actuator.proofs.step.step_input.Lts as lts
-use Rattle.actuator.proofs.barrier.barrier_to.Reads as barrier-to-reads
-use Rattle.actuator.proofs.clock.move_clock.Reads as move-clock-reads
-use Rattle.actuator.proofs.step.stop.Reads as stop-reads
-use Rattle.actuator.proofs.step.take.Reads as take-reads
 
 move-clock-requires : tie.Need-move-clock-requires
 move-clock-requires c κs = sound-room (c .args .s) (c .args .t) (c .pre .0) (c .pre .2)
-
-barrier-to-requires : tie.Need-barrier-to-requires
-barrier-to-requires c κs = search needs
-
-enum-told : tie.Need-enum-told
-enum-told c = search needs
 
 take-requires : tie.Need-take-requires
 unfolding clocked notes
@@ -28,30 +16,6 @@ take-requires c κs =
     let a = c .before .before .before .before .before in
     rw (c .before .before .before .before .move-clock .ensures)
     (moved-roomy (a .args .s) (a .args .t) (a .pre .0) (a .pre .1) (a .pre .2), a-move-writes-at-most-two (a .args .s) (a .args .t))
-
-enum-told-2 : tie.Need-enum-told-2
-enum-told-2 c = search needs
-
-stop-requires : tie.Need-stop-requires
-stop-requires c κs = search needs
-
-enum-told-3 : tie.Need-enum-told-3
-enum-told-3 c = search needs
-
-stop-requires-2 : tie.Need-stop-requires-2
-stop-requires-2 c κs = search needs
-
-enum-told-4 : tie.Need-enum-told-4
-enum-told-4 c = search needs
-
-stop-requires-3 : tie.Need-stop-requires-3
-stop-requires-3 c κs = search needs
-
-enum-told-5 : tie.Need-enum-told-5
-enum-told-5 c = search needs
-
-stop-requires-4 : tie.Need-stop-requires-4
-stop-requires-4 c κs = search needs
 
 returns : tie.Need-returns
 unfolding clocked
@@ -97,17 +61,17 @@ step-input-spec =
     tie.close
     (tie.spec
     move-clock-requires
-    barrier-to-requires
-    enum-told
+    (λ c κs. search needs)
+    (λ c. search needs)
     take-requires
-    enum-told-2
-    stop-requires
-    enum-told-3
-    stop-requires-2
-    enum-told-4
-    stop-requires-3
-    enum-told-5
-    stop-requires-4
+    (λ c. search needs)
+    (λ c κs. search needs)
+    (λ c. search needs)
+    (λ c κs. search needs)
+    (λ c. search needs)
+    (λ c κs. search needs)
+    (λ c. search needs)
+    (λ c κs. search needs)
     returns
     returns-2
     returns-3

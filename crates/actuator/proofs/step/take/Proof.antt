@@ -2,32 +2,6 @@ use Rattle.actuator.specs.Notes.{takenBy}
 use borrow.Author.Needs.{needs}
 use Rattle.actuator.proofs.step.take.Statement.{statement}
 use Rattle.actuator.proofs.step.take.Tie as tie
-use Rattle.actuator.proofs.step.take.Reads as reads
-use Rattle.actuator.proofs.step.take.Lts as lts
-use Rattle.actuator.proofs.barrier.kind_of.Reads as kind-of-reads
-use Rattle.actuator.proofs.notes.add.Reads as add-reads
-use Rattle.actuator.proofs.notes.noted.Reads as noted-reads
-use Rattle.actuator.proofs.same.same_but_clock.Reads as same-but-clock-reads
-use Rattle.actuator.proofs.step.answer_number.Reads as answer-number-reads
-use Rattle.orders.proofs.order.carry_out.Reads as carry-out-reads
-
-carry-out-requires : tie.Need-carry-out-requires
-carry-out-requires c κs = search needs
-
-kind-of-requires : tie.Need-kind-of-requires
-kind-of-requires c κs = search needs
-
-noted-requires : tie.Need-noted-requires
-noted-requires c κs = search needs
-
-add-requires : tie.Need-add-requires
-add-requires c κs = search needs
-
-same-but-clock-requires : tie.Need-same-but-clock-requires
-same-but-clock-requires c κs = search needs
-
-answer-number-requires : tie.Need-answer-number-requires
-answer-number-requires c κs = search needs
 
 returns : tie.Need-returns
 unfolding takenBy
@@ -37,10 +11,10 @@ pub take-spec : {M : Type 1} → statement M
 take-spec =
     tie.close
     (tie.spec
-    carry-out-requires
-    kind-of-requires
-    noted-requires
-    add-requires
-    same-but-clock-requires
-    answer-number-requires
+    (λ c κs. search needs)
+    (λ c κs. search needs)
+    (λ c κs. search needs)
+    (λ c κs. search needs)
+    (λ c κs. search needs)
+    (λ c κs. search needs)
     returns)

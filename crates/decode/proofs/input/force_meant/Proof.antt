@@ -3,8 +3,6 @@ use native.Mathlib.Omega.{arith}
 use borrow.Author.Tests.{ne-eqb, le-leb, lt-leb}
 use Rattle.decode.proofs.input.force_meant.Statement.{statement}
 use Rattle.decode.proofs.input.force_meant.Tie as tie
-use Rattle.decode.proofs.input.force_meant.Reads as reads
-use Rattle.decode.proofs.input.force_meant.Lts as lts
 
 returns : tie.Need-returns
 unfolding forceMeant

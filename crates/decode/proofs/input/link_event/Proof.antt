@@ -4,15 +4,6 @@ use native.Mathlib.Omega.{arith}
 use borrow.Author.Needs.{needs}
 use Rattle.decode.proofs.input.link_event.Statement.{statement}
 use Rattle.decode.proofs.input.link_event.Tie as tie
-use Rattle.decode.proofs.input.link_event.Reads as reads
-use Rattle.decode.proofs.input.link_event.Lts as lts
-use Rattle.decode.proofs.input.zero_or_one.Reads as zero-or-one-reads
-
-zero-or-one-requires : tie.Need-zero-or-one-requires
-zero-or-one-requires c κs = search needs
-
-zero-or-one-requires-2 : tie.Need-zero-or-one-requires-2
-zero-or-one-requires-2 c κs = search needs
 
 returns : tie.Need-returns
 unfolding decoded
@@ -25,4 +16,4 @@ returns-2 c = let last : c .before .before .args .kind ≡ 8 = omega arith in si
 
 pub link-event-spec : {M : Type 1} → statement M
 link-event-spec =
-    tie.close (tie.spec zero-or-one-requires zero-or-one-requires-2 returns returns-2)
+    tie.close (tie.spec (λ c κs. search needs) (λ c κs. search needs) returns returns-2)

@@ -4,19 +4,6 @@ use native.Mathlib.Omega.{arith}
 use borrow.Author.Needs.{needs}
 use Rattle.decode.proofs.input.manager_input.Statement.{statement}
 use Rattle.decode.proofs.input.manager_input.Tie as tie
-use Rattle.decode.proofs.input.manager_input.Reads as reads
-use Rattle.decode.proofs.input.manager_input.Lts as lts
-use Rattle.decode.proofs.input.force_meant.Reads as force-meant-reads
-use Rattle.decode.proofs.input.zero_or_one.Reads as zero-or-one-reads
-
-force-meant-requires : tie.Need-force-meant-requires
-force-meant-requires c κs = search needs
-
-zero-or-one-requires : tie.Need-zero-or-one-requires
-zero-or-one-requires c κs = search needs
-
-zero-or-one-requires-2 : tie.Need-zero-or-one-requires-2
-zero-or-one-requires-2 c κs = search needs
 
 returns : tie.Need-returns
 unfolding decoded
@@ -35,9 +22,9 @@ pub manager-input-spec : {M : Type 1} → statement M
 manager-input-spec =
     tie.close
     (tie.spec
-    force-meant-requires
-    zero-or-one-requires
-    zero-or-one-requires-2
+    (λ c κs. search needs)
+    (λ c κs. search needs)
+    (λ c κs. search needs)
     returns
     returns-2
     returns-3)

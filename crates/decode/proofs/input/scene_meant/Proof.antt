@@ -2,8 +2,6 @@ use Rattle.rules.specs.Inputs.{sceneMeant}
 use borrow.Author.Tests.{eq-eqb, ne-eqb}
 use Rattle.decode.proofs.input.scene_meant.Statement.{statement}
 use Rattle.decode.proofs.input.scene_meant.Tie as tie
-use Rattle.decode.proofs.input.scene_meant.Reads as reads
-use Rattle.decode.proofs.input.scene_meant.Lts as lts
 
 returns : tie.Need-returns
 unfolding sceneMeant

@@ -4,19 +4,6 @@ use native.Mathlib.Omega.{arith}
 use borrow.Author.Needs.{needs}
 use Rattle.decode.proofs.input.sensor_input.Statement.{statement}
 use Rattle.decode.proofs.input.sensor_input.Tie as tie
-use Rattle.decode.proofs.input.sensor_input.Reads as reads
-use Rattle.decode.proofs.input.sensor_input.Lts as lts
-use Rattle.decode.proofs.input.scene_meant.Reads as scene-meant-reads
-use Rattle.decode.proofs.input.zero_or_one.Reads as zero-or-one-reads
-
-zero-or-one-requires : tie.Need-zero-or-one-requires
-zero-or-one-requires c κs = search needs
-
-zero-or-one-requires-2 : tie.Need-zero-or-one-requires-2
-zero-or-one-requires-2 c κs = search needs
-
-scene-meant-requires : tie.Need-scene-meant-requires
-scene-meant-requires c κs = search needs
 
 returns : tie.Need-returns
 unfolding decoded
@@ -35,9 +22,9 @@ pub sensor-input-spec : {M : Type 1} → statement M
 sensor-input-spec =
     tie.close
     (tie.spec
-    zero-or-one-requires
-    zero-or-one-requires-2
-    scene-meant-requires
+    (λ c κs. search needs)
+    (λ c κs. search needs)
+    (λ c κs. search needs)
     returns
     returns-2
     returns-3)

@@ -2,8 +2,6 @@ use Rattle.rules.specs.Inputs.{zeroOrOne}
 use borrow.Author.Tests.{ne-eqb}
 use Rattle.decode.proofs.input.zero_or_one.Statement.{statement}
 use Rattle.decode.proofs.input.zero_or_one.Tie as tie
-use Rattle.decode.proofs.input.zero_or_one.Reads as reads
-use Rattle.decode.proofs.input.zero_or_one.Lts as lts
 
 returns : tie.Need-returns
 unfolding zeroOrOne

@@ -3,12 +3,6 @@ use borrow.Author.Tests.{eq-eqb, ne-eqb}
 use borrow.Author.Needs.{needs}
 use Rattle.decode.proofs.parameters.check_parameters.Statement.{statement}
 use Rattle.decode.proofs.parameters.check_parameters.Tie as tie
-use Rattle.decode.proofs.parameters.check_parameters.Reads as reads
-use Rattle.decode.proofs.parameters.check_parameters.Lts as lts
-use Rattle.decode.proofs.range.lowest_bad.Reads as lowest-bad-reads
-
-lowest-bad-requires : tie.Need-lowest-bad-requires
-lowest-bad-requires c κs = search needs
 
 returns : tie.Need-returns
 unfolding checkParameters
@@ -19,4 +13,4 @@ unfolding checkParameters
 returns-2 c = simp (ne-eqb _ _ (c .if1 .left))
 
 pub check-parameters-spec : {M : Type 1} → statement M
-check-parameters-spec = tie.close (tie.spec lowest-bad-requires returns returns-2)
+check-parameters-spec = tie.close (tie.spec (λ c κs. search needs) returns returns-2)

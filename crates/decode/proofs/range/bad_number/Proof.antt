@@ -3,25 +3,6 @@ use borrow.Author.Tests.{le-leb, lt-leb}
 use borrow.Author.Needs.{needs}
 use Rattle.decode.proofs.range.bad_number.Statement.{statement}
 use Rattle.decode.proofs.range.bad_number.Tie as tie
-use Rattle.decode.proofs.range.bad_number.Reads as reads
-use Rattle.decode.proofs.range.bad_number.Lts as lts
-use Rattle.decode.proofs.range.number_above.Reads as number-above-reads
-use Rattle.phases.proofs.logic.negated.Reads as negated-reads
-
-mul-number : tie.Need-mul-number
-mul-number c = search needs
-
-add-number : tie.Need-add-number
-add-number c = search needs
-
-shared-slice-read-number : tie.Need-shared-slice-read-number
-shared-slice-read-number c = search needs
-
-number-above-requires : tie.Need-number-above-requires
-number-above-requires c κs = search needs
-
-negated-requires : tie.Need-negated-requires
-negated-requires c κs = search needs
 
 returns : tie.Need-returns
 unfolding badNumber
@@ -35,10 +16,10 @@ pub bad-number-spec : {M : Type 1} → statement M
 bad-number-spec =
     tie.close
     (tie.spec
-    mul-number
-    add-number
-    shared-slice-read-number
-    number-above-requires
-    negated-requires
+    (λ c. search needs)
+    (λ c. search needs)
+    (λ c. search needs)
+    (λ c κs. search needs)
+    (λ c κs. search needs)
     returns
     returns-2)

@@ -3,27 +3,6 @@ use borrow.Author.Tests.{eq-eqb, ne-eqb, lt-ltb, le-ltb}
 use borrow.Author.Needs.{needs}
 use Rattle.decode.proofs.range.bad_octet.Statement.{statement}
 use Rattle.decode.proofs.range.bad_octet.Tie as tie
-use Rattle.decode.proofs.range.bad_octet.Reads as reads
-use Rattle.decode.proofs.range.bad_octet.Lts as lts
-use Rattle.decode.proofs.range.bad_delay.Reads as bad-delay-reads
-use Rattle.decode.proofs.range.bad_flags.Reads as bad-flags-reads
-use Rattle.decode.proofs.range.bad_number.Reads as bad-number-reads
-use Rattle.decode.proofs.range.greatest_at.Reads as greatest-at-reads
-
-bad-delay-requires : tie.Need-bad-delay-requires
-bad-delay-requires c κs = search needs
-
-greatest-at-requires : tie.Need-greatest-at-requires
-greatest-at-requires c κs = search needs
-
-shared-slice-read-result : tie.Need-shared-slice-read-result
-shared-slice-read-result c = search needs
-
-bad-number-requires : tie.Need-bad-number-requires
-bad-number-requires c κs = search needs
-
-bad-flags-requires : tie.Need-bad-flags-requires
-bad-flags-requires c κs = search needs
 
 returns : tie.Need-returns
 unfolding badOctet
@@ -45,11 +24,11 @@ pub bad-octet-spec : {M : Type 1} → statement M
 bad-octet-spec =
     tie.close
     (tie.spec
-    bad-delay-requires
-    greatest-at-requires
-    shared-slice-read-result
-    bad-number-requires
-    bad-flags-requires
+    (λ c κs. search needs)
+    (λ c κs. search needs)
+    (λ c. search needs)
+    (λ c κs. search needs)
+    (λ c κs. search needs)
     returns
     returns-2
     returns-3

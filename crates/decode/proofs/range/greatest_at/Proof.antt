@@ -2,15 +2,10 @@ use Rattle.rules.specs.Parameters.{greatest}
 use borrow.Author.Needs.{needs}
 use Rattle.decode.proofs.range.greatest_at.Statement.{statement}
 use Rattle.decode.proofs.range.greatest_at.Tie as tie
-use Rattle.decode.proofs.range.greatest_at.Reads as reads
-use Rattle.decode.proofs.range.greatest_at.Lts as lts
-
-array-read-result : tie.Need-array-read-result
-array-read-result c = search needs
 
 returns : tie.Need-returns
 unfolding greatest
 returns c = search needs
 
 pub greatest-at-spec : {M : Type 1} → statement M
-greatest-at-spec = tie.close (tie.spec array-read-result returns)
+greatest-at-spec = tie.close (tie.spec (λ c. search needs) returns)

@@ -6,9 +6,6 @@ use Rattle.rules.specs.Refusals.{lowestBad}
 use Rattle.decode.proofs.Loops.{lowest-step, lowest-none}
 use Rattle.decode.proofs.range.lowest_bad.Statement.{statement}
 use Rattle.decode.proofs.range.lowest_bad.Tie as tie
-use Rattle.decode.proofs.range.lowest_bad.Reads as reads
-use Rattle.decode.proofs.range.lowest_bad.Lts as lts
-use Rattle.decode.proofs.range.bad_octet.Reads as bad-octet-reads
 
 -- no octet so far is out of range
 abbrev Inv-loop : tie.InvT-loop
@@ -17,25 +14,10 @@ Inv-loop octets at₀ at = (at ≤ 32) × (lowestBad octets 32 0 ≡ lowestBad o
 abbrev μ-loop : tie.MeasureT-loop
 μ-loop octets at₀ at = 32 - at
 
-loop-holds : tie.Need-loop-holds Inv-loop μ-loop
-loop-holds c = search needs
-
-bad-octet-requires : tie.Need-bad-octet-requires Inv-loop μ-loop
-bad-octet-requires c κs = search needs
-
-cast-t6 : tie.Need-cast-t6 Inv-loop μ-loop
-cast-t6 c = search needs
-
 returns : tie.Need-returns Inv-loop μ-loop
 returns c =
     let l = c .before .before .before .loop in
     sym (l .inv .1 ∙ (simp (← c .before .bad-octet .ensures, c .if1 .taken) at (lowest-step (c .before .before .before .before .before .args .octets .now) (l .at) (omega arith))))
-
-add-at : tie.Need-add-at Inv-loop μ-loop
-add-at c = search needs
-
-loop-less : tie.Need-loop-less Inv-loop μ-loop
-loop-less c = search needs
 
 loop-again : tie.Need-loop-again Inv-loop μ-loop
 loop-again c =
@@ -53,11 +35,11 @@ lowest-bad-spec =
     (tie.spec
     Inv-loop
     μ-loop
-    loop-holds
-    bad-octet-requires
-    cast-t6
+    (λ c. search needs)
+    (λ c κs. search needs)
+    (λ c. search needs)
     returns
-    add-at
-    loop-less
+    (λ c. search needs)
+    (λ c. search needs)
     loop-again
     returns-2)

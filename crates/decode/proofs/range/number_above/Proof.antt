@@ -7,8 +7,6 @@ use Rattle.rules.specs.Parameters.{numberAbove}
 use Rattle.decode.proofs.Loops.{above-step, above-none}
 use Rattle.decode.proofs.range.number_above.Statement.{statement}
 use Rattle.decode.proofs.range.number_above.Tie as tie
-use Rattle.decode.proofs.range.number_above.Reads as reads
-use Rattle.decode.proofs.range.number_above.Lts as lts
 
 -- no entry from this one on has the number
 abbrev Inv-loop : tie.InvT-loop
@@ -17,29 +15,11 @@ Inv-loop octets number entries entry₀ entry = (entry ≤ entries) × (numberAb
 abbrev μ-loop : tie.MeasureT-loop
 μ-loop octets number entries entry₀ entry = entry
 
-loop-holds : tie.Need-loop-holds Inv-loop μ-loop
-loop-holds c = search needs
-
-sub-entry : tie.Need-sub-entry Inv-loop μ-loop
-sub-entry c = search needs
-
-mul-if1 : tie.Need-mul-if1 Inv-loop μ-loop
-mul-if1 c = search needs
-
-add-if1 : tie.Need-add-if1 Inv-loop μ-loop
-add-if1 c = search needs
-
-shared-slice-read-if1 : tie.Need-shared-slice-read-if1 Inv-loop μ-loop
-shared-slice-read-if1 c = search needs
-
 returns : tie.Need-returns Inv-loop μ-loop
 returns c =
     let a = c .before .before .before .before .args in
     let l = c .before .before .before .loop in
     sym (l .inv .1 ∙ (simp (eq-eqb _ _ (c .if1 .taken)) at (above-step (a .octets .now) (a .number) (l .entry) (omega arith))))
-
-loop-less : tie.Need-loop-less Inv-loop μ-loop
-loop-less c = search needs
 
 loop-again : tie.Need-loop-again Inv-loop μ-loop
 loop-again c =
@@ -59,12 +39,12 @@ number-above-spec =
     (tie.spec
     Inv-loop
     μ-loop
-    loop-holds
-    sub-entry
-    mul-if1
-    add-if1
-    shared-slice-read-if1
+    (λ c. search needs)
+    (λ c. search needs)
+    (λ c. search needs)
+    (λ c. search needs)
+    (λ c. search needs)
     returns
-    loop-less
+    (λ c. search needs)
     loop-again
     returns-2)

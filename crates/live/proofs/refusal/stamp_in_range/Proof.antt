@@ -2,16 +2,10 @@ use Rattle.rules.specs.Refusals.{stampInRange}
 use borrow.Author.Needs.{needs}
 use Rattle.live.proofs.refusal.stamp_in_range.Statement.{statement}
 use Rattle.live.proofs.refusal.stamp_in_range.Tie as tie
-use Rattle.live.proofs.refusal.stamp_in_range.Reads as reads
-use Rattle.live.proofs.refusal.stamp_in_range.Lts as lts
-use Rattle.phases.proofs.logic.both.Reads as both-reads
-
-both-requires : tie.Need-both-requires
-both-requires c κs = search needs
 
 returns : tie.Need-returns
 unfolding stampInRange
 returns c = simp (← c .both .ensures)
 
 pub stamp-in-range-spec : {M : Type 1} → statement M
-stamp-in-range-spec = tie.close (tie.spec both-requires returns)
+stamp-in-range-spec = tie.close (tie.spec (λ c κs. search needs) returns)

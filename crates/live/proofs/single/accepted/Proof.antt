@@ -2,8 +2,6 @@ use Rattle.live.specs.ByValue.{singleOf}
 use borrow.Author.Needs.{needs}
 use Rattle.live.proofs.single.accepted.Statement.{statement}
 use Rattle.live.proofs.single.accepted.Tie as tie
-use Rattle.live.proofs.single.accepted.Reads as reads
-use Rattle.live.proofs.single.accepted.Lts as lts
 
 returns : tie.Need-returns
 unfolding singleOf

@@ -2,23 +2,6 @@ use Rattle.rules.specs.Orders.{timed}
 use borrow.Author.Needs.{needs}
 use Rattle.orders.proofs.light.timed_order.Statement.{statement}
 use Rattle.orders.proofs.light.timed_order.Tie as tie
-use Rattle.orders.proofs.light.timed_order.Reads as reads
-use Rattle.orders.proofs.light.timed_order.Lts as lts
-use Rattle.orders.proofs.state.with_phase.Reads as with-phase-reads
-use Rattle.phases.proofs.order.order_timed_start.Reads as order-timed-start-reads
-use Rattle.phases.proofs.order.order_timed_stop.Reads as order-timed-stop-reads
-
-order-timed-start-requires : tie.Need-order-timed-start-requires
-order-timed-start-requires c κs = search needs
-
-with-phase-requires : tie.Need-with-phase-requires
-with-phase-requires c κs = search needs
-
-order-timed-stop-requires : tie.Need-order-timed-stop-requires
-order-timed-stop-requires c κs = search needs
-
-with-phase-requires-2 : tie.Need-with-phase-requires-2
-with-phase-requires-2 c κs = search needs
 
 returns : tie.Need-returns
 unfolding timed
@@ -32,9 +15,9 @@ pub timed-order-spec : {M : Type 1} → statement M
 timed-order-spec =
     tie.close
     (tie.spec
-    order-timed-start-requires
-    with-phase-requires
-    order-timed-stop-requires
-    with-phase-requires-2
+    (λ c κs. search needs)
+    (λ c κs. search needs)
+    (λ c κs. search needs)
+    (λ c κs. search needs)
     returns
     returns-2)

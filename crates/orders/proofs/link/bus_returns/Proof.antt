@@ -1,21 +1,7 @@
 use Rattle.rules.specs.Orders.{bus}
-use native.Mathlib.Omega.{arith}
 use borrow.Author.Needs.{needs}
 use Rattle.orders.proofs.link.bus_returns.Statement.{statement}
 use Rattle.orders.proofs.link.bus_returns.Tie as tie
-use Rattle.orders.proofs.link.bus_returns.Reads as reads
-use Rattle.orders.proofs.link.bus_returns.Lts as lts
-use Rattle.orders.proofs.link.by_bus_mode.Reads as by-bus-mode-reads
-use Rattle.orders.proofs.state.with_link.Reads as with-link-reads
-
-enum-told : tie.Need-enum-told
-enum-told c = search needs
-
-enum-told-2 : tie.Need-enum-told-2
-enum-told-2 c = search needs
-
-with-link-requires : tie.Need-with-link-requires
-with-link-requires c κs = search needs
 
 by-bus-mode-requires : tie.Need-by-bus-mode-requires
 by-bus-mode-requires c κs = rw (c .with-link .ensures) (c .before .before .before .before .pre)
@@ -31,4 +17,4 @@ returns-2 c = simp (c .by-bus-mode .ensures, c .before .with-link .ensures, c .b
 pub bus-returns-spec : {M : Type 1} → statement M
 bus-returns-spec =
     tie.close
-    (tie.spec enum-told enum-told-2 with-link-requires by-bus-mode-requires returns returns-2)
+    (tie.spec (λ c. search needs) (λ c. search needs) (λ c κs. search needs) by-bus-mode-requires returns returns-2)

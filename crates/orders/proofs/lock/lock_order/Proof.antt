@@ -2,16 +2,6 @@ use Rattle.rules.specs.Orders.{lockDevice}
 use borrow.Author.Needs.{needs}
 use Rattle.orders.proofs.lock.lock_order.Statement.{statement}
 use Rattle.orders.proofs.lock.lock_order.Tie as tie
-use Rattle.orders.proofs.lock.lock_order.Reads as reads
-use Rattle.orders.proofs.lock.lock_order.Lts as lts
-use Rattle.orders.proofs.lock.locks.Reads as locks-reads
-use Rattle.orders.proofs.lock.unlocks.Reads as unlocks-reads
-
-locks-requires : tie.Need-locks-requires
-locks-requires c κs = search needs
-
-unlocks-requires : tie.Need-unlocks-requires
-unlocks-requires c κs = search needs
 
 returns : tie.Need-returns
 unfolding lockDevice
@@ -31,4 +21,4 @@ returns-4 c = simp (c .if3 .left, c .before .if1 .left)
 
 pub lock-order-spec : {M : Type 1} → statement M
 lock-order-spec =
-    tie.close (tie.spec locks-requires unlocks-requires returns returns-2 returns-3 returns-4)
+    tie.close (tie.spec (λ c κs. search needs) (λ c κs. search needs) returns returns-2 returns-3 returns-4)

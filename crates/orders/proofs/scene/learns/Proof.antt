@@ -1,4 +1,4 @@
-use Prim.Native.Nat.{ℕ, _≤_, _-_}
+use Prim.Native.Nat.{_≤_, _-_}
 use mathlib.Core.List.{_++_, append-nil}
 use mathlib.Core.Path.{_≡_, sym, _∙_}
 use lib.ListN.{length, take, drop, length-drop}
@@ -11,8 +11,6 @@ use Rattle.rules.specs.Scenes.{learnt}
 use Rattle.orders.proofs.Tables.{learnt-here, learnt-later, learnt-none}
 use Rattle.orders.proofs.scene.learns.Statement.{statement}
 use Rattle.orders.proofs.scene.learns.Tie as tie
-use Rattle.orders.proofs.scene.learns.Reads as reads
-use Rattle.orders.proofs.scene.learns.Lts as lts
 
 -- the entries so far stay as they are
 abbrev Inv-loop : tie.InvT-loop
@@ -21,32 +19,11 @@ Inv-loop number on k i₀ i = (i ≤ 8) × (length k ≡ 8) × (learnt k number 
 abbrev μ-loop : tie.MeasureT-loop
 μ-loop number on k i₀ i = 8 - i
 
-loop-holds : tie.Need-loop-holds Inv-loop μ-loop
-loop-holds c = search needs
-
-mul-e : tie.Need-mul-e Inv-loop μ-loop
-mul-e c = search needs
-
-array-copy-out-e : tie.Need-array-copy-out-e Inv-loop μ-loop
-array-copy-out-e c = search needs
-
-mul-r : tie.Need-mul-r Inv-loop μ-loop
-mul-r c = search needs
-
-array-set-from-r : tie.Need-array-set-from-r Inv-loop μ-loop
-array-set-from-r c = search needs
-
 returns : tie.Need-returns Inv-loop μ-loop
 returns c =
     let a = c .before .before .before .before .before .args in
     let l = c .before .before .before .before .loop in
     sym (l .inv .2 ∙ learnt-here (a .t1) (a .number) (l .i) (omega arith) (a .on) (eq-eqb _ _ (c .if1 .taken)))
-
-add-i : tie.Need-add-i Inv-loop μ-loop
-add-i c = search needs
-
-loop-less : tie.Need-loop-less Inv-loop μ-loop
-loop-less c = search needs
 
 loop-again : tie.Need-loop-again Inv-loop μ-loop
 loop-again c =
@@ -72,13 +49,13 @@ learns-spec =
     (tie.spec
     Inv-loop
     μ-loop
-    loop-holds
-    mul-e
-    array-copy-out-e
-    mul-r
-    array-set-from-r
+    (λ c. search needs)
+    (λ c. search needs)
+    (λ c. search needs)
+    (λ c. search needs)
+    (λ c. search needs)
     returns
-    add-i
-    loop-less
+    (λ c. search needs)
+    (λ c. search needs)
     loop-again
     returns-2)

@@ -1,4 +1,4 @@
-use Prim.Native.Nat.{ℕ, _≤_, _-_}
+use Prim.Native.Nat.{_≤_, _-_}
 use mathlib.Core.Path.{_≡_, sym, _∙_}
 use lib.ListN.{length, drop, length-drop}
 use native.Mathlib.Numerals.{add-one}
@@ -9,8 +9,6 @@ use Rattle.rules.specs.Scenes.{recalled}
 use Rattle.orders.proofs.Tables.{recalled-step, recalled-none}
 use Rattle.orders.proofs.scene.recalls.Statement.{statement}
 use Rattle.orders.proofs.scene.recalls.Tie as tie
-use Rattle.orders.proofs.scene.recalls.Reads as reads
-use Rattle.orders.proofs.scene.recalls.Lts as lts
 
 -- no entry so far has the number
 abbrev Inv-loop : tie.InvT-loop
@@ -18,15 +16,6 @@ Inv-loop number k i₀ i = (i ≤ 8) × (length k ≡ 8) × (recalled k number �
 
 abbrev μ-loop : tie.MeasureT-loop
 μ-loop number k i₀ i = 8 - i
-
-loop-holds : tie.Need-loop-holds Inv-loop μ-loop
-loop-holds c = search needs
-
-mul-e : tie.Need-mul-e Inv-loop μ-loop
-mul-e c = search needs
-
-array-copy-out-e : tie.Need-array-copy-out-e Inv-loop μ-loop
-array-copy-out-e c = search needs
 
 returns : tie.Need-returns Inv-loop μ-loop
 returns c =
@@ -39,12 +28,6 @@ returns-2 c =
     let a = c .before .before .before .before .before .before .args in
     let l = c .before .before .before .before .before .loop in
     sym (l .inv .2 ∙ (simp (eq-eqb _ _ (c .before .if1 .taken), c .if2 .left) at (recalled-step (a .t1) (a .number) (l .i) (omega arith))))
-
-add-i : tie.Need-add-i Inv-loop μ-loop
-add-i c = search needs
-
-loop-less : tie.Need-loop-less Inv-loop μ-loop
-loop-less c = search needs
 
 loop-again : tie.Need-loop-again Inv-loop μ-loop
 loop-again c =
@@ -67,12 +50,12 @@ recalls-spec =
     (tie.spec
     Inv-loop
     μ-loop
-    loop-holds
-    mul-e
-    array-copy-out-e
+    (λ c. search needs)
+    (λ c. search needs)
+    (λ c. search needs)
     returns
     returns-2
-    add-i
-    loop-less
+    (λ c. search needs)
+    (λ c. search needs)
     loop-again
     returns-3)

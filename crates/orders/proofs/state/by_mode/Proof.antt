@@ -2,8 +2,6 @@ use Rattle.rules.specs.Orders.{byMode}
 use borrow.Author.Tests.{eq-eqb, ne-eqb}
 use Rattle.orders.proofs.state.by_mode.Statement.{statement}
 use Rattle.orders.proofs.state.by_mode.Tie as tie
-use Rattle.orders.proofs.state.by_mode.Reads as reads
-use Rattle.orders.proofs.state.by_mode.Lts as lts
 
 returns : tie.Need-returns
 unfolding byMode

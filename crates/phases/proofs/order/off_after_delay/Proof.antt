@@ -3,52 +3,9 @@ use native.Mathlib.Omega.{arith}
 use borrow.Author.Needs.{needs}
 use Rattle.phases.proofs.order.off_after_delay.Statement.{statement}
 use Rattle.phases.proofs.order.off_after_delay.Tie as tie
-use Rattle.phases.proofs.order.off_after_delay.Reads as reads
-use Rattle.phases.proofs.order.off_after_delay.Lts as lts
-use Rattle.phases.proofs.time.earlier_of.Reads as earlier-of-reads
-use Rattle.phases.proofs.time.later.Reads as later-reads
-
-enum-told : tie.Need-enum-told
-enum-told c = search needs
-
-enum-told-2 : tie.Need-enum-told-2
-enum-told-2 c = search needs
-
-later-requires : tie.Need-later-requires
-later-requires c κs = search needs
-
-enum-told-3 : tie.Need-enum-told-3
-enum-told-3 c = search needs
-
-enum-known-phase : tie.Need-enum-known-phase
-enum-known-phase c = search needs
-
-later-requires-2 : tie.Need-later-requires-2
-later-requires-2 c κs = search needs
 
 later-requires-3 : tie.Need-later-requires-3
 later-requires-3 c κs = omega (arith, simp (c .before .before .phase .given .1) at (c .before .before .before .before .pre))
-
-earlier-of-requires : tie.Need-earlier-of-requires
-earlier-of-requires c κs = search needs
-
-enum-known-phase-2 : tie.Need-enum-known-phase-2
-enum-known-phase-2 c = search needs
-
-later-requires-4 : tie.Need-later-requires-4
-later-requires-4 c κs = search needs
-
-earlier-of-requires-2 : tie.Need-earlier-of-requires-2
-earlier-of-requires-2 c κs = search needs
-
-enum-known-phase-3 : tie.Need-enum-known-phase-3
-enum-known-phase-3 c = search needs
-
-later-requires-5 : tie.Need-later-requires-5
-later-requires-5 c κs = search needs
-
-earlier-of-requires-3 : tie.Need-earlier-of-requires-3
-earlier-of-requires-3 c κs = search needs
 
 returns : tie.Need-returns
 unfolding offAfterDelay
@@ -78,20 +35,20 @@ pub off-after-delay-spec : {M : Type 1} → statement M
 off-after-delay-spec =
     tie.close
     (tie.spec
-    enum-told
-    enum-told-2
-    later-requires
-    enum-told-3
-    enum-known-phase
-    later-requires-2
+    (λ c. search needs)
+    (λ c. search needs)
+    (λ c κs. search needs)
+    (λ c. search needs)
+    (λ c. search needs)
+    (λ c κs. search needs)
     later-requires-3
-    earlier-of-requires
-    enum-known-phase-2
-    later-requires-4
-    earlier-of-requires-2
-    enum-known-phase-3
-    later-requires-5
-    earlier-of-requires-3
+    (λ c κs. search needs)
+    (λ c. search needs)
+    (λ c κs. search needs)
+    (λ c κs. search needs)
+    (λ c. search needs)
+    (λ c κs. search needs)
+    (λ c κs. search needs)
     returns
     returns-2
     returns-3

@@ -2,40 +2,6 @@ use Rattle.rules.specs.Orders.{nightFalls}
 use borrow.Author.Needs.{needs}
 use Rattle.phases.proofs.order.order_night.Statement.{statement}
 use Rattle.phases.proofs.order.order_night.Tie as tie
-use Rattle.phases.proofs.order.order_night.Reads as reads
-use Rattle.phases.proofs.order.order_night.Lts as lts
-use Rattle.phases.proofs.time.earlier_of.Reads as earlier-of-reads
-use Rattle.phases.proofs.time.later.Reads as later-reads
-
-enum-told : tie.Need-enum-told
-enum-told c = search needs
-
-enum-told-2 : tie.Need-enum-told-2
-enum-told-2 c = search needs
-
-later-requires : tie.Need-later-requires
-later-requires c κs = search needs
-
-enum-told-3 : tie.Need-enum-told-3
-enum-told-3 c = search needs
-
-enum-told-4 : tie.Need-enum-told-4
-enum-told-4 c = search needs
-
-enum-told-5 : tie.Need-enum-told-5
-enum-told-5 c = search needs
-
-enum-known-phase : tie.Need-enum-known-phase
-enum-known-phase c = search needs
-
-later-requires-2 : tie.Need-later-requires-2
-later-requires-2 c κs = search needs
-
-later-requires-3 : tie.Need-later-requires-3
-later-requires-3 c κs = search needs
-
-earlier-of-requires : tie.Need-earlier-of-requires
-earlier-of-requires c κs = search needs
 
 returns : tie.Need-returns
 unfolding nightFalls
@@ -65,16 +31,16 @@ pub order-night-spec : {M : Type 1} → statement M
 order-night-spec =
     tie.close
     (tie.spec
-    enum-told
-    enum-told-2
-    later-requires
-    enum-told-3
-    enum-told-4
-    enum-told-5
-    enum-known-phase
-    later-requires-2
-    later-requires-3
-    earlier-of-requires
+    (λ c. search needs)
+    (λ c. search needs)
+    (λ c κs. search needs)
+    (λ c. search needs)
+    (λ c. search needs)
+    (λ c. search needs)
+    (λ c. search needs)
+    (λ c κs. search needs)
+    (λ c κs. search needs)
+    (λ c κs. search needs)
     returns
     returns-2
     returns-3

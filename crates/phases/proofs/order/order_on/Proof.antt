@@ -2,44 +2,6 @@ use Rattle.rules.specs.Orders.{on}
 use borrow.Author.Needs.{needs}
 use Rattle.phases.proofs.order.order_on.Statement.{statement}
 use Rattle.phases.proofs.order.order_on.Tie as tie
-use Rattle.phases.proofs.order.order_on.Reads as reads
-use Rattle.phases.proofs.order.order_on.Lts as lts
-use Rattle.phases.proofs.phase.lit_at.Reads as lit-at-reads
-use Rattle.phases.proofs.phase.set_on.Reads as set-on-reads
-use Rattle.phases.proofs.time.later.Reads as later-reads
-
-enum-told : tie.Need-enum-told
-enum-told c = search needs
-
-lit-at-requires : tie.Need-lit-at-requires
-lit-at-requires c κs = search needs
-
-later-requires : tie.Need-later-requires
-later-requires c κs = search needs
-
-enum-told-2 : tie.Need-enum-told-2
-enum-told-2 c = search needs
-
-enum-known-phase : tie.Need-enum-known-phase
-enum-known-phase c = search needs
-
-enum-told-3 : tie.Need-enum-told-3
-enum-told-3 c = search needs
-
-set-on-requires : tie.Need-set-on-requires
-set-on-requires c κs = search needs
-
-enum-told-4 : tie.Need-enum-told-4
-enum-told-4 c = search needs
-
-set-on-requires-2 : tie.Need-set-on-requires-2
-set-on-requires-2 c κs = search needs
-
-enum-told-5 : tie.Need-enum-told-5
-enum-told-5 c = search needs
-
-set-on-requires-3 : tie.Need-set-on-requires-3
-set-on-requires-3 c κs = search needs
 
 returns : tie.Need-returns
 unfolding on
@@ -73,17 +35,17 @@ pub order-on-spec : {M : Type 1} → statement M
 order-on-spec =
     tie.close
     (tie.spec
-    enum-told
-    lit-at-requires
-    later-requires
-    enum-told-2
-    enum-known-phase
-    enum-told-3
-    set-on-requires
-    enum-told-4
-    set-on-requires-2
-    enum-told-5
-    set-on-requires-3
+    (λ c. search needs)
+    (λ c κs. search needs)
+    (λ c κs. search needs)
+    (λ c. search needs)
+    (λ c. search needs)
+    (λ c. search needs)
+    (λ c κs. search needs)
+    (λ c. search needs)
+    (λ c κs. search needs)
+    (λ c. search needs)
+    (λ c κs. search needs)
     returns
     returns-2
     returns-3

@@ -2,45 +2,6 @@ use Rattle.rules.specs.Orders.{timedStart}
 use borrow.Author.Needs.{needs}
 use Rattle.phases.proofs.order.order_timed_start.Statement.{statement}
 use Rattle.phases.proofs.order.order_timed_start.Tie as tie
-use Rattle.phases.proofs.order.order_timed_start.Reads as reads
-use Rattle.phases.proofs.order.order_timed_start.Lts as lts
-use Rattle.phases.proofs.time.later.Reads as later-reads
-
-enum-told : tie.Need-enum-told
-enum-told c = search needs
-
-later-requires : tie.Need-later-requires
-later-requires c κs = search needs
-
-later-requires-2 : tie.Need-later-requires-2
-later-requires-2 c κs = search needs
-
-enum-told-2 : tie.Need-enum-told-2
-enum-told-2 c = search needs
-
-later-requires-3 : tie.Need-later-requires-3
-later-requires-3 c κs = search needs
-
-enum-known-phase : tie.Need-enum-known-phase
-enum-known-phase c = search needs
-
-enum-told-3 : tie.Need-enum-told-3
-enum-told-3 c = search needs
-
-later-requires-4 : tie.Need-later-requires-4
-later-requires-4 c κs = search needs
-
-enum-told-4 : tie.Need-enum-told-4
-enum-told-4 c = search needs
-
-later-requires-5 : tie.Need-later-requires-5
-later-requires-5 c κs = search needs
-
-enum-told-5 : tie.Need-enum-told-5
-enum-told-5 c = search needs
-
-later-requires-6 : tie.Need-later-requires-6
-later-requires-6 c κs = search needs
 
 returns : tie.Need-returns
 unfolding timedStart
@@ -74,18 +35,18 @@ pub order-timed-start-spec : {M : Type 1} → statement M
 order-timed-start-spec =
     tie.close
     (tie.spec
-    enum-told
-    later-requires
-    later-requires-2
-    enum-told-2
-    later-requires-3
-    enum-known-phase
-    enum-told-3
-    later-requires-4
-    enum-told-4
-    later-requires-5
-    enum-told-5
-    later-requires-6
+    (λ c. search needs)
+    (λ c κs. search needs)
+    (λ c κs. search needs)
+    (λ c. search needs)
+    (λ c κs. search needs)
+    (λ c. search needs)
+    (λ c. search needs)
+    (λ c κs. search needs)
+    (λ c. search needs)
+    (λ c κs. search needs)
+    (λ c. search needs)
+    (λ c κs. search needs)
     returns
     returns-2
     returns-3

@@ -3,36 +3,9 @@ use native.Mathlib.Omega.{arith}
 use borrow.Author.Needs.{needs}
 use Rattle.phases.proofs.order.order_timed_stop.Statement.{statement}
 use Rattle.phases.proofs.order.order_timed_stop.Tie as tie
-use Rattle.phases.proofs.order.order_timed_stop.Reads as reads
-use Rattle.phases.proofs.order.order_timed_stop.Lts as lts
-use Rattle.phases.proofs.order.order_off.Reads as order-off-reads
-
-enum-told : tie.Need-enum-told
-enum-told c = search needs
-
-enum-told-2 : tie.Need-enum-told-2
-enum-told-2 c = search needs
-
-enum-known-phase : tie.Need-enum-known-phase
-enum-known-phase c = search needs
 
 order-off-requires : tie.Need-order-off-requires
 order-off-requires c κs = omega (arith, simp (c .before .before .phase .given .1) at (c .before .before .before .before .pre))
-
-enum-told-3 : tie.Need-enum-told-3
-enum-told-3 c = search needs
-
-order-off-requires-2 : tie.Need-order-off-requires-2
-order-off-requires-2 c κs = search needs
-
-enum-told-4 : tie.Need-enum-told-4
-enum-told-4 c = search needs
-
-order-off-requires-3 : tie.Need-order-off-requires-3
-order-off-requires-3 c κs = search needs
-
-enum-told-5 : tie.Need-enum-told-5
-enum-told-5 c = search needs
 
 returns : tie.Need-returns
 unfolding timedStop
@@ -66,15 +39,15 @@ pub order-timed-stop-spec : {M : Type 1} → statement M
 order-timed-stop-spec =
     tie.close
     (tie.spec
-    enum-told
-    enum-told-2
-    enum-known-phase
+    (λ c. search needs)
+    (λ c. search needs)
+    (λ c. search needs)
     order-off-requires
-    enum-told-3
-    order-off-requires-2
-    enum-told-4
-    order-off-requires-3
-    enum-told-5
+    (λ c. search needs)
+    (λ c κs. search needs)
+    (λ c. search needs)
+    (λ c κs. search needs)
+    (λ c. search needs)
     returns
     returns-2
     returns-3

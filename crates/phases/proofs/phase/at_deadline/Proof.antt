@@ -3,38 +3,12 @@ use native.Mathlib.Omega.{arith}
 use borrow.Author.Needs.{needs}
 use Rattle.phases.proofs.phase.at_deadline.Statement.{statement}
 use Rattle.phases.proofs.phase.at_deadline.Tie as tie
-use Rattle.phases.proofs.phase.at_deadline.Reads as reads
-use Rattle.phases.proofs.phase.at_deadline.Lts as lts
-use Rattle.phases.proofs.logic.either.Reads as either-reads
-use Rattle.phases.proofs.phase.lit_at.Reads as lit-at-reads
-use Rattle.phases.proofs.time.later.Reads as later-reads
-
-enum-told : tie.Need-enum-told
-enum-told c = search needs
-
-enum-told-2 : tie.Need-enum-told-2
-enum-told-2 c = search needs
-
-enum-known-phase : tie.Need-enum-known-phase
-enum-known-phase c = search needs
-
-either-requires : tie.Need-either-requires
-either-requires c κs = search needs
 
 lit-at-requires : tie.Need-lit-at-requires
 lit-at-requires c κs = omega (arith, simp (c .before .before .phase .given .1) at (c .before .before .before .before .pre))
 
-enum-known-phase-2 : tie.Need-enum-known-phase-2
-enum-known-phase-2 c = search needs
-
 later-requires : tie.Need-later-requires
 later-requires c κs = omega (arith, simp (c .before .before .before .phase2 .given .1) at (c .before .before .before .before .before .pre))
-
-enum-told-3 : tie.Need-enum-told-3
-enum-told-3 c = search needs
-
-enum-told-4 : tie.Need-enum-told-4
-enum-told-4 c = search needs
 
 returns : tie.Need-returns
 unfolding atDeadline
@@ -68,15 +42,15 @@ pub at-deadline-spec : {M : Type 1} → statement M
 at-deadline-spec =
     tie.close
     (tie.spec
-    enum-told
-    enum-told-2
-    enum-known-phase
-    either-requires
+    (λ c. search needs)
+    (λ c. search needs)
+    (λ c. search needs)
+    (λ c κs. search needs)
     lit-at-requires
-    enum-known-phase-2
+    (λ c. search needs)
     later-requires
-    enum-told-3
-    enum-told-4
+    (λ c. search needs)
+    (λ c. search needs)
     returns
     returns-2
     returns-3

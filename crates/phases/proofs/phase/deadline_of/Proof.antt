@@ -1,32 +1,6 @@
 use borrow.Author.Needs.{needs}
 use Rattle.phases.proofs.phase.deadline_of.Statement.{statement}
 use Rattle.phases.proofs.phase.deadline_of.Tie as tie
-use Rattle.phases.proofs.phase.deadline_of.Reads as reads
-use Rattle.phases.proofs.phase.deadline_of.Lts as lts
-
-enum-told : tie.Need-enum-told
-enum-told c = search needs
-
-enum-told-2 : tie.Need-enum-told-2
-enum-told-2 c = search needs
-
-enum-known-phase : tie.Need-enum-known-phase
-enum-known-phase c = search needs
-
-enum-known-phase-2 : tie.Need-enum-known-phase-2
-enum-known-phase-2 c = search needs
-
-enum-known-phase-3 : tie.Need-enum-known-phase-3
-enum-known-phase-3 c = search needs
-
-enum-known-phase-4 : tie.Need-enum-known-phase-4
-enum-known-phase-4 c = search needs
-
-returns : tie.Need-returns
-returns c = search needs
-
-returns-2 : tie.Need-returns-2
-returns-2 c = search needs
 
 returns-3 : tie.Need-returns-3
 returns-3 c = simp (c .before .phase .given .1)
@@ -44,14 +18,14 @@ pub deadline-of-spec : {M : Type 1} → statement M
 deadline-of-spec =
     tie.close
     (tie.spec
-    enum-told
-    enum-told-2
-    enum-known-phase
-    enum-known-phase-2
-    enum-known-phase-3
-    enum-known-phase-4
-    returns
-    returns-2
+    (λ c. search needs)
+    (λ c. search needs)
+    (λ c. search needs)
+    (λ c. search needs)
+    (λ c. search needs)
+    (λ c. search needs)
+    (λ c. search needs)
+    (λ c. search needs)
     returns-3
     returns-4
     returns-5
