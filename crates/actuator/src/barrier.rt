@@ -13,56 +13,16 @@ use rules::input::Input;
 use rules::state::Link;
 use rules::state::State;
 
-// The rows of the kinds 1 to 8: stopped while power is down, while the bus is down, while locked, while forced.
+// What stops each kind, from 1 SwitchOnOff to 8 power: power down, bus down, lock, force.
 const ROWS: [Row; 8] = [
-    Row {
-        power: true,
-        bus: true,
-        lock: true,
-        force: true,
-    },
-    Row {
-        power: true,
-        bus: true,
-        lock: true,
-        force: true,
-    },
-    Row {
-        power: true,
-        bus: true,
-        lock: true,
-        force: true,
-    },
-    Row {
-        power: true,
-        bus: true,
-        lock: true,
-        force: false,
-    },
-    Row {
-        power: true,
-        bus: true,
-        lock: false,
-        force: false,
-    },
-    Row {
-        power: true,
-        bus: true,
-        lock: true,
-        force: true,
-    },
-    Row {
-        power: true,
-        bus: false,
-        lock: false,
-        force: false,
-    },
-    Row {
-        power: false,
-        bus: false,
-        lock: false,
-        force: false,
-    },
+    Row(true, true, true, true),
+    Row(true, true, true, true),
+    Row(true, true, true, true),
+    Row(true, true, true, false),
+    Row(true, true, false, false),
+    Row(true, true, true, true),
+    Row(true, false, false, false),
+    Row(false, false, false, false),
 ];
 
 pub fn kind_of(i: Input) -> u8
@@ -71,10 +31,7 @@ pub fn kind_of(i: Input) -> u8
     match i {
         Input::SwitchOnOff(_) => 1,
         Input::TimedStartStop(_) => 2,
-        Input::SceneControl {
-            learn: _,
-            number: _,
-        } => 3,
+        Input::SceneControl(_, _) => 3,
         Input::SwitchOnOffForced(_) => 4,
         Input::LockDevice(_) => 5,
         Input::NightMode(_) => 6,
@@ -115,16 +72,16 @@ fn bus_is_down(link: Link) -> bool
 fn first_barrier(row: Row, link: Link, lock: bool, force: Force) -> Barrier
     ensures { λ r. ⌜ r ≡ firstBarrier row link lock force ⌝ }
 {
-    if both(row.power, power_is_down(link)) {
+    if both(row.0, power_is_down(link)) {
         return Barrier::NoPower;
     }
-    if both(row.bus, bus_is_down(link)) {
+    if both(row.1, bus_is_down(link)) {
         return Barrier::NoBus;
     }
-    if both(row.lock, lock) {
+    if both(row.2, lock) {
         return Barrier::Locked;
     }
-    if both(row.force, stands(force)) {
+    if both(row.3, stands(force)) {
         return Barrier::Forced;
     }
     Barrier::Open

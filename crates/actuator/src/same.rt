@@ -16,7 +16,7 @@ fn phase_number(phase: Phase) -> u8
     match phase {
         Phase::Dark => 0,
         Phase::Lit => 1,
-        Phase::Starting { timed, deadline: _ } => { if timed { 3 } else { 2 } }
+        Phase::Starting(timed, _) => { if timed { 3 } else { 2 } }
         Phase::Timed(_) => 4,
         Phase::Warning(_) => 5,
         Phase::Ending(_) => 6,
@@ -29,7 +29,7 @@ fn due_at(phase: Phase) -> u32
     match phase {
         Phase::Dark => 0,
         Phase::Lit => 0,
-        Phase::Starting { timed: _, deadline } => deadline,
+        Phase::Starting(_, deadline) => deadline,
         Phase::Timed(d) => d,
         Phase::Warning(d) => d,
         Phase::Ending(d) => d,

@@ -122,10 +122,7 @@ fn is_dark(phase: Phase) -> bool
     match phase {
         Phase::Dark => true,
         Phase::Lit => false,
-        Phase::Starting {
-            timed: _,
-            deadline: _,
-        } => false,
+        Phase::Starting(_, _) => false,
         Phase::Timed(_) => false,
         Phase::Warning(_) => false,
         Phase::Ending(_) => false,
@@ -138,10 +135,7 @@ fn is_lit(phase: Phase) -> bool
     match phase {
         Phase::Dark => false,
         Phase::Lit => true,
-        Phase::Starting {
-            timed: _,
-            deadline: _,
-        } => false,
+        Phase::Starting(_, _) => false,
         Phase::Timed(_) => false,
         Phase::Warning(_) => false,
         Phase::Ending(_) => false,

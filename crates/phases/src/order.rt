@@ -20,17 +20,11 @@ pub fn order_on(p: Params, night: bool, held: bool, t: u32, phase: Phase) -> Pha
             if none {
                 lit_at(p, night, t)
             } else {
-                Phase::Starting {
-                    timed: false,
-                    deadline: later(t, p.ondelay),
-                }
+                Phase::Starting(false, later(t, p.ondelay))
             }
         }
         Phase::Lit => Phase::Lit,
-        Phase::Starting { timed: _, deadline } => Phase::Starting {
-            timed: false,
-            deadline,
-        },
+        Phase::Starting(_, deadline) => Phase::Starting(false, deadline),
         Phase::Timed(_) => set_on(p, night, held, t),
         Phase::Warning(_) => set_on(p, night, held, t),
         Phase::Ending(_) => set_on(p, night, held, t),
@@ -47,17 +41,11 @@ pub fn order_timed_start(p: Params, t: u32, phase: Phase) -> Phase
             if none {
                 Phase::Timed(later(t, p.timedon))
             } else {
-                Phase::Starting {
-                    timed: true,
-                    deadline: later(t, p.ondelay),
-                }
+                Phase::Starting(true, later(t, p.ondelay))
             }
         }
         Phase::Lit => Phase::Timed(later(t, p.timedon)),
-        Phase::Starting { timed: _, deadline } => Phase::Starting {
-            timed: true,
-            deadline,
-        },
+        Phase::Starting(_, deadline) => Phase::Starting(true, deadline),
         Phase::Timed(_) => Phase::Timed(later(t, p.timedon)),
         Phase::Warning(_) => Phase::Timed(later(t, p.timedon)),
         Phase::Ending(_) => Phase::Timed(later(t, p.timedon)),
@@ -72,10 +60,7 @@ fn off_after_delay(p: Params, t: u32, phase: Phase) -> Phase
     match phase {
         Phase::Dark => Phase::Dark,
         Phase::Lit => Phase::Ending(later(t, p.offdelay)),
-        Phase::Starting {
-            timed: _,
-            deadline: _,
-        } => Phase::Dark,
+        Phase::Starting(_, _) => Phase::Dark,
         Phase::Timed(d) => Phase::Ending(earlier_of(later(t, p.offdelay), later(d, p.prewarning))),
         Phase::Warning(d) => Phase::Ending(earlier_of(later(t, p.offdelay), d)),
         Phase::Ending(d) => Phase::Ending(earlier_of(later(t, p.offdelay), d)),
@@ -101,9 +86,7 @@ pub fn order_timed_stop(p: Params, t: u32, phase: Phase) -> Phase
     match phase {
         Phase::Dark => phase,
         Phase::Lit => phase,
-        Phase::Starting { timed, deadline: _ } => {
-            if timed { order_off(p, t, phase) } else { phase }
-        }
+        Phase::Starting(timed, _) => { if timed { order_off(p, t, phase) } else { phase } }
         Phase::Timed(_) => order_off(p, t, phase),
         Phase::Warning(_) => order_off(p, t, phase),
         Phase::Ending(_) => phase,
@@ -118,10 +101,7 @@ pub fn order_night(p: Params, t: u32, phase: Phase) -> Phase
     match phase {
         Phase::Dark => phase,
         Phase::Lit => Phase::Timed(later(t, p.timedon)),
-        Phase::Starting {
-            timed: _,
-            deadline: _,
-        } => phase,
+        Phase::Starting(_, _) => phase,
         Phase::Timed(_) => phase,
         Phase::Warning(_) => phase,
         Phase::Ending(d) => Phase::Ending(earlier_of(d, later(later(t, p.timedon), p.prewarning))),

@@ -18,10 +18,7 @@ pub fn output_of(phase: Phase) -> bool
     match phase {
         Phase::Dark => false,
         Phase::Lit => true,
-        Phase::Starting {
-            timed: _,
-            deadline: _,
-        } => false,
+        Phase::Starting(_, _) => false,
         Phase::Timed(_) => true,
         Phase::Warning(_) => true,
         Phase::Ending(_) => true,
@@ -35,10 +32,7 @@ pub fn staircase_of(phase: Phase) -> bool
     match phase {
         Phase::Dark => false,
         Phase::Lit => false,
-        Phase::Starting {
-            timed: _,
-            deadline: _,
-        } => false,
+        Phase::Starting(_, _) => false,
         Phase::Timed(_) => true,
         Phase::Warning(_) => true,
         Phase::Ending(_) => false,
@@ -51,7 +45,7 @@ pub fn deadline_of(phase: Phase) -> Deadline
     match phase {
         Phase::Dark => Deadline::Never,
         Phase::Lit => Deadline::Never,
-        Phase::Starting { timed: _, deadline } => Deadline::At(deadline),
+        Phase::Starting(_, deadline) => Deadline::At(deadline),
         Phase::Timed(d) => Deadline::At(d),
         Phase::Warning(d) => Deadline::At(d),
         Phase::Ending(d) => Deadline::At(d),
@@ -78,7 +72,7 @@ pub fn at_deadline(p: Params, night: bool, phase: Phase) -> Phase
     match phase {
         Phase::Dark => Phase::Dark,
         Phase::Lit => Phase::Lit,
-        Phase::Starting { timed, deadline } => lit_at(p, logic::either(timed, night), deadline),
+        Phase::Starting(timed, deadline) => lit_at(p, logic::either(timed, night), deadline),
         Phase::Timed(d) => {
             let none = p.prewarning == 0;
             if none {

@@ -14,7 +14,7 @@ use Rattle.rules.specs.declared.barrier.Barrier.{Barrier}
 use Rattle.rules.specs.declared.barrier.Barrier.the-variants.{Open, NoPower, NoBus, Locked, Forced}
 use Rattle.rules.specs.Inputs.{kind}
 use Rattle.rules.specs.Orders.{standing}
-use Rattle.rules.specs.Barriers.{row, rows, rowOf, powerDown, busDown, firstBarrier, barrier}
+use Rattle.rules.specs.Barriers.{row, byPower, byBus, byLock, byForce, rows, rowOf, powerDown, busDown, firstBarrier, barrier}
 use Rattle.rules.specs.Answers.{answer}
 
 -- ---- the table
@@ -45,16 +45,16 @@ answer-numbers same = (refl, refl, refl, refl, refl, refl)
 
 -- the barrier stands, and the row of the input's kind names it
 abbrev pub powerStops : State → Input → Bool
-powerStops s i = rowOf (kind i) .power && powerDown (s .link)
+powerStops s i = byPower (rowOf (kind i)) && powerDown (s .link)
 
 abbrev pub busStops : State → Input → Bool
-busStops s i = rowOf (kind i) .bus && busDown (s .link)
+busStops s i = byBus (rowOf (kind i)) && busDown (s .link)
 
 abbrev pub lockStops : State → Input → Bool
-lockStops s i = rowOf (kind i) .lock && s .lock
+lockStops s i = byLock (rowOf (kind i)) && s .lock
 
 abbrev pub forceStops : State → Input → Bool
-forceStops s i = rowOf (kind i) .force && standing (s .force)
+forceStops s i = byForce (rowOf (kind i)) && standing (s .force)
 
 -- a barrier fits where it stops the input and none before it does; an input is free where none does
 abbrev pub fits : Barrier → Bool → Bool → Bool → Bool → Bool
@@ -111,6 +111,6 @@ none-first false false true force h = record { powered = cc; unlocked = cc; unfo
 none-first false false false true h = record { powered = cc; unlocked = cc; unforced = cc }
 none-first false false false false h = record { powered = refl; unlocked = refl; unforced = refl }
 
-pub open-is-unstopped : (r : Row) (link : Link) (lock : Bool) (force : Force) → firstBarrier r link lock force ≡ Open → Unstopped (r .power && powerDown link) (r .lock && lock) (r .force && standing force)
+pub open-is-unstopped : (r : Row) (link : Link) (lock : Bool) (force : Force) → firstBarrier r link lock force ≡ Open → Unstopped (byPower r && powerDown link) (byLock r && lock) (byForce r && standing force)
 unfolding firstBarrier
-open-is-unstopped r link lock force h = none-first (r .power && powerDown link) (r .bus && busDown link) (r .lock && lock) (r .force && standing force) h
+open-is-unstopped r link lock force h = none-first (byPower r && powerDown link) (byBus r && busDown link) (byLock r && lock) (byForce r && standing force) h

@@ -26,7 +26,7 @@ use Rattle.rules.proofs.Tests.{neither-left, cond-case}
 use Rattle.rules.proofs.Deadlines.{Times}
 use Rattle.rules.proofs.Phases.{Unheld, set-on-unheld, on-unheld, timed-start-unheld, off-unheld, timed-stop-unheld, night-falls-unheld}
 use Rattle.rules.proofs.Holding.{Fits, LooseIn, unheld-fits, fits-unheld, held-fits, power-down-is-free}
-use Rattle.rules.proofs.Barriers.{Unstopped, open-is-unstopped}
+use Rattle.rules.proofs.Barriers.{powerStops, lockStops, forceStops, Unstopped, open-is-unstopped}
 
 -- set on or set off, where nothing holds the phase
 settle-fits : (s : State) (output : Bool) → Times (s .params) → LooseIn s → Fits (settle s output)
@@ -117,7 +117,7 @@ module _ (s : State) (n : Times (s .params)) (f : Fits s) where
   power-fits PowerDown e Failure = f
   power-fits PowerDown e Return = settle-fits (withLink s Up) _ n record { free = power-down-is-free s e f; powered = refl }
 
-  unstopped : (i : Input) → barrier s i ≡ Open → Unstopped (rowOf (kind i) .power && powerDown (s .link)) (rowOf (kind i) .lock && s .lock) (rowOf (kind i) .force && standing (s .force))
+  unstopped : (i : Input) → barrier s i ≡ Open → Unstopped (powerStops s i) (lockStops s i) (forceStops s i)
   unfolding barrier
   unstopped i way = open-is-unstopped (rowOf (kind i)) (s .link) (s .lock) (s .force) way
 

@@ -16,7 +16,19 @@ use Rattle.rules.specs.Orders.{standing}
 
 -- stopped while power is down, while the bus is down, while locked, while forced
 abbrev pub row : Bool → Bool → Bool → Bool → Row
-row power bus lock force = record { power = power; bus = bus; lock = lock; force = force }
+row power bus lock force = (power, bus, lock, force)
+
+abbrev pub byPower : Row → Bool
+byPower r = r .0
+
+abbrev pub byBus : Row → Bool
+byBus r = r .1
+
+abbrev pub byLock : Row → Bool
+byLock r = r .2
+
+abbrev pub byForce : Row → Bool
+byForce r = r .3
 
 -- "What stops each kind is kept as one table of eight rows that names the barriers of that kind: power down stops 1 to 7;
 -- bus down stops 1 to 6; lock stops 1 to 4 and 6; force stops 1 to 3 and 6."
@@ -50,10 +62,10 @@ busDown PowerDown = false
 -- the first of these barriers that stands: "Answer octet, first that fits: 5 power down, 4 bus down, 3 lock, 2 force"
 unfoldable pub firstBarrier : Row → Link → Bool → Force → Barrier
 firstBarrier r link lock force =
-    cond (r .power && powerDown link) NoPower
-    (cond (r .bus && busDown link) NoBus
-    (cond (r .lock && lock) Locked
-    (cond (r .force && standing force) Forced Open)))
+    cond (byPower r && powerDown link) NoPower
+    (cond (byBus r && busDown link) NoBus
+    (cond (byLock r && lock) Locked
+    (cond (byForce r && standing force) Forced Open)))
 
 -- the first barrier that an input meets in a state
 unfoldable pub barrier : State → Input → Barrier

@@ -1,12 +1,7 @@
 // What may stop an input.
 
-// The barriers of one kind of input: which of these stop it while they stand.
-pub struct Row {
-    pub power: bool,
-    pub bus: bool,
-    pub lock: bool,
-    pub force: bool,
-}
+// The barriers of one kind of input: whether it is stopped while power is down, while the bus is down, while locked, while forced.
+pub struct Row(pub bool, pub bool, pub bool, pub bool);
 
 // The first barrier that an input meets.
 pub enum Barrier {

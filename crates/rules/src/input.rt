@@ -16,7 +16,8 @@ pub enum Event {
 pub enum Input {
     SwitchOnOff(bool),
     TimedStartStop(bool),
-    SceneControl { learn: bool, number: u8 },
+    // whether to learn, and the scene number
+    SceneControl(bool, u8),
     SwitchOnOffForced(Force),
     LockDevice(bool),
     NightMode(bool),

@@ -2,7 +2,8 @@
 pub enum Phase {
     Dark,
     Lit,
-    Starting { timed: bool, deadline: u32 },
+    // whether it is timed, and its deadline
+    Starting(bool, u32),
     Timed(u32),
     Warning(u32),
     Ending(u32),
