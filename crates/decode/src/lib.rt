@@ -2,3 +2,4 @@
 pub mod input;
 pub mod parameters;
 mod range;
+pub mod refusal;

@@ -2,12 +2,12 @@
 ghost use mathlib.Core.Path.{_≡_};
 ghost use Rattle.rules.specs.Calls.{moveRefused, moveCall};
 ghost use Rattle.live.specs.ByValue.{moveOf};
-use crate::refusal::number_of;
-use crate::refusal::stamp_in_range;
+use crate::stamp::stamp_in_range;
 use actuator::clock::Clocked;
 use actuator::clock::move_clock;
 use actuator::notes::Notes;
 use actuator::sound::is_sound;
+use decode::refusal::number_of;
 use rules::call::Move;
 use rules::record::Record;
 use rules::refusal::Refusal;

@@ -1,12 +1,12 @@
 // The fresh state from parameters alone.
 ghost use mathlib.Core.Path.{_≡_};
 ghost use Rattle.rules.specs.Calls.{freshCall};
-use crate::refusal::number_of;
 use actuator::fresh::fresh_with;
 use actuator::fresh::own_state;
 use decode::parameters::check_parameters;
 use decode::parameters::params_of;
 use decode::parameters::scenes_of;
+use decode::refusal::number_of;
 use rules::call::Fresh;
 use rules::parameters::Params;
 use rules::parameters::Scene;

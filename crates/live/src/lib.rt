@@ -2,5 +2,5 @@
 // None of them has a condition on its caller, and each is specified whole, refusals too (crates/rules/specs/Calls.antt).
 pub mod clock;
 pub mod fresh;
-pub mod refusal;
 pub mod single;
+mod stamp;

@@ -1,7 +1,6 @@
-// The numbers of the refusals, and the test that single inputs and clock moves share.
+// The numbers of the refusals.
 ghost use mathlib.Core.Path.{_≡_};
-ghost use Rattle.rules.specs.Refusals.{number, stampInRange};
-use phases::logic::both;
+ghost use Rattle.rules.specs.Refusals.{number};
 use rules::refusal::Refusal;
 
 pub fn number_of(why: Refusal) -> u8
@@ -18,13 +17,4 @@ pub fn number_of(why: Refusal) -> u8
         Refusal::ShortBuffer => 8,
         Refusal::UnsoundState => 9,
     }
-}
-
-// A stamp is not below the clock and not past the last stamp.
-pub fn stamp_in_range(clock: u32, stamp: u32) -> bool
-    ensures { λ r. ⌜ r ≡ stampInRange clock stamp ⌝ }
-{
-    let risen = clock <= stamp;
-    let timely = stamp <= 864000;
-    both(risen, timely)
 }
