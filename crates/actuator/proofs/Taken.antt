@@ -1,8 +1,6 @@
 -- The step of the rules is what the code does after the clock move: take the input, or stop it.
 use Prim.Native.Nat.{ℕ}
-use mathlib.Core.Bool.{true}
 use mathlib.Core.Path.{_≡_, refl}
-use lib.ListN.{length}
 use Rattle.rules.specs.declared.input.Input.{Input}
 use Rattle.rules.specs.declared.state.State.{State}
 use Rattle.rules.specs.declared.barrier.Barrier.{Barrier}
@@ -10,8 +8,7 @@ use Rattle.rules.specs.declared.barrier.Barrier.the-variants.{Open, NoPower, No
 use Rattle.rules.specs.Inputs.{kind}
 use Rattle.rules.specs.Orders.{order}
 use Rattle.rules.specs.Barriers.{barrier}
-use Rattle.rules.specs.Answers.{answer}
-use Rattle.rules.specs.Steps.{Moved, clockMove, taken, meet, act, step}
+use Rattle.rules.specs.Steps.{clockMove, taken, meet, act, step}
 use Rattle.rules.proofs.Records.{a-move-writes-at-most-two}
 use Rattle.actuator.specs.Notes.{clocked, acted, takenBy, stoppedBy}
 use Rattle.actuator.proofs.Written.{added-written}

@@ -8,10 +8,9 @@ use native.Mathlib.Omega.{arith}
 use Rattle.rules.specs.declared.state.State.{State}
 use Rattle.rules.specs.declared.record.Record.{Record}
 use Rattle.rules.specs.Status.{sameStatus, recordOf, written, byItself}
-use Rattle.rules.specs.Calls.{places, blank}
+use Rattle.rules.specs.Calls.{places}
 use Rattle.rules.proofs.Records.{one-record-at-most}
 use Rattle.actuator.specs.Notes.{notes, noNotes, noteOf, added}
-use Rattle.actuator.specs.declared.notes.Notes.{Notes}
 use Rattle.actuator.specs.declared.notes.Note.the-variants.{Silent, Wrote}
 
 wrote : (l : List Record) (r : Record) → length l ≤ 2 → added (notes l) (Wrote r) ≡ notes (l ++ (r ∷ []))

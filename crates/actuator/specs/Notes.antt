@@ -1,7 +1,7 @@
 -- The code's form of a list of at most three records, and of what a call has come to. The rules speak of lists.
 use Prim.Native.Nat.{ℕ, _+_}
-use mathlib.Core.Bool.{Bool, true, false, cond}
-use mathlib.Core.List.{List, [], _∷_}
+use mathlib.Core.Bool.{true, cond}
+use mathlib.Core.List.{List, []}
 use lib.ListN.{length, set}
 use Rattle.rules.specs.declared.input.Input.{Input}
 use Rattle.rules.specs.declared.state.State.{State}

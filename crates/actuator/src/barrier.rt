@@ -31,7 +31,7 @@ pub fn kind_of(i: Input) -> u8
     match i {
         Input::SwitchOnOff(_) => 1,
         Input::TimedStartStop(_) => 2,
-        Input::SceneControl(_, _) => 3,
+        Input::NumberedSceneControl(_, _) => 3,
         Input::SwitchOnOffForced(_) => 4,
         Input::LockDevice(_) => 5,
         Input::NightMode(_) => 6,

@@ -36,7 +36,7 @@ fn params_in_range(p: Params) -> bool
         both(time_in_range(p.ondelay), time_in_range(p.offdelay)),
         both(time_in_range(p.timedon), time_in_range(p.prewarning)),
     );
-    let some = 1 <= p.timedon;
+    let some = 10 <= p.timedon;
     let locking = p.locking <= 2;
     let unlocking = p.unlocking <= 3;
     let failure = p.busfailure <= 2;

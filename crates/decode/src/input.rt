@@ -26,7 +26,7 @@ fn scene_meant(value: u8) -> Decoded
     ensures { λ r. ⌜ r ≡ sceneMeant value ⌝ }
 {
     if value / 64 % 2 == 0 {
-        Decoded::Meant(Input::SceneControl(value / 128 == 1, value % 64))
+        Decoded::Meant(Input::NumberedSceneControl(value / 128 == 1, value % 64))
     } else {
         Decoded::Wrong
     }

@@ -3,7 +3,7 @@ use Prim.Native.Nat.{ℕ, _+_, _*_}
 use mathlib.Core.List.{List}
 use lib.ListN.{getD}
 
--- the octet at a place of a string (0 past its end; every reader tests the length first)
+-- the octet at a place of a string (0 past its end; nothing is read there: the length is tested before, or is 8 by its type)
 abbrev pub octet : List ℕ → ℕ → ℕ
 octet s at = getD s at 0
 

@@ -1,10 +1,10 @@
 -- The scene table, one entry at a time: what the loops over it need.
-use Prim.Native.Nat.{ℕ, suc, _≤_, _<_}
+use Prim.Native.Nat.{ℕ, suc, _<_}
 use mathlib.Core.Bool.{Bool, true, false, cond}
 use mathlib.Core.List.{List, [], _∷_, _++_, append-assoc}
-use mathlib.Core.Path.{_≡_, refl, sym, _∙_}
+use mathlib.Core.Path.{_≡_, refl, sym}
 use lib.ListN.{length, getD, set, take, drop}
-use lib.Seq.{drop-cons, take-suc, set-split, drop-nil}
+use lib.Seq.{drop-cons, take-suc, set-split}
 use lib.Dec.{eqb}
 use native.Mathlib.Omega.{arith}
 use Rattle.rules.specs.declared.parameters.Scene.{Scene}

@@ -21,7 +21,7 @@ pub fn carry_out(s: State, i: Input) -> State
     match i {
         Input::SwitchOnOff(on) => light::switched(s, on),
         Input::TimedStartStop(start) => light::timed_order(s, start),
-        Input::SceneControl(learn, number) => light::scene_order(s, learn, number),
+        Input::NumberedSceneControl(learn, number) => light::scene_order(s, learn, number),
         Input::SwitchOnOffForced(f) => force::force_order(s, f),
         Input::LockDevice(on) => lock::lock_order(s, on),
         Input::NightMode(on) => light::night_order(s, on),

@@ -15,6 +15,7 @@ use Rattle.rules.specs.declared.parameters.Scene.{Scene}
 use Rattle.rules.specs.declared.refusal.Refusal.the-variants.{WrongLength, WrongVersion, WrongActuators, WrongLayout, BadParameter, BadInput, BadStamp, ShortBuffer, UnsoundState}
 use Rattle.rules.specs.declared.refusal.Check.{Check}
 use Rattle.rules.specs.declared.refusal.Check.the-variants.{Passed, Refused}
+use Rattle.rules.specs.Time.{tenths}
 use Rattle.rules.specs.Parameters.{delay, paramsOf, sceneAt, scenesOf, greatest, numberAbove, badNumber, badFlags, badOctet, timeInRange, paramsInRange}
 use Rattle.rules.specs.Scenes.{entryInRange, absent, scenesInRange}
 use Rattle.rules.specs.Refusals.{lowestBad, checkParameters}
@@ -69,7 +70,7 @@ check-given octets =
 clash : {A : Type 0} (octets : List ℕ) (at : ℕ) → badOctet octets at ≡ true → badOctet octets at ≡ false → A
 clash octets at bad good = no (sym good ∙ bad)
 
--- neither-left of two first bad octets comes before the other
+-- neither of two first bad octets comes before the other
 same-place : (octets : List ℕ) (a b : ℕ) → FirstBad octets a → FirstBad octets b → a ≡ b
 same-place octets a b f g =
     let not-less : a < b → ⊥ = λ less. clash octets a (f .bad) (g .good a less) in
@@ -101,7 +102,7 @@ delay-in-range octets small at =
     simp (le-leb (10 * be16 octets at) 655_350 (omega (arith, small at, small (at + 1))), eq-eqb (10 * be16 octets at % 10) 0 (omega arith))
 
 -- TimedOn that is not refused is 1 second or more
-some-time : (octets : List ℕ) → badOctet octets 4 ≡ false → 1 ≤ delay octets 4
+some-time : (octets : List ℕ) → badOctet octets 4 ≡ false → tenths 1 ≤ delay octets 4
 unfolding badOctet delay
 some-time octets good = omega (arith, eqb-false (be16 octets 4) 0 good)
 
@@ -125,7 +126,7 @@ params-in-range octets small a =
       delay-in-range octets small 2,
       delay-in-range octets small 4,
       delay-in-range octets small 6,
-      le-leb 1 (delay octets 4) (some-time octets (a .good 4 (omega arith))),
+      le-leb (tenths 1) (delay octets 4) (some-time octets (a .good 4 (omega arith))),
       le-leb (octet octets 8) 2 (modes .0),
       le-leb (octet octets 9) 3 (modes .1),
       le-leb (octet octets 10) 2 (modes .2),

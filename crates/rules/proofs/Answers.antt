@@ -16,11 +16,12 @@ use Rattle.rules.specs.declared.input.Input.{Input}
 use Rattle.rules.specs.declared.state.Link.{Link}
 use Rattle.rules.specs.declared.state.Link.the-variants.{Up, BusDown, PowerDown}
 use Rattle.rules.specs.declared.state.State.{State}
-use Rattle.rules.specs.declared.barrier.Barrier.the-variants.{Open}
+use Rattle.rules.specs.declared.barrier.Barrier.{Barrier}
+use Rattle.rules.specs.declared.barrier.Barrier.the-variants.{Open, NoPower, NoBus, Locked, Forced}
 use Rattle.rules.specs.Orders.{order}
 use Rattle.rules.specs.Barriers.{barrier}
 use Rattle.rules.specs.Answers.{answer, phaseNumber, due, forceNumber, linkNumber, samePhase, sameScene, sameScenes, sameFlags, sameButClock}
-use Rattle.rules.specs.Steps.{Moved, taken, meet, act}
+use Rattle.rules.specs.Steps.{atMoment, Moved, taken, meet, act}
 use Rattle.rules.proofs.Tests.{and-left, and-right, beq-true, beq-same, eqb-same}
 use Rattle.rules.proofs.Orders.{order-keeps}
 
@@ -136,3 +137,20 @@ pub taken-is-answered-by-its-change : (m : Moved) (i : Input) → barrier (m .st
     ((act m i .answer ≡ 1) ↔ (act m i .state ≡ m .state)) × ((act m i .answer ≡ 0) ↔ (act m i .state ≡ m .state → ⊥))
 unfolding act meet taken
 taken-is-answered-by-its-change m i free = rw free (answer-one-means-nothing-changed (m .state) i)
+
+-- the answer that an input gives: that of the first barrier that it meets, and of whether anything but the clock changed
+pub answered-by-its-barrier : (m : Moved) (i : Input) → act m i .answer ≡ answer (barrier (m .state) i) (sameButClock (m .state) (act m i .state))
+unfolding act
+answered-by-its-barrier m i = go (barrier (m .state) i)
+  where
+    go : (b : Barrier) → meet b m i .answer ≡ answer b (sameButClock (m .state) (meet b m i .state))
+    go Open = unfold meet taken in refl
+    go NoPower = unfold meet in refl
+    go NoBus = unfold meet in refl
+    go Locked = unfold meet in refl
+    go Forced = unfold meet in refl
+
+-- whatever the two clocks show
+pub same-but-clock-is-all-but-the-clock : (a b : State) → a .params ≡ b .params → (sameButClock a b ≡ true) ↔ (atMoment a (b .clock) (a .phase) ≡ b)
+unfolding sameButClock sameFlags
+same-but-clock-is-all-but-the-clock a b p = same-but-clock-is-exact (atMoment a (b .clock) (a .phase)) b refl p

@@ -1,4 +1,4 @@
--- The table of barriers says what 01 says in words, and the answer names the first barrier that stands.
+-- The table of barriers says what 01 says in words, and the barrier that an input meets is the first that stands (its answer: Answers.antt).
 use mathlib.Core.Bool.{Bool, true, false, cond, not, _&&_, _||_}
 use mathlib.Core.Path.{_≡_, refl, subst}
 use mathlib.Core.Logic.{_↔_}
@@ -6,7 +6,7 @@ use lib.ListN.{length}
 use lib.Dec.{T, eqb, leb}
 use Rattle.rules.specs.declared.input.Force.{Force}
 use Rattle.rules.specs.declared.input.Input.{Input}
-use Rattle.rules.specs.declared.input.Input.the-variants.{SwitchOnOff, TimedStartStop, SceneControl, SwitchOnOffForced, LockDevice, NightMode, Bus, Power}
+use Rattle.rules.specs.declared.input.Input.the-variants.{SwitchOnOff, TimedStartStop, NumberedSceneControl, SwitchOnOffForced, LockDevice, NightMode, Bus, Power}
 use Rattle.rules.specs.declared.state.Link.{Link}
 use Rattle.rules.specs.declared.state.State.{State}
 use Rattle.rules.specs.declared.barrier.Row.{Row}
@@ -25,7 +25,7 @@ pub rows-say-exactly : (i : Input) →
 unfolding rowOf rows
 rows-say-exactly (SwitchOnOff value) = refl
 rows-say-exactly (TimedStartStop value) = refl
-rows-say-exactly (SceneControl learn number) = refl
+rows-say-exactly (NumberedSceneControl learn number) = refl
 rows-say-exactly (SwitchOnOffForced force) = refl
 rows-say-exactly (LockDevice value) = refl
 rows-say-exactly (NightMode value) = refl
@@ -92,9 +92,9 @@ unfolding barrier firstBarrier
 first-that-fits s i b = exactly-one-fits b (powerStops s i) (busStops s i) (lockStops s i) (forceStops s i)
 
 -- an input is taken exactly when none of the barriers that its row names stands
-pub stopped-exactly-when : (s : State) (i : Input) →
+pub taken-exactly-when : (s : State) (i : Input) →
     (barrier s i ≡ Open) ↔ T (not (powerStops s i) && not (busStops s i) && not (lockStops s i) && not (forceStops s i))
-stopped-exactly-when s i = first-that-fits s i Open
+taken-exactly-when s i = first-that-fits s i Open
 
 -- ---- what an open way says of the flags
 

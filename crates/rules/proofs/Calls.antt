@@ -1,7 +1,7 @@
--- The public calls: what they return is sound, they refuse exactly when the table says, and a refusal changes nothing.
+-- The public calls: from a sound state they return a sound one, they refuse exactly when the table says, and a refusal changes nothing.
 use Prim.Native.Nat.{ℕ, _-_, _≤_, _<_}
-use mathlib.Core.Bool.{Bool, true, false, cond, _&&_}
-use mathlib.Core.List.{List, [], _∷_, _++_}
+use mathlib.Core.Bool.{Bool, true, false, cond}
+use mathlib.Core.List.{List, [], _++_}
 use mathlib.Core.Path.{_≡_, refl, sym, _∙_}
 use mathlib.Core.Logic.{_↔_}
 use lib.ListN.{length}
@@ -13,21 +13,21 @@ use Rattle.rules.specs.declared.input.Input.{Input}
 use Rattle.rules.specs.declared.input.Decoded.{Decoded}
 use Rattle.rules.specs.declared.input.Decoded.the-variants.{Meant, Wrong}
 use Rattle.rules.specs.declared.state.State.{State}
-use Rattle.rules.specs.declared.refusal.Refusal.the-variants.{BadInput, BadStamp, UnsoundState}
+use Rattle.rules.specs.declared.refusal.Refusal.the-variants.{WrongLength, BadParameter, BadInput, BadStamp, UnsoundState}
 use Rattle.rules.specs.declared.refusal.Check.{Check}
 use Rattle.rules.specs.declared.refusal.Check.the-variants.{Passed, Refused}
 use Rattle.rules.specs.declared.call.Single.{Single}
 use Rattle.rules.specs.declared.call.Move.{Move}
 use Rattle.rules.specs.Time.{lastStamp}
 use Rattle.rules.specs.Inputs.{stampAt, inputAt}
-use Rattle.rules.specs.Steps.{Moved, Stepped, clockMove, step}
+use Rattle.rules.specs.Steps.{clockMove, step}
 use Rattle.rules.specs.Soundness.{sound}
-use Rattle.rules.specs.Refusals.{code, placeOf, checkParameters, stampInRange}
+use Rattle.rules.specs.Refusals.{checkParameters, stampInRange}
 use Rattle.rules.specs.Calls.{freshBy, freshCall, places, singleDone, singleRefused, singleMeant, singleCall, moveDone, moveRefused, moveCall}
 use Rattle.rules.proofs.Tests.{both, no}
 use Rattle.rules.proofs.Soundness.{own-state-is-sound, move-is-sound, step-is-sound}
 use Rattle.rules.proofs.Inputs.{input-number}
-use Rattle.rules.proofs.Accepted.{passed-is-sound}
+use Rattle.rules.proofs.Accepted.{Accepted, FirstBad, GivenWhen, lowest-bad-octet, passed-is-sound}
 use Rattle.rules.proofs.Records.{a-move-writes-at-most-two, an-input-writes-at-most-three, places-hold-all}
 
 not-meant : {A : Type 0} {i : Input} → Wrong ≡ Meant i → A
@@ -121,7 +121,7 @@ single-refused-exactly-when s octets = by (single-finds s octets)
           zero = (λ e. (i, h, m, t), λ e. refl);
         }
 
--- "A refused call .. hands back the state it was given"; answer, count and records are 0, and so is the place of every call
+-- "A refused call .. hands back the state it was given"; answer, count and records are 0, and so is the place
 pub single-refusal-changes-nothing : (s : State) (octets : List ℕ) → (singleCall s octets .code ≡ 0 → ⊥) →
     singleCall s octets ≡ record { state = s; code = singleCall s octets .code; place = 0; answer = 0; count = 0; records = places 3 [] }
 single-refusal-changes-nothing s octets refused = by (single-finds s octets) refused
@@ -237,11 +237,60 @@ fresh-call-is-sound octets small = by (checkParameters octets) refl
     by Passed h = unfold freshBy in passed-is-sound octets small h
     by (Refused why place) h = unfold freshBy in own-state-is-sound
 
--- the code and the place are those of the check, which lowest-bad-octet describes both ways
-pub fresh-answers-the-check : (octets : List ℕ) → (freshCall octets .code ≡ code (checkParameters octets)) × (freshCall octets .place ≡ placeOf (checkParameters octets))
+-- each code of parameters alone, exactly when the table gives it, with its place
+pub record FreshCodes (octets : List ℕ) (code place : ℕ) : Type 0 where
+  pub one : (code ≡ 1) ↔ (length octets ≡ 32 → ⊥)
+  pub five : (code ≡ 5) ↔ FirstBad octets place
+  pub zero : (code ≡ 0) ↔ Accepted octets
+  pub no-place : (code ≡ 5 → ⊥) → place ≡ 0
+
+pub fresh-refused-exactly-when : (octets : List ℕ) → FreshCodes octets (freshCall octets .code) (freshCall octets .place)
 unfolding freshCall
-fresh-answers-the-check octets = by (checkParameters octets)
+fresh-refused-exactly-when octets = by (checkParameters octets) (lowest-bad-octet octets (checkParameters octets) .0 refl)
   where
-    by : (c : Check) → (freshBy octets c .code ≡ code c) × (freshBy octets c .place ≡ placeOf c)
-    by Passed = unfold freshBy in (refl, refl)
-    by (Refused why place) = unfold freshBy in (refl, refl)
+    good-is-not-bad : (at : ℕ) → Accepted octets → FirstBad octets at → ⊥
+    good-is-not-bad at a f = no (sym (a .good at (f .within)) ∙ f .bad)
+
+    by : (c : Check) → GivenWhen octets c → FreshCodes octets (freshBy octets c .code) (freshBy octets c .place)
+    by Passed a =
+        unfold freshBy in
+        record {
+          one = (λ e. absurd (omega arith), λ short. absurd (short (a .whole)));
+          five = (λ e. absurd (omega arith), λ f. absurd (good-is-not-bad _ a f));
+          zero = (λ e. a, λ e. refl);
+          no-place = λ e. refl;
+        }
+    by (Refused WrongLength place) g =
+        unfold freshBy in
+        record {
+          one = (λ e. g .1, λ e. refl);
+          five = (λ e. absurd (omega arith), λ f. absurd (g .1 (f .whole)));
+          zero = (λ e. absurd (omega arith), λ a. absurd (g .1 (a .whole)));
+          no-place = λ e. g .0;
+        }
+    by (Refused BadParameter place) f =
+        unfold freshBy in
+        record {
+          one = (λ e. absurd (omega arith), λ short. absurd (short (f .whole)));
+          five = (λ e. f, λ e. refl);
+          zero = (λ e. absurd (omega arith), λ a. absurd (good-is-not-bad place a f));
+          no-place = λ e. absurd (e refl);
+        }
+
+-- "place 0", accepted or refused
+pub single-place-is-zero : (s : State) (octets : List ℕ) → singleCall s octets .place ≡ 0
+single-place-is-zero s octets = by (single-finds s octets)
+  where
+    by : {r : Single} → SingleFinds s octets r → r .place ≡ 0
+    by (SingleFinds.not-sound h) = unfold singleRefused in refl
+    by (wrong h m) = unfold singleRefused in refl
+    by (SingleFinds.untimely i h m t) = unfold singleRefused in refl
+    by (plays i h m t) = unfold singleDone in refl
+
+pub move-place-is-zero : (s : State) (stamp : ℕ) → moveCall s stamp .place ≡ 0
+move-place-is-zero s stamp = by (move-finds s stamp)
+  where
+    by : {r : Move} → MoveFinds s stamp r → r .place ≡ 0
+    by (MoveFinds.not-sound h) = unfold moveRefused in refl
+    by (MoveFinds.untimely h t) = unfold moveRefused in refl
+    by (moves h t) = unfold moveDone in refl

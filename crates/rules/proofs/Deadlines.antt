@@ -9,7 +9,7 @@ use Rattle.rules.specs.declared.parameters.Params.{Params}
 use Rattle.rules.specs.declared.phase.Phase.{Phase}
 use Rattle.rules.specs.declared.phase.Phase.the-variants.{Dark, Lit, Starting, Timed, Warning, Ending}
 use Rattle.rules.specs.declared.phase.Deadline.the-variants.{At}
-use Rattle.rules.specs.Time.{longestDelay}
+use Rattle.rules.specs.Time.{tenths, longestDelay}
 use Rattle.rules.specs.Parameters.{timeInRange, paramsInRange}
 use Rattle.rules.specs.Phases.{deadline}
 use Rattle.rules.specs.Answers.{due}
@@ -40,7 +40,7 @@ times-bounded p h =
       offdelay = time-bounded _ (switched .1);
       timedon = time-bounded _ (timed .0);
       prewarning = time-bounded _ (timed .1);
-      some = leb-true _ _ (both _ _ (modes .1) .0);
+      some = omega (arith, leb-true (tenths 1) (p .timedon) (both _ _ (modes .1) .0));
     }
 
 -- d lies 1 to 655,350 after t

@@ -25,7 +25,7 @@ use Rattle.rules.proofs.Rank.{LeavesNoTrace, NotBefore, unchanged-leave
 
 -- ---- Off, of a phase
 
--- left to itself, the phase is dark from m on
+-- left to itself, the phase is dark from m on (a phase that still waits for its light is left out)
 abbrev pub DarkBy : Params → ℕ → Phase → Type 0
 DarkBy p m Dark = Unit
 DarkBy p m Lit = ⊥
@@ -54,9 +54,10 @@ after-delay-is-never-later p t m (Timed d) h = omega arith
 after-delay-is-never-later p t m (Warning d) h = omega arith
 after-delay-is-never-later p t m (Ending d) h = omega arith
 
-pub repeated-off-is-never-later : (p : Params) (t m : ℕ) (phase : Phase) → DarkBy p m phase → DarkBy p m (off p t phase)
+-- 01, "Slips we have seen": "Off with a long delay that keeps a timed lamp lit beyond its own end."
+pub off-is-never-later : (p : Params) (t m : ℕ) (phase : Phase) → DarkBy p m phase → DarkBy p m (off p t phase)
 unfolding off
-repeated-off-is-never-later p t m phase h = either-way (DarkBy p m) (eqb (p .offdelay) 0) Dark (offAfterDelay p t phase) tt (after-delay-is-never-later p t m phase h)
+off-is-never-later p t m phase h = either-way (DarkBy p m) (eqb (p .offdelay) 0) Dark (offAfterDelay p t phase) tt (after-delay-is-never-later p t m phase h)
 
 -- the second Off's own moment is never the earlier one
 repeated-after-delay : (p : Params) (t u : ℕ) (phase : Phase) → t ≤ u → offAfterDelay p u (offAfterDelay p t phase) ≡ offAfterDelay p t phase

@@ -1,6 +1,6 @@
 -- An order that nothing stops leaves a phase that fits the clock and the flags.
 use Prim.Native.Nat.{ℕ}
-use mathlib.Core.Bool.{Bool, true, false, _&&_, _||_}
+use mathlib.Core.Bool.{Bool, true, false, _||_}
 use mathlib.Core.Path.{_≡_, refl}
 use lib.Dec.{eqb}
 use Rattle.rules.specs.declared.parameters.Recalled.{Recalled}
@@ -11,7 +11,7 @@ use Rattle.rules.specs.declared.input.Force.the-variants.{Free, Off, On}
 use Rattle.rules.specs.declared.input.Event.{Event}
 use Rattle.rules.specs.declared.input.Event.the-variants.{Failure, Return}
 use Rattle.rules.specs.declared.input.Input.{Input}
-use Rattle.rules.specs.declared.input.Input.the-variants.{SwitchOnOff, TimedStartStop, SceneControl, SwitchOnOffForced, LockDevice, NightMode, Bus, Power}
+use Rattle.rules.specs.declared.input.Input.the-variants.{SwitchOnOff, TimedStartStop, NumberedSceneControl, SwitchOnOffForced, LockDevice, NightMode, Bus, Power}
 use Rattle.rules.specs.declared.state.Link.{Link}
 use Rattle.rules.specs.declared.state.Link.the-variants.{Up, BusDown, PowerDown}
 use Rattle.rules.specs.declared.state.State.{State}
@@ -130,8 +130,8 @@ module _ (s : State) (n : Times (s .params)) (f : Fits s) where
   unfolding order scene rowOf rows
   order-fits (SwitchOnOff value) way = switch-fits (freely (unstopped (SwitchOnOff value) way)) value
   order-fits (TimedStartStop value) way = timed-fits (freely (unstopped (TimedStartStop value) way)) value
-  order-fits (SceneControl true number) way = learn-fits number
-  order-fits (SceneControl false number) way = recall-fits (freely (unstopped (SceneControl false number) way)) (recalled (s .scenes) number)
+  order-fits (NumberedSceneControl true number) way = learn-fits number
+  order-fits (NumberedSceneControl false number) way = recall-fits (freely (unstopped (NumberedSceneControl false number) way)) (recalled (s .scenes) number)
   order-fits (SwitchOnOffForced force) way = let c = unstopped (SwitchOnOffForced force) way in forced-fits (c .unlocked) (c .powered) force
   order-fits (LockDevice value) way = lock-fits (unstopped (LockDevice value) way .powered) value
   order-fits (NightMode value) way = night-fits (freely (unstopped (NightMode value) way)) value

@@ -10,7 +10,7 @@ use Rattle.octets.specs.BigEndian.{octet}
 use Rattle.rules.specs.declared.input.Force.the-variants.{Free, Off, On}
 use Rattle.rules.specs.declared.input.Event.the-variants.{Failure, Return}
 use Rattle.rules.specs.declared.input.Input.{Input}
-use Rattle.rules.specs.declared.input.Input.the-variants.{SwitchOnOff, TimedStartStop, SceneControl, SwitchOnOffForced, LockDevice, NightMode, Bus, Power}
+use Rattle.rules.specs.declared.input.Input.the-variants.{SwitchOnOff, TimedStartStop, NumberedSceneControl, SwitchOnOffForced, LockDevice, NightMode, Bus, Power}
 use Rattle.rules.specs.declared.input.Decoded.{Decoded}
 use Rattle.rules.specs.declared.input.Decoded.the-variants.{Meant, Wrong}
 use Rattle.rules.specs.Inputs.{kind, zeroOrOne, sceneMeant, forceMeant, decoded, inputAt}
@@ -32,7 +32,7 @@ zero-or-one-means k value zero one f g =
 scene-means : (value : ℕ) → OfKind 3 (sceneMeant value)
 unfolding sceneMeant
 scene-means value =
-    cond-case (OfKind 3) (eqb (value / 64 % 2) 0) (Meant (SceneControl (eqb (value / 128) 1) (value % 64))) Wrong (λ e. (refl, omega arith)) (λ e. tt)
+    cond-case (OfKind 3) (eqb (value / 64 % 2) 0) (Meant (NumberedSceneControl (eqb (value / 128) 1) (value % 64))) Wrong (λ e. (refl, omega arith)) (λ e. tt)
 
 force-means : (value : ℕ) → OfKind 4 (forceMeant value)
 unfolding forceMeant

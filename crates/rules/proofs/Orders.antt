@@ -14,12 +14,13 @@ use Rattle.rules.specs.declared.input.Force.the-variants.{Free, Off, On}
 use Rattle.rules.specs.declared.input.Event.{Event}
 use Rattle.rules.specs.declared.input.Event.the-variants.{Failure, Return}
 use Rattle.rules.specs.declared.input.Input.{Input}
-use Rattle.rules.specs.declared.input.Input.the-variants.{SwitchOnOff, TimedStartStop, SceneControl, SwitchOnOffForced, LockDevice, NightMode, Bus, Power}
+use Rattle.rules.specs.declared.input.Input.the-variants.{SwitchOnOff, TimedStartStop, NumberedSceneControl, SwitchOnOffForced, LockDevice, NightMode, Bus, Power}
 use Rattle.rules.specs.declared.state.Link.{Link}
 use Rattle.rules.specs.declared.state.Link.the-variants.{Up, BusDown, PowerDown}
 use Rattle.rules.specs.declared.state.State.{State}
 use Rattle.rules.specs.Scenes.{recalled, learnt}
 use Rattle.rules.specs.Phases.{output}
+use Rattle.rules.specs.declared.phase.Phase.the-variants.{Dark, Lit}
 use Rattle.rules.specs.Orders.{withForce, withLink, withLock, standing, held, settle, switch, timed, recall, learn, scene, nightMode, forced, locked, unlocked, lockDevice, busMode, bus, powerFails, powerReturns, power, order}
 use Rattle.rules.proofs.Tests.{cond-case}
 
@@ -27,7 +28,7 @@ use Rattle.rules.proofs.Tests.{cond-case}
 abbrev pub sceneNumber : Input → ℕ
 sceneNumber (SwitchOnOff on) = 0
 sceneNumber (TimedStartStop start) = 0
-sceneNumber (SceneControl learn number) = number
+sceneNumber (NumberedSceneControl learn number) = number
 sceneNumber (SwitchOnOffForced force) = 0
 sceneNumber (LockDevice lock) = 0
 sceneNumber (NightMode night) = 0
@@ -124,10 +125,16 @@ pub order-keeps : (s : State) (i : Input) → Kept (s .params) (s .clock) (s .sc
 unfolding order scene
 order-keeps s (SwitchOnOff value) = switch-keeps _ s value
 order-keeps s (TimedStartStop value) = timed-keeps _ s value
-order-keeps s (SceneControl true number) = learn-keeps s number
-order-keeps s (SceneControl false number) = recall-keeps _ s (recalled (s .scenes) number)
+order-keeps s (NumberedSceneControl true number) = learn-keeps s number
+order-keeps s (NumberedSceneControl false number) = recall-keeps _ s (recalled (s .scenes) number)
 order-keeps s (SwitchOnOffForced force) = forced-keeps _ s force
 order-keeps s (LockDevice value) = lock-keeps _ s value
 order-keeps s (NightMode value) = night-keeps _ s value
 order-keeps s (Bus event) = bus-keeps _ s (s .link) event
 order-keeps s (Power event) = power-keeps _ s (s .link) event
+
+-- 01, "Slips we have seen": "An unlock that forgets a standing force."
+pub unlock-obeys-a-standing-force : (s : State) → s .lock ≡ true →
+    (s .force ≡ Off → order s (LockDevice false) .phase ≡ Dark) × (s .force ≡ On → order s (LockDevice false) .phase ≡ Lit)
+unfolding order lockDevice unlocked
+unlock-obeys-a-standing-force s h = (λ e. rw (h, e), λ e. rw (h, e))

@@ -108,6 +108,6 @@ no-trace-may-be-struck s before t i later end h trace =
     (record { state = refl; records = refl; answers = refl; other-answers = refl })
 
 -- a dropped cue may be struck, since it leaves no trace
-pub struck-leaves-no-trace : (s : State) (before : List Cue) (t : ℕ) (i : Input) (later : List Cue) (end : ℕ) →
+pub dropped-may-be-struck : (s : State) (before : List Cue) (t : ℕ) (i : Input) (later : List Cue) (end : ℕ) →
     NotBefore t later end → (barrier (clockMove (plays before s .state) t .state) i ≡ Open → ⊥) → MayBeStruck s before t i later end
-struck-leaves-no-trace s before t i later end h stops = no-trace-may-be-struck s before t i later end h (dropped-leaves-no-trace _ i t stops)
+dropped-may-be-struck s before t i later end h stops = no-trace-may-be-struck s before t i later end h (dropped-leaves-no-trace _ i t stops)

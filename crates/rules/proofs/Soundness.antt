@@ -136,12 +136,6 @@ pub move-clock : (s : State) (t : ℕ) → clockMove s t .state .clock ≡ t
 unfolding clockMove ticked
 move-clock s t = refl
 
-pub move-params : (s : State) (t : ℕ) → clockMove s t .state .params ≡ s .params
-move-params s t = ap (λ u. u .params) (move-keeps s t)
-
-pub move-scenes : (s : State) (t : ℕ) → clockMove s t .state .scenes ≡ s .scenes
-move-scenes s t = ap (λ u. u .scenes) (move-keeps s t)
-
 -- ---- an order and a step
 
 -- an order keeps clock and parameters, teaches a used entry at most, and sets a phase that fits

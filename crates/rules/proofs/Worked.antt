@@ -1,5 +1,5 @@
 -- The ten cases that 01 works on paper, as one table: the cues of each case, its answers, and every record of its run, so that
--- "never on" and "on throughout" are said of all moments.
+-- "never on" and "on throughout" are said of all moments up to the end, 1000.
 use Prim.Native.Nat.{ℕ}
 use mathlib.Core.Bool.{true, false}
 use mathlib.Core.Path.{_≡_, refl}

@@ -30,7 +30,8 @@ byLock r = r .2
 abbrev pub byForce : Row → Bool
 byForce r = r .3
 
--- "What stops each kind is kept as one table of eight rows that names the barriers of that kind: power down stops 1 to 7;
+-- "Document 004 lets SwitchOnOffForced override the low inputs: switch, timed, scene, night. Lock stands above force (our
+-- reading). What stops each kind is kept as one table of eight rows that names the barriers of that kind: power down stops 1 to 7;
 -- bus down stops 1 to 6; lock stops 1 to 4 and 6; force stops 1 to 3 and 6."
 unfoldable pub rows : List Row
 rows =

@@ -1,6 +1,6 @@
 -- The public calls by value: their whole results, for every input (01, "Records and the printout" and "Refusal numbers").
 use Prim.Native.Nat.{ℕ, zero, suc}
-use mathlib.Core.Bool.{Bool, true, false, cond}
+use mathlib.Core.Bool.{false, cond}
 use mathlib.Core.List.{List, [], _∷_}
 use lib.ListN.{length}
 use Rattle.rules.specs.declared.parameters.Params.{Params}
@@ -73,7 +73,7 @@ places (suc n) (r ∷ records) = r ∷ places n records
 
 -- ---- a single input
 
--- "A single input, eight octets by value, returns state, answer and at most three records by value"
+-- "A single input, eight octets by value, returns state, answer and at most three records by value .. neither writes a start record."
 unfoldable pub singleDone : Stepped → Single
 singleDone d =
     record { state = d .state; code = 0; place = 0; answer = d .answer; count = length (d .records); records = places 3 (d .records) }

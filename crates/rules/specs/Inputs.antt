@@ -1,22 +1,22 @@
 -- The eight kinds of input, each with its own value (01, "Time and the cue file").
 use Prim.Native.Nat.{ℕ, _+_, _/_, _%_}
-use mathlib.Core.Bool.{Bool, true, false, cond, _&&_}
+use mathlib.Core.Bool.{true, false, cond, _&&_}
 use mathlib.Core.List.{List}
 use lib.Dec.{eqb, leb}
 use Rattle.octets.specs.BigEndian.{octet, be32}
-use Rattle.rules.specs.declared.input.Force.{Force}
 use Rattle.rules.specs.declared.input.Force.the-variants.{Free, Off, On}
 use Rattle.rules.specs.declared.input.Event.the-variants.{Failure, Return}
 use Rattle.rules.specs.declared.input.Input.{Input}
-use Rattle.rules.specs.declared.input.Input.the-variants.{SwitchOnOff, TimedStartStop, SceneControl, SwitchOnOffForced, LockDevice, NightMode, Bus, Power}
+use Rattle.rules.specs.declared.input.Input.the-variants.{SwitchOnOff, TimedStartStop, NumberedSceneControl, SwitchOnOffForced, LockDevice, NightMode, Bus, Power}
 use Rattle.rules.specs.declared.input.Decoded.{Decoded}
 use Rattle.rules.specs.declared.input.Decoded.the-variants.{Meant, Wrong}
 
--- "1 SwitchOnOff, 2 TimedStartStop, .. 3 scene .. 4 forced .. 5 LockDevice .., 6 NightMode .. 7 bus and 8 power"
+-- "1 SwitchOnOff, 2 TimedStartStop, 5 LockDevice (1 locks), 6 NightMode: 0 or 1. 3 scene: .. 4 forced: .. 7 bus and 8 power:
+-- 0 failure, 1 return."
 abbrev pub kind : Input → ℕ
 kind (SwitchOnOff on) = 1
 kind (TimedStartStop start) = 2
-kind (SceneControl learn number) = 3
+kind (NumberedSceneControl learn number) = 3
 kind (SwitchOnOffForced force) = 4
 kind (LockDevice lock) = 5
 kind (NightMode night) = 6
@@ -29,7 +29,7 @@ zeroOrOne value zero one = cond (eqb value 0) (Meant zero) (cond (eqb value 1) (
 
 -- "3 scene: bit 7 set is learn, bit 6 zero, low six bits the number." (DPT 18.001)
 unfoldable pub sceneMeant : ℕ → Decoded
-sceneMeant value = cond (eqb (value / 64 % 2) 0) (Meant (SceneControl (eqb (value / 128) 1) (value % 64))) Wrong
+sceneMeant value = cond (eqb (value / 64 % 2) 0) (Meant (NumberedSceneControl (eqb (value / 128) 1) (value % 64))) Wrong
 
 -- "4 forced: 0 and 1 no control, 2 Off, 3 On." (DPT 2.001)
 unfoldable pub forceMeant : ℕ → Decoded

@@ -1,4 +1,4 @@
--- A list of stamped inputs, played (01, "Time and the cue file" and "Phases").
+-- A list of stamped inputs, played (01, "Phases" and "Records and the printout").
 use Prim.Native.Nat.{ℕ}
 use mathlib.Core.List.{List, [], _∷_, _++_}
 use Rattle.rules.specs.declared.parameters.Params.{Params}

@@ -15,7 +15,7 @@ use Rattle.rules.specs.declared.input.Force.the-variants.{Free, Off, On}
 use Rattle.rules.specs.declared.input.Event.{Event}
 use Rattle.rules.specs.declared.input.Event.the-variants.{Failure, Return}
 use Rattle.rules.specs.declared.input.Input.{Input}
-use Rattle.rules.specs.declared.input.Input.the-variants.{SwitchOnOff, TimedStartStop, SceneControl, SwitchOnOffForced, LockDevice, NightMode, Bus, Power}
+use Rattle.rules.specs.declared.input.Input.the-variants.{SwitchOnOff, TimedStartStop, NumberedSceneControl, SwitchOnOffForced, LockDevice, NightMode, Bus, Power}
 use Rattle.rules.specs.declared.state.Link.{Link}
 use Rattle.rules.specs.declared.state.Link.the-variants.{Up, BusDown, PowerDown}
 use Rattle.rules.specs.declared.state.State.{State}
@@ -125,7 +125,7 @@ abbrev pub plain : Bool → Phase
 plain true = Lit
 plain false = Dark
 
--- "0 keep, 1 off, 2 on", where keep is the output given
+-- "0 keep, 1 off, 2 on", where keep is the output given (no other mode is in range)
 unfoldable pub byMode : ℕ → Bool → Bool
 byMode mode kept = cond (eqb mode 1) false (cond (eqb mode 2) true kept)
 
@@ -181,7 +181,7 @@ unfoldable pub lockDevice : State → Bool → State
 lockDevice s true = cond (s .lock) s (locked s)
 lockDevice s false = cond (s .lock) (unlocked s (s .force)) s
 
--- "then the mode, unless lock or force stands. Keep leaves phase and timers running."
+-- "then the mode, unless lock or force stands. Keep leaves phase and timers running." ("0 keep, 1 off, 2 on"; no other mode is in range)
 unfoldable pub busMode : State → ℕ → State
 busMode s mode = cond (held s || eqb mode 0) s (settle s (eqb mode 2))
 
@@ -227,7 +227,7 @@ power s PowerDown Return = powerReturns s
 unfoldable pub order : State → Input → State
 order s (SwitchOnOff value) = switch s value
 order s (TimedStartStop value) = timed s value
-order s (SceneControl learns number) = scene s learns number
+order s (NumberedSceneControl learns number) = scene s learns number
 order s (SwitchOnOffForced force) = forced s force
 order s (LockDevice value) = lockDevice s value
 order s (NightMode value) = nightMode s value

@@ -1,8 +1,8 @@
 -- The parameters: what their 32 octets say, and which of them are in range.
 use Prim.Native.Nat.{ℕ, zero, suc, _+_, _-_, _*_, _/_, _%_}
-use mathlib.Core.Bool.{Bool, true, false, cond, not, _&&_, _||_}
+use mathlib.Core.Bool.{Bool, false, cond, not, _&&_, _||_}
 use mathlib.Core.List.{List, [], _∷_}
-use lib.ListN.{length, getD}
+use lib.ListN.{getD}
 use lib.Dec.{eqb, leb, ltb}
 use Rattle.octets.specs.BigEndian.{octet, be16}
 use Rattle.rules.specs.declared.parameters.Params.{Params}
@@ -98,6 +98,6 @@ unfoldable pub paramsInRange : Params → Bool
 paramsInRange p =
     (timeInRange (p .ondelay) && timeInRange (p .offdelay)) &&
     (timeInRange (p .timedon) && timeInRange (p .prewarning)) &&
-    (leb 1 (p .timedon) && leb (p .locking) 2) &&
+    (leb (tenths 1) (p .timedon) && leb (p .locking) 2) &&
     (leb (p .unlocking) 3 && leb (p .busfailure) 2) &&
     (leb (p .busreturn) 2 && leb (p .powerreturn) 2)

@@ -47,6 +47,6 @@ atDeadline p night (Ending d) = Dark
 unfoldable pub setOn : Params → Bool → Bool → ℕ → Phase
 setOn p night held t = litAt p (night && not held) t
 
--- ""Set off" is Dark."
+-- ""Set off" is Dark." "Neither waits for a delay."
 abbrev pub setOff : Phase
 setOff = Dark

@@ -1,6 +1,6 @@
 -- The refusal numbers and the checks that give them (01, "Refusal numbers").
 use Prim.Native.Nat.{ℕ, zero, suc, _+_}
-use mathlib.Core.Bool.{Bool, true, false, cond, _&&_}
+use mathlib.Core.Bool.{Bool, cond, _&&_}
 use mathlib.Core.List.{List}
 use lib.ListN.{length}
 use lib.Dec.{eqb, leb}
@@ -22,15 +22,6 @@ number BadInput = 6
 number BadStamp = 7
 number ShortBuffer = 8
 number UnsoundState = 9
-
--- "an accepted call has code 0, place 0"
-abbrev pub code : Check → ℕ
-code Passed = 0
-code (Refused why place) = number why
-
-abbrev pub placeOf : Check → ℕ
-placeOf Passed = 0
-placeOf (Refused why place) = place
 
 -- ---- parameters: 1, then 5
 

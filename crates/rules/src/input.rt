@@ -17,7 +17,7 @@ pub enum Input {
     SwitchOnOff(bool),
     TimedStartStop(bool),
     // whether to learn, and the scene number
-    SceneControl(bool, u8),
+    NumberedSceneControl(bool, u8),
     SwitchOnOffForced(Force),
     LockDevice(bool),
     NightMode(bool),

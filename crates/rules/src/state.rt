@@ -1,4 +1,6 @@
-// The state of one actuator: all that a run carries from one input to the next.
+// The state of one actuator. 01, "Phases": "The state holds its parameters and current scene table, the clock, night, lock, force
+// (none, off, on), link (up, bus down, power down), the outputs remembered at locking and at power failure, and one phase,
+// some with a deadline".
 use crate::input::Force;
 use crate::parameters::Params;
 use crate::parameters::Scene;
