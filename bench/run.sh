@@ -1,0 +1,52 @@
+#!/usr/bin/env bash
+# Instructions and time of the proved run against the second model in Rust, for 0, 256, 1,024 and 2,048 inputs.
+# Needs valgrind and rustc. Both sides are compiled for this machine's own processor: the proved run from the very code that
+# `rt staticlib house` compiles, at -O3.
+set -eu
+cd "$(dirname "$0")/.."
+. tests/kit.sh
+out=target/bench
+mkdir -p "$out"
+
+# An object of the proved library for this machine: the kit's compiler is asked for the archive, and what it hands to its back
+# end (LLVM bitcode) is compiled for this processor.
+native_object() {
+    local work=$out/object words=() crate
+    rm -rf "$work"
+    mkdir -p "$work/bin"
+    ln -s "$kit_tools/lib" "$work/lib"
+    for tool in ld.lld llvm-ar; do ln -s "$kit_tools/bin/$tool" "$work/bin/$tool"; done
+    printf '#!/bin/bash\nfor a in "$@"; do case "$a" in *.bc) cp "$a" %q ;; esac; done\nexec %q "$@"\n' \
+        "$PWD/$work/module.bc" "$kit_tools/bin/clang" >"$work/bin/clang"
+    chmod +x "$work/bin/clang"
+    for crate in $(sed -n 's/^house: *//p' crates.txt); do words+=(--extern "$crate=target/rlib/$crate.rlib"); done
+    "$kit_own/bin/rattle" build --crate-name house crates/house/src/lib.rt --extern "std=$kit_own/rlib/std.rlib" "${words[@]}" \
+        -L dependency=target/rlib -L "dependency=$kit_own/rlib" --antt-project "$kit_home/logic/antt-project.json" \
+        --logic-built "$kit_own/logic-built" --toolchain "$work" --crate-type staticlib -o "$work/house.a" >"$work/log" 2>&1
+    "$kit_tools/bin/clang" "--target=$(uname -m)-unknown-linux-gnu" -O3 -fPIC -x ir -c "$work/module.bc" -o "$out/house.o" \
+        -Wno-override-module 2>/dev/null
+}
+
+# instructions WHICH N: those executed inside one call.
+instructions() {
+    valgrind --tool=callgrind --callgrind-out-file=/dev/null --toggle-collect="$1" "$out/bench" count "$1" "$2" 2>&1 |
+        sed -n 's/.*Collected : *\([0-9]*\).*/\1/p'
+}
+
+rt check house >"$out/check" 2>&1
+native_object
+rustc --edition 2021 -C opt-level=3 -C codegen-units=1 bench/bench.rs -o "$out/bench" -C link-arg="$out/house.o"
+
+echo "| inputs | instructions, proved | instructions, Rust | ratio |"
+echo "|---|---|---|---|"
+for n in 0 256 1024 2048; do
+    a=$(instructions house_run "$n")
+    b=$(instructions model_run "$n")
+    echo "| $n | $a | $b | $(awk "BEGIN { printf \"%.2f\", $a / $b }") |"
+done
+echo
+echo "| inputs | ns, proved | ns, Rust | ratio |"
+echo "|---|---|---|---|"
+"$out/bench" time | while read -r n a b; do
+    echo "| $n | $a | $b | $(awk "BEGIN { printf \"%.2f\", $a / $b }") |"
+done

@@ -1,0 +1,89 @@
+/* house.h: the preview of a house-light actuator, for C.
+ *
+ * One call plays a cue file on the model of one KNX Light Switching Actuator Basic and writes what its status shows and how
+ * each cue is answered. The model is written in Rattle, and the call is proved to give exactly what the rules say, for every
+ * octet string and every pair of buffers. It has no state of its own, allocates nothing, prints nothing and always returns:
+ * it may be called from any thread, and from several at once, as long as they lend different buffers.
+ *
+ * Link with libhouse.a (x86-64 Linux; `rt staticlib house` makes it in target/staticlib).
+ */
+#ifndef HOUSE_H
+#define HOUSE_H
+
+#include <stddef.h>
+#include <stdint.h>
+
+#ifdef __cplusplus
+extern "C" {
+#endif
+
+/* Plays a cue file.
+ *
+ *   file, file_len          the octets of a cue file; they are only read
+ *   records, records_len    lent room for records: at least HOUSE_RECORDS_ROOM(n) octets for a file of n inputs
+ *   answers, answers_len    lent room for answers: at least n octets
+ *
+ * The three are yours before and after the call, and must not overlap while it runs. Each may be NULL if its length is 0.
+ * Nothing else is asked of you: what is wrong with a file is answered, never assumed away.
+ *
+ * The answer is one number: HOUSE_CODE (0: accepted), HOUSE_PLACE and HOUSE_COUNT take it apart.
+ *
+ * Accepted: records holds HOUSE_COUNT records of eight octets, answers one octet for each input; whatever stood behind them
+ * stays. Refused: nothing is written, and the count is 0.
+ */
+uint64_t house_run(const uint8_t *file, size_t file_len, uint8_t *records, size_t records_len, uint8_t *answers,
+                   size_t answers_len);
+
+#define HOUSE_CODE(number) ((unsigned)((number) >> 48))
+#define HOUSE_PLACE(number) ((unsigned)((number) >> 32) & 0xFFFFu)
+#define HOUSE_COUNT(number) ((uint32_t)(number))
+
+/* Room that is enough for every file. */
+#define HOUSE_MOST_INPUTS 2048u
+#define HOUSE_LONGEST_FILE (52u + 8u * HOUSE_MOST_INPUTS)
+#define HOUSE_RECORDS_ROOM(n) (8u * (3u * (size_t)(n) + 3u))
+
+/* Codes, in the order in which they are tested, and what the place means. */
+enum house_code {
+    HOUSE_ACCEPTED = 0,        /* place 0 */
+    HOUSE_TOO_SHORT = 1,       /* a file under 52 octets; place 0 */
+    HOUSE_WRONG_VERSION = 2,   /* version not 1; place 0 */
+    HOUSE_WRONG_ACTUATORS = 3, /* count of actuators not 1; place 0 */
+    HOUSE_WRONG_LAYOUT = 4,    /* an offset, the count of inputs, the length or the end time; place 0 */
+    HOUSE_BAD_PARAMETER = 5,   /* place: the lowest bad octet of the 32 parameter octets, 0 to 31 */
+    HOUSE_BAD_INPUT = 6,       /* kind, value or zero octet; place: the input's index, from 0 */
+    HOUSE_BAD_STAMP = 7,       /* below the stamp before, or above the end time; place: the input's index */
+    HOUSE_SHORT_BUFFER = 8     /* a lent buffer is too short; place 0 */
+};
+
+/* A record, eight octets: the stamp in tenths of a second (four octets, most significant first), value, attributes, cause,
+ * zero. The first is written at the start, each other one after a timer or an input that changed value or attributes. */
+#define HOUSE_STAMP(record) \
+    ((uint32_t)(record)[0] << 24 | (uint32_t)(record)[1] << 16 | (uint32_t)(record)[2] << 8 | (uint32_t)(record)[3])
+#define HOUSE_VALUE(record) ((record)[4])      /* 0 off, 255 on */
+#define HOUSE_ATTRIBUTES(record) ((record)[5]) /* enum house_attribute, added up */
+#define HOUSE_CAUSE(record) ((record)[6])      /* the input's kind, 1 to 8; 0 for a timer and for the start */
+
+enum house_attribute {
+    HOUSE_VALID = 1,    /* power is not down */
+    HOUSE_LOCKED = 2,
+    HOUSE_FORCED = 4,
+    HOUSE_NIGHT = 8,
+    HOUSE_STAIRCASE = 16 /* timed light runs, its prewarning included */
+};
+
+/* An answer to an input. A stopped input is dropped for good. */
+enum house_answer {
+    HOUSE_CHANGED = 0,         /* it changed something */
+    HOUSE_UNCHANGED = 1,       /* it was taken, and changed nothing but the clock */
+    HOUSE_STOPPED_BY_FORCE = 2,
+    HOUSE_STOPPED_BY_LOCK = 3,
+    HOUSE_STOPPED_BY_BUS = 4,  /* the bus is down */
+    HOUSE_STOPPED_BY_POWER = 5 /* power is down */
+};
+
+#ifdef __cplusplus
+}
+#endif
+
+#endif

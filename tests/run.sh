@@ -1,0 +1,133 @@
+#!/usr/bin/env bash
+# The tests of what is built: the archive against the second model, the print program, the C example. Called by ./test after
+# the proofs, from the repository's root. It installs what is missing and needed, and says so. The last line is
+# 'N passed, M failed'.
+#
+# How the Rust tests reach the archive, which is x86-64: on x86-64 they link it plainly. On aarch64 they are compiled for
+# x86-64 with Debian's packages and run under an emulator. Where those packages cannot be had, they run as they are, and every
+# call goes through a small C program (bridge.c) that the kit alone builds and runs. A sample goes by the bridge in any case.
+set -u
+cd "$(dirname "$0")/.." || exit 2
+. tests/kit.sh
+
+passed=0
+failed=0
+out=target/tests
+mkdir -p "$out"
+
+# counted NAME COMMAND..: a command whose last line is 'N passed, M failed'.
+counted() {
+    local name=$1 last
+    shift
+    echo "-- $name"
+    "$@" >"$out/log" 2>&1
+    local status=$?
+    cat "$out/log"
+    last=$(tail -n 1 "$out/log")
+    if [[ $last =~ ^([0-9]+)\ passed,\ ([0-9]+)\ failed$ ]]; then
+        passed=$((passed + BASH_REMATCH[1]))
+        failed=$((failed + BASH_REMATCH[2]))
+        [ "$status" -eq 0 ] || [ "${BASH_REMATCH[2]}" -gt 0 ] || failed=$((failed + 1))
+    else
+        failed=$((failed + 1))
+        echo "FAILED: $name ended without a count"
+    fi
+}
+
+# done_or_not NAME COMMAND..: one check.
+done_or_not() {
+    local name=$1
+    shift
+    if "$@"; then
+        passed=$((passed + 1))
+        echo "ok: $name"
+    else
+        failed=$((failed + 1))
+        echo "FAILED: $name"
+    fi
+}
+
+install() {
+    echo "installing with apt-get: $*"
+    DEBIAN_FRONTEND=noninteractive apt-get install -y -qq --no-install-recommends "$@" >"$out/apt" 2>&1
+}
+
+# Sets `way` to how the tests reach the archive, `compile` to the compiler and `run` to what runs its programs.
+choose_way() {
+    compile=(rustc)
+    run=()
+    way=bridge
+    if ! command -v rustc >/dev/null; then
+        apt-get update -qq >/dev/null 2>&1
+        install rustc || { echo "there is no Rust compiler, and none can be installed"; return 1; }
+    fi
+    if [ "$(uname -m)" = x86_64 ]; then
+        command -v cc >/dev/null || { apt-get update -qq >/dev/null 2>&1; install gcc libc6-dev; }
+        way=linked
+    elif cross_tools; then
+        compile=(/usr/bin/rustc --target x86_64-unknown-linux-gnu -C linker=x86_64-linux-gnu-gcc)
+        run=(qemu-x86_64)
+        way=linked
+    fi
+}
+
+# Debian's own compiler with the library for x86-64, a linker for it, and an emulator.
+cross_tools() {
+    local packages=(rustc libstd-rust-dev:amd64 gcc-x86-64-linux-gnu libc6-dev-amd64-cross qemu-user)
+    dpkg -s "${packages[@]}" >/dev/null 2>&1 && return 0
+    echo "adding the architecture amd64 to this machine's packages"
+    dpkg --add-architecture amd64 2>/dev/null && apt-get update -qq >/dev/null 2>&1 && install "${packages[@]}" ||
+        { echo "the packages to link the archive on this machine cannot be had"; return 1; }
+}
+
+# rust NAME [WORDS..]: tests/NAME.rs, compiled.
+rust() {
+    local name=$1
+    shift
+    "${compile[@]}" --edition 2021 -O -D warnings "tests/$name.rs" -o "$out/$name" "$@"
+}
+
+build_bridge() {
+    kit_cc "$out/bridge.o" tests/bridge.c && kit_link "$out/bridge" "$out/bridge.o" target/staticlib/libhouse.a
+}
+
+# The C example, with warnings as errors: by a C compiler for x86-64 where there is one, else by the kit's compiler with this
+# machine's headers.
+build_example() {
+    local cc=x86_64-linux-gnu-gcc
+    [ "$(uname -m)" = x86_64 ] && cc=cc
+    if command -v "$cc" >/dev/null; then
+        "$cc" -std=c99 -Wall -Wextra -Werror -pedantic -O2 -fPIE -Iinclude -c examples/preview.c -o "$out/preview.o"
+    else
+        kit_cc "$out/preview.o" examples/preview.c -std=c99 -Iinclude -isystem /usr/include -isystem "/usr/include/$(uname -m)-linux-gnu"
+    fi && kit_link "$out/preview" "$out/preview.o" target/staticlib/libhouse.a
+}
+
+example_says() {
+    "${kit_run[@]}" "$out/preview" <shows/example.cue | diff - examples/preview.txt
+}
+
+done_or_not "the archive for C is built (rt staticlib house)" rt staticlib house >"$out/staticlib" 2>&1
+tail -n 1 "$out/staticlib"
+done_or_not "the bridge is built by the kit alone" build_bridge
+if choose_way; then
+    echo "the Rust tests reach the archive by: $way"
+    if [ "$way" = linked ]; then
+        done_or_not "the comparison is linked with the archive" rust compare --cfg linked -L target/staticlib -l static=house
+    else
+        done_or_not "the comparison is built" rust compare
+    fi
+    done_or_not "the printout's comparison is built" rust prints
+    done_or_not "the second model's own tests are built" rust model_tests --test
+    counted "the run against the second model" "${run[@]}" "$out/compare" "${kit_run[@]}" "$out/bridge"
+    counted "the printout against the second model" "${run[@]}" "$out/prints" "${kit_run[@]}" target/bin/cueprint
+    done_or_not "the second model's own tests" "${run[@]}" "$out/model_tests" --quiet
+    counted "the by-value calls against the second model" bash tests/paces.sh
+else
+    failed=$((failed + 1))
+fi
+counted "the shows" bash tests/shows.sh
+done_or_not "the C example is built, warnings as errors" build_example
+done_or_not "the C example says what the house does" example_says
+echo "$passed passed, $failed failed"
+[ "$failed" -eq 0 ]
