@@ -1,6 +1,6 @@
 -- The step of the rules is what the code does after the clock move: take the input, or stop it.
 use Prim.Native.Nat.{ℕ}
-use mathlib.Core.Path.{_≡_, refl}
+use mathlib.Core.Path.{_≡_, refl, sym}
 use Rattle.rules.specs.declared.input.Input.{Input}
 use Rattle.rules.specs.declared.state.State.{State}
 use Rattle.rules.specs.declared.barrier.Barrier.{Barrier}
@@ -9,8 +9,11 @@ use Rattle.rules.specs.Inputs.{kind}
 use Rattle.rules.specs.Orders.{order}
 use Rattle.rules.specs.Barriers.{barrier}
 use Rattle.rules.specs.Steps.{clockMove, taken, meet, act, step}
+use Rattle.rules.specs.Phases.{deadline}
+use Rattle.rules.proofs.Ticks.{Quiet}
+use Rattle.rules.proofs.Timers.{no-timer-due-no-move}
 use Rattle.rules.proofs.Records.{a-move-writes-at-most-two}
-use Rattle.actuator.specs.Notes.{clocked, acted, takenBy, stoppedBy}
+use Rattle.actuator.specs.Notes.{clocked, passed, acted, takenBy, stoppedBy}
 use Rattle.actuator.proofs.Written.{added-written}
 
 module _ (s : State) (i : Input) (t : ℕ) where
@@ -37,3 +40,8 @@ module _ (s : State) (i : Input) (t : ℕ) where
   pub barred-is-stopped : (b : Barrier) → Stops b → barrier (clockMove s t .state) i ≡ b → stoppedBy (clocked (clockMove s t)) b ≡ acted (step s i t)
   unfolding step act
   barred-is-stopped b stops bars = rw bars (met b stops)
+
+-- where no timer is due, only the clock moves
+pub quiet-passes : (s : State) (t : ℕ) → Quiet t (deadline (s .phase)) → passed s t ≡ clockMove s t
+unfolding passed
+quiet-passes s t quiet = sym (no-timer-due-no-move s t quiet)

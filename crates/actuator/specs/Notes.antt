@@ -11,7 +11,7 @@ use Rattle.rules.specs.declared.record.Record.{Record}
 use Rattle.rules.specs.Inputs.{kind}
 use Rattle.rules.specs.Status.{sameStatus, recordOf}
 use Rattle.rules.specs.Answers.{answer, sameButClock}
-use Rattle.rules.specs.Steps.{Moved, Stepped}
+use Rattle.rules.specs.Steps.{Moved, Stepped, atMoment}
 use Rattle.rules.specs.Calls.{places}
 use Rattle.actuator.specs.declared.notes.Notes.{Notes}
 use Rattle.actuator.specs.declared.notes.Note.{Note}
@@ -37,6 +37,10 @@ added n (Wrote r) = record { count = n .count + 1; records = set (n .records) (n
 -- what the clock move and the step of the rules give, by value
 unfoldable pub clocked : Moved → Clocked
 clocked m = record { state = m .state; notes = notes (m .records) }
+
+-- a clock move that meets no timer
+unfoldable pub passed : State → ℕ → Moved
+passed s t = record { state = atMoment s t (s .phase); records = [] }
 
 unfoldable pub acted : Stepped → Acted
 acted d = record { state = d .state; answer = d .answer; notes = notes (d .records) }

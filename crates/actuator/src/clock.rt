@@ -3,7 +3,7 @@ ghost use mathlib.Core.Path.{_≡_};
 ghost use Prim.Native.Nat.{_≤_};
 ghost use Rattle.rules.specs.Steps.{atMoment, tick, clockMove};
 ghost use Rattle.phases.specs.Room.{Room};
-ghost use Rattle.actuator.specs.Notes.{clocked};
+ghost use Rattle.actuator.specs.Notes.{clocked, passed};
 use crate::notes;
 use crate::notes::Notes;
 use phases::phase;
@@ -64,7 +64,7 @@ fn tick_once(s: State, t: u32) -> State
 }
 
 // Every timer due at or before t: a phase has at most three before it rests.
-pub fn move_clock(s: State, t: u32) -> Clocked
+fn run_timers(s: State, t: u32) -> Clocked
     requires { ⌜ Room (s .params) t ⌝ }
     ensures { λ r. ⌜ r ≡ clocked (clockMove s t) ⌝ }
 {
@@ -78,5 +78,35 @@ pub fn move_clock(s: State, t: u32) -> Clocked
     Clocked {
         state: at_moment(c, t, ph),
         notes: third,
+    }
+}
+
+// Only the clock moves: no timer is due.
+fn let_pass(s: State, t: u32) -> Clocked
+    ensures { λ r. ⌜ r ≡ clocked (passed s t) ⌝ }
+{
+    let ph = s.phase;
+    Clocked {
+        state: at_moment(s, t, ph),
+        notes: notes::none(),
+    }
+}
+
+// The clock moves to t. Most moves meet no timer, and are cheap.
+pub fn move_clock(s: State, t: u32) -> Clocked
+    requires { ⌜ Room (s .params) t ⌝ }
+    ensures { λ r. ⌜ r ≡ clocked (clockMove s t) ⌝ }
+{
+    let ph = s.phase;
+    let deadline = phase::deadline_of(ph);
+    match deadline {
+        Deadline::Never => let_pass(s, t),
+        Deadline::At(d) => {
+            if d <= t {
+                run_timers(s, t)
+            } else {
+                let_pass(s, t)
+            }
+        }
     }
 }
