@@ -1,6 +1,6 @@
 // Whether anything but the clock differs between two states.
 ghost use mathlib.Core.Path.{_≡_};
-ghost use Prim.Native.Nat.{_≤_};
+ghost use mathlib.Core.Bool.{_&&_};
 ghost use Rattle.rules.specs.Answers.{phaseNumber, due, samePhase, forceNumber, linkNumber, sameScene, sameScenes, sameFlags, sameButClock};
 use phases::logic::alike;
 use phases::logic::both;
@@ -109,12 +109,27 @@ fn same_flags(a: State, b: State) -> bool
     )
 }
 
-pub fn same_but_clock(a: State, b: State) -> bool
-    ensures { λ r. ⌜ r ≡ sameButClock a b ⌝ }
+// Phase and flags are the same: all that an input of another kind than a scene can change.
+fn same_standing(a: State, b: State) -> bool
+    ensures { λ r. ⌜ r ≡ (samePhase (a .phase) (b .phase) && sameFlags a b) ⌝ }
 {
     let p = a.phase;
     let q = b.phase;
+    both(same_phase(p, q), same_flags(a, b))
+}
+
+// Nothing but the clock differs after an input of this kind. Only a scene input, kind 3, can write the scene table, so no
+// other kind pays for comparing it.
+pub fn same_but_clock(kind: u8, a: State, b: State) -> bool
+    requires { ⌜ ((kind ≡ 3 → ⊥) → b .scenes ≡ a .scenes) ⌝ }
+    ensures { λ r. ⌜ r ≡ sameButClock a b ⌝ }
+{
+    let standing = same_standing(a, b);
     let k = a.scenes;
     let j = b.scenes;
-    both(both(same_phase(p, q), same_flags(a, b)), same_scenes(k, j))
+    if kind == 3 {
+        both(standing, same_scenes(k, j))
+    } else {
+        standing
+    }
 }

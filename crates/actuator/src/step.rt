@@ -50,10 +50,12 @@ fn take(m: Clocked, i: Input) -> Acted
     let s = m.state;
     let n = m.notes;
     let after = carry_out(s, i);
-    let written = notes::add(n, notes::noted(kind_of(i), s, after));
+    let kind = kind_of(i);
+    let same = same_but_clock(kind, s, after);
+    let written = notes::add(n, notes::noted(kind, s, after));
     Acted {
         state: after,
-        answer: answer_number(Barrier::Open, same_but_clock(s, after)),
+        answer: answer_number(Barrier::Open, same),
         notes: written,
     }
 }

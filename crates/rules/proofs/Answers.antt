@@ -106,7 +106,7 @@ states-equal a b clock params h =
 
 -- a test passes at equal things
 
-scenes-same : (l : List Scene) → sameScenes l l ≡ true
+pub scenes-same : (l : List Scene) → sameScenes l l ≡ true
 unfolding sameScenes sameScene
 scenes-same [] = refl
 scenes-same (x ∷ xs) = simp (eqb-same, beq-same, scenes-same xs)

@@ -19,6 +19,7 @@ use Rattle.rules.specs.declared.state.Link.{Link}
 use Rattle.rules.specs.declared.state.Link.the-variants.{Up, BusDown, PowerDown}
 use Rattle.rules.specs.declared.state.State.{State}
 use Rattle.rules.specs.Scenes.{recalled, learnt}
+use Rattle.rules.specs.Inputs.{kind}
 use Rattle.rules.specs.Phases.{output}
 use Rattle.rules.specs.declared.phase.Phase.the-variants.{Dark, Lit}
 use Rattle.rules.specs.Orders.{withForce, withLink, withLock, standing, held, settle, switch, timed, recall, learn, scene, nightMode, forced, locked, unlocked, lockDevice, busMode, bus, powerFails, powerReturns, power, order}
@@ -132,6 +133,25 @@ order-keeps s (LockDevice value) = lock-keeps _ s value
 order-keeps s (NightMode value) = night-keeps _ s value
 order-keeps s (Bus event) = bus-keeps _ s (s .link) event
 order-keeps s (Power event) = power-keeps _ s (s .link) event
+
+-- every other kind leaves the scenes as they are
+pub other-kinds-keep-scenes : (s : State) (i : Input) → (kind i ≡ 3 → ⊥) → order s i .scenes ≡ s .scenes
+unfolding order
+other-kinds-keep-scenes s i other = by i other
+  where
+    either-one : {k l : List Scene} → (k ≡ l) ⊎ (k ≡ l) → k ≡ l
+    either-one (inl e) = e
+    either-one (inr e) = e
+
+    by : (i : Input) → (kind i ≡ 3 → ⊥) → order s i .scenes ≡ s .scenes
+    by (SwitchOnOff value) other = either-one (switch-keeps (s .scenes) s value .scenes)
+    by (TimedStartStop value) other = either-one (timed-keeps (s .scenes) s value .scenes)
+    by (NumberedSceneControl learns number) other = absurd (other refl)
+    by (SwitchOnOffForced force) other = either-one (forced-keeps (s .scenes) s force .scenes)
+    by (LockDevice value) other = either-one (lock-keeps (s .scenes) s value .scenes)
+    by (NightMode value) other = either-one (night-keeps (s .scenes) s value .scenes)
+    by (Bus event) other = either-one (bus-keeps (s .scenes) s (s .link) event .scenes)
+    by (Power event) other = either-one (power-keeps (s .scenes) s (s .link) event .scenes)
 
 -- 01, "Slips we have seen": "An unlock that forgets a standing force."
 pub unlock-obeys-a-standing-force : (s : State) → s .lock ≡ true →
