@@ -13,3 +13,5 @@ pub mod Lists
 pub mod Soundness
 pub mod Refusals
 pub mod Calls
+pub mod Files
+pub mod Runs
