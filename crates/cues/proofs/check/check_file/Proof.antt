@@ -18,7 +18,6 @@ returns-3 c =
     (rw (c .before .before .before .version-of .ensures) at (c .before .before .if2 .left))
     (rw (c .before .actuators-of .ensures) at (c .if3 .taken))))
 
--- the header is looked at once, and its layout is what the contents need
 check-contents-requires : tie.Need-check-contents-requires
 check-contents-requires c κs = (search needs, sym (c .before .layout-is-right .ensures) ∙ c .if4 .taken)
 
