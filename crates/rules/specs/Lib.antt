@@ -11,5 +11,7 @@ pub mod Scenes
 pub mod Orders
 pub mod Status
 pub mod Calls
+pub mod Files
+pub mod Runs
 pub mod Refusals
 pub mod Soundness

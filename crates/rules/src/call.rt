@@ -27,3 +27,11 @@ pub struct Move {
     pub count: u8,
     pub records: [Record; 2],
 }
+
+// The run over a cue file. The records and the answers are in the lent buffers.
+pub struct Ran {
+    pub state: State,
+    pub code: u8,
+    pub place: u16,
+    pub count: u32,
+}

@@ -1,0 +1,124 @@
+// The check of a whole file: the first thing that is wrong, in the order of the refusal numbers.
+ghost use mathlib.Core.Path.{_≡_};
+ghost use mathlib.Core.Bool.{true};
+ghost use Prim.Native.Nat.{_+_, _*_, _≤_};
+ghost use lib.ListN.{length};
+ghost use Rattle.rules.specs.Refusals.{checkParameters};
+ghost use Rattle.rules.specs.Files.{inputCount, endTime, parametersIn, layoutRight, readInputs, afterCheck, readFile};
+ghost use Rattle.cues.specs.Verdict.{verdict, checkOne};
+use crate::header::actuators_of;
+use crate::header::end_time;
+use crate::header::input_count;
+use crate::header::layout_is_right;
+use crate::header::version_of;
+use decode::input::input_at;
+use decode::input::stamp_at;
+use decode::parameters::check_parameters;
+use phases::logic::both;
+use rules::input::Decoded;
+use rules::input::Event;
+use rules::input::Force;
+use rules::input::Input;
+use rules::refusal::Check;
+use rules::refusal::Refusal;
+
+// The parameters of a file.
+fn check_parameters_in(file: &[u8]) -> Check
+    requires { ⌜ 52 ≤ length (now file) ⌝ }
+    ensures { λ r. ⌜ r ≡ checkParameters (parametersIn (now (file .entry))) ⌝ }
+{
+    check_parameters(&file[20..52])
+}
+
+// Input i alone: 6 before 7.
+fn check_one(meant: Decoded, stamp: u32, last: u32, end: u32, i: u32) -> Check
+    requires { ⌜ i ≤ 2048 ⌝ }
+    ensures { λ r. ⌜ r ≡ checkOne meant stamp last end i ⌝ }
+{
+    match meant {
+        Decoded::Wrong => Check::Refused {
+            why: Refusal::BadInput,
+            place: i as u16,
+        },
+        Decoded::Meant(_) => {
+            let risen = last <= stamp;
+            let timely = stamp <= end;
+            if both(risen, timely) {
+                Check::Passed
+            } else {
+                Check::Refused {
+                    why: Refusal::BadStamp,
+                    place: i as u16,
+                }
+            }
+        }
+    }
+}
+
+// The first bad input of n, from the first on.
+fn check_inputs(file: &[u8], n: u32, end: u32) -> Check
+    requires { ⌜ (n ≤ 2048) × (52 + 8 * n ≤ length (now file)) ⌝ }
+    ensures { λ r. ⌜ r ≡ verdict (readInputs (now (file .entry)) n 0 0 end) ⌝ }
+{
+    let mut i: u32 = 0;
+    let mut last: u32 = 0;
+    while i < n {
+        let at = 52 + 8 * (i as usize);
+        let stamp = stamp_at(file, at);
+        let one = check_one(input_at(file, at), stamp, last, end, i);
+        match one {
+            Check::Passed => {
+                last = stamp;
+                i += 1;
+            }
+            Check::Refused { why, place } => {
+                return Check::Refused { why, place };
+            }
+        }
+    }
+    Check::Passed
+}
+
+// What stands after a good header: the parameters, then the inputs.
+fn check_contents(file: &[u8]) -> Check
+    requires { ⌜ (52 ≤ length (now file)) × (layoutRight (now file) ≡ true) ⌝ }
+    ensures { λ r. ⌜ r ≡ verdict (afterCheck (checkParameters (parametersIn (now (file .entry)))) (readInputs (now (file .entry)) (inputCount (now (file .entry))) 0 0 (endTime (now (file .entry))))) ⌝ }
+{
+    let parameters = check_parameters_in(file);
+    match parameters {
+        Check::Passed => check_inputs(file, input_count(file), end_time(file)),
+        Check::Refused { why, place } => Check::Refused { why, place },
+    }
+}
+
+// A whole file: accepted, or refused for the first row of the table that holds.
+pub fn check_file(file: &[u8]) -> Check
+    ensures { λ r. ⌜ r ≡ verdict (readFile (now (file .entry))) ⌝ }
+{
+    if file.len() < 52 {
+        return Check::Refused {
+            why: Refusal::WrongLength,
+            place: 0,
+        };
+    }
+    if version_of(file) != 1 {
+        return Check::Refused {
+            why: Refusal::WrongVersion,
+            place: 0,
+        };
+    }
+    if actuators_of(file) != 1 {
+        return Check::Refused {
+            why: Refusal::WrongActuators,
+            place: 0,
+        };
+    }
+    if layout_is_right(file) {
+        check_contents(file)
+    } else {
+        Check::Refused {
+            why: Refusal::WrongLayout,
+            place: 0,
+        }
+    }
+}

@@ -1,0 +1,59 @@
+// The header: counts, offsets, the end time, and the length that they ask for.
+ghost use mathlib.Core.Path.{_≡_};
+ghost use Prim.Native.Nat.{_+_, _*_, _≤_};
+ghost use lib.Dec.{eqb};
+ghost use lib.ListN.{length};
+ghost use Rattle.rules.specs.Files.{version, actuators, inputCount, endTime, layoutRight};
+use octets::read16;
+use octets::read32;
+use phases::logic::both;
+
+pub fn version_of(file: &[u8]) -> u32
+    requires { ⌜ 52 ≤ length (now file) ⌝ }
+    ensures { λ r. ⌜ r ≡ version (now (file .entry)) ⌝ }
+{
+    read16(file, 0)
+}
+
+pub fn actuators_of(file: &[u8]) -> u32
+    requires { ⌜ 52 ≤ length (now file) ⌝ }
+    ensures { λ r. ⌜ r ≡ actuators (now (file .entry)) ⌝ }
+{
+    read16(file, 2)
+}
+
+pub fn input_count(file: &[u8]) -> u32
+    requires { ⌜ 52 ≤ length (now file) ⌝ }
+    ensures { λ r. ⌜ r ≡ inputCount (now (file .entry)) ⌝ }
+{
+    read32(file, 8)
+}
+
+pub fn end_time(file: &[u8]) -> u32
+    requires { ⌜ 52 ≤ length (now file) ⌝ }
+    ensures { λ r. ⌜ r ≡ endTime (now (file .entry)) ⌝ }
+{
+    read32(file, 16)
+}
+
+// The file is exactly as long as its inputs ask for.
+fn length_fits(file: &[u8], n: u32) -> bool
+    ensures { λ r. ⌜ r ≡ eqb (length (now (file .entry))) (52 + 8 * n) ⌝ }
+{
+    file.len() == 52 + 8 * (n as usize)
+}
+
+pub fn layout_is_right(file: &[u8]) -> bool
+    requires { ⌜ 52 ≤ length (now file) ⌝ }
+    ensures { λ r. ⌜ r ≡ layoutRight (now (file .entry)) ⌝ }
+{
+    let n = input_count(file);
+    let parameters = read32(file, 4) == 20;
+    let count = n <= 2048;
+    let inputs = read32(file, 12) == 52;
+    let end = end_time(file) <= 864000;
+    both(
+        both(both(parameters, count), both(inputs, end)),
+        length_fits(file, n),
+    )
+}
