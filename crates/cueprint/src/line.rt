@@ -1,6 +1,7 @@
 // A line of text, gathered and then written by one call.
 ghost use mathlib.Core.Path.{_≡_};
 ghost use Prim.Native.Nat.{_+_, _≤_, _<_};
+ghost use lib.ListN.{length};
 
 pub struct Line {
     pub octets: [u8; 128],
@@ -21,7 +22,7 @@ pub fn start(x: u8) -> Line
 // The line with a letter more.
 pub fn letter(l: Line, x: u8) -> Line
     requires { ⌜ l .size < 128 ⌝ }
-    ensures { λ r. ⌜ r .size ≡ l .size + 1 ⌝ }
+    ensures { λ r. ⌜ (r .size ≡ l .size + 1) × (length (r .octets) ≡ 128) ⌝ }
 {
     let mut k = l.octets;
     let at = l.size;
