@@ -1,0 +1,204 @@
+#!/usr/bin/env python3
+"""Writes the cue files of this folder, NAME.cue, from the lists below:  python3 shows/make.py
+
+The printout that each must give, NAME.txt, is not made here: it was worked out by hand from the rules.
+"""
+import os
+import struct
+
+HERE = os.path.dirname(os.path.abspath(__file__))
+
+# ---- the kinds of input
+
+SWITCH, TIMED, SCENE, FORCED, LOCK, NIGHT, BUS, POWER = range(1, 9)
+
+OFF, ON = 0, 1                      # SwitchOnOff; NightMode
+STOP, START = 0, 1                  # TimedStartStop
+RELEASE, FORCE_OFF, FORCE_ON = 0, 2, 3
+UNLOCK_IT, LOCK_IT = 0, 1
+FAILURE, RETURN = 0, 1
+
+
+def learn(number):
+    return 128 + number
+
+
+# ---- the modes
+
+KEEP, MODE_OFF, MODE_ON, AS_BEFORE_LOCKING = 0, 1, 2, 3
+AS_BEFORE_FAILURE = 0
+
+# ---- the scene flags
+
+NOT_TAUGHT, TAUGHT_OFF, TAUGHT_ON = 0, 2, 3
+
+
+# ---- the octets of a file
+
+def parameters(on_delay=0, off_delay=0, timed_on=1, prewarning=0, locking=KEEP, unlocking=KEEP, bus_failure=KEEP,
+               bus_return=KEEP, power_return=AS_BEFORE_FAILURE, learning=0, scenes=()):
+    """32 octets: four times in seconds, the modes, two zeros, eight scene entries."""
+    octets = struct.pack('>4H6B2x', on_delay, off_delay, timed_on, prewarning, locking, unlocking, bus_failure, bus_return,
+                         power_return, learning)
+    entries = list(scenes) + [(255, 0)] * (8 - len(scenes))
+    return octets + b''.join(struct.pack('2B', number, flags) for number, flags in entries)
+
+
+def cue_file(params, inputs, end, version=1, actuators=1):
+    """Header, parameters, then an input of eight octets for each (stamp, kind, value)."""
+    header = struct.pack('>2H4I', version, actuators, 20, len(inputs), 52, end)
+    return header + params + b''.join(struct.pack('>I2B2x', *i) for i in inputs)
+
+
+def write(name, octets):
+    with open(os.path.join(HERE, name + '.cue'), 'wb') as f:
+        f.write(octets)
+
+
+# ---- example: the one of the requirements, where the printout is given
+
+EXAMPLE_PARAMETERS = parameters(timed_on=60, prewarning=10)
+EXAMPLE_INPUTS = [
+    (0, TIMED, START),
+    (700, SWITCH, ON),
+    (700, SWITCH, OFF),
+]
+EXAMPLE = cue_file(EXAMPLE_PARAMETERS, EXAMPLE_INPUTS, end=1000)
+write('example', EXAMPLE)
+
+# ---- evening: a theatre from the doorkeeper's light to the next morning. Stamps are in tenths of a second
+
+PRESET, HOUSE_TO_HALF, INTERVAL, UNKNOWN = 1, 2, 3, 5
+write('evening', cue_file(
+    parameters(on_delay=2, off_delay=5, timed_on=300, prewarning=30, locking=MODE_OFF, unlocking=MODE_ON, learning=1,
+               scenes=[(PRESET, TAUGHT_ON), (HOUSE_TO_HALF, TAUGHT_OFF), (INTERVAL, NOT_TAUGHT)]),
+    [
+        (0, TIMED, START),                      # 0: the foyer, by the doorkeeper
+        (1200, TIMED, START),                   # 1: and once more, two minutes later
+        (18000, SCENE, PRESET),                 # 2: doors open
+        (36000, SCENE, HOUSE_TO_HALF),          # 3: the show starts
+        (36000, SCENE, learn(INTERVAL)),        # 4: at that moment the house is still lit, and this is learned
+        (36020, SWITCH, OFF),                   # 5: an impatient Off: it is going off already
+        (36100, LOCK, LOCK_IT),                 # 6: first act
+        (48000, SWITCH, ON),                    # 7: somebody leans on the wall switch
+        (50000, TIMED, START),                  # 8
+        (72000, LOCK, UNLOCK_IT),               # 9: the interval
+        (82800, SCENE, HOUSE_TO_HALF),          # 10
+        (82850, LOCK, LOCK_IT),                 # 11: second act, locked when the light has just gone
+        (108000, SCENE, INTERVAL),              # 12: too early
+        (110000, LOCK, UNLOCK_IT),              # 13: applause
+        (110000, SCENE, INTERVAL),              # 14: it is lit already
+        (126000, NIGHT, ON),                    # 15: the house is empty: five minutes of light from here
+        (128000, SWITCH, ON),                   # 16: five minutes more
+        (140000, TIMED, START),                 # 17: the night watch
+        (140300, TIMED, STOP),                  # 18
+        (150000, SCENE, learn(UNKNOWN)),        # 19: not in the table
+        (160000, SCENE, PRESET),                # 20: by night this too is timed
+        (200000, NIGHT, OFF),                   # 21: morning, after three timers
+    ],
+    end=216000))
+
+# ---- ties: several inputs at one stamp, and a timer due at it
+
+write('ties', cue_file(
+    parameters(on_delay=2, off_delay=5, timed_on=60, prewarning=10, unlocking=AS_BEFORE_LOCKING),
+    [
+        (0, TIMED, START),      # 0: starts until 20
+        (20, SWITCH, OFF),      # 1: it is Timed by now
+        (20, SWITCH, ON),       # 2
+        (20, SWITCH, ON),       # 3: changes nothing
+        (100, TIMED, START),    # 4: until 700
+        (700, TIMED, START),    # 5: it is in Warning by now; until 1300
+        (1400, NIGHT, ON),      # 6: Warning at 1300, Dark at 1400, then night
+        (1400, SWITCH, ON),     # 7: starts until 1420
+        (1400, SWITCH, ON),     # 8: does not start again
+        (1420, SWITCH, OFF),    # 9: it is Timed by now, for it is night
+        (1470, SWITCH, OFF),    # 10: it is Dark by now
+        (1470, NIGHT, OFF),     # 11
+        (1480, SWITCH, ON),     # 12: starts until 1500, which is the end time
+    ],
+    end=1500))
+
+# ---- lock_and_force: who outranks whom
+
+write('lock_and_force', cue_file(
+    parameters(timed_on=60, prewarning=10, locking=MODE_ON, unlocking=AS_BEFORE_LOCKING),
+    [
+        (0, FORCED, FORCE_ON),      # 0
+        (10, SWITCH, OFF),          # 1: stopped by the force
+        (20, NIGHT, ON),            # 2: stopped by the force
+        (30, LOCK, LOCK_IT),        # 3: no force stops a lock
+        (40, FORCED, FORCE_OFF),    # 4: stopped by the lock
+        (50, SCENE, 1),             # 5: by both: the lock answers
+        (60, FORCED, RELEASE),      # 6: stopped by the lock, so the force still stands
+        (70, LOCK, UNLOCK_IT),      # 7: the force decides: on
+        (80, FORCED, FORCE_OFF),    # 8
+        (90, LOCK, LOCK_IT),        # 9: on by the mode
+        (100, LOCK, LOCK_IT),       # 10: locked already
+        (110, LOCK, UNLOCK_IT),     # 11: the force decides: off
+        (120, TIMED, START),        # 12: stopped by the force
+        (130, FORCED, RELEASE + 1), # 13: no control, whatever the other bit says
+        (140, FORCED, RELEASE),     # 14: no force stands
+        (150, TIMED, START),        # 15
+        (160, LOCK, LOCK_IT),       # 16: the timer is gone
+        (170, SWITCH, OFF),         # 17: stopped by the lock
+        (180, LOCK, UNLOCK_IT),     # 18: on as before locking
+        (190, FORCED, FORCE_OFF),   # 19
+        (190, FORCED, FORCE_ON),    # 20
+        (200, FORCED, RELEASE),     # 21: stays on
+        (210, SWITCH, OFF),         # 22
+    ],
+    end=1000))
+
+# ---- power_cut: bus and power fail and return
+
+EMERGENCY = 3
+write('power_cut', cue_file(
+    parameters(off_delay=5, timed_on=60, prewarning=10, bus_return=MODE_ON, learning=1, scenes=[(EMERGENCY, NOT_TAUGHT)]),
+    [
+        (0, SWITCH, ON),                # 0
+        (10, SCENE, learn(EMERGENCY)),  # 1: learned: on
+        (20, BUS, FAILURE),             # 2: keeps the light
+        (30, SWITCH, OFF),              # 3: the bus is down
+        (35, BUS, FAILURE),             # 4: it is down already
+        (40, BUS, RETURN),              # 5: on by the mode
+        (50, SWITCH, OFF),              # 6: ends at 100, but
+        (60, POWER, FAILURE),           # 7: this is earlier
+        (70, SWITCH, ON),               # 8: power is down
+        (80, BUS, RETURN),              # 9: power is down
+        (85, POWER, FAILURE),           # 10: it is down already
+        (90, POWER, RETURN),            # 11: on as before the failure
+        (100, TIMED, START),            # 12
+        (110, NIGHT, ON),               # 13
+        (120, LOCK, LOCK_IT),           # 14
+        (130, BUS, FAILURE),            # 15: the lock stands: no mode
+        (140, POWER, FAILURE),          # 16: from bus down; night and lock are gone
+        (150, BUS, RETURN),             # 17: power is down
+        (160, POWER, RETURN),           # 18: the link is up, bus and all
+        (170, SWITCH, OFF),             # 19: ends at 220
+        (300, SCENE, EMERGENCY),        # 20: scenes outlive a power cut
+        (310, BUS, RETURN),             # 21: it is up already
+        (320, POWER, RETURN),           # 22: it is up already
+        (330, TIMED, START),            # 23: Warning at 930, Dark at 1030
+        (340, BUS, FAILURE),            # 24: timers run on
+        (350, TIMED, STOP),             # 25: the bus is down
+    ],
+    end=1100))
+
+# ---- refused_1 to refused_7: one damaged file for each refusal number
+
+# under 52 octets
+write('refused_1', EXAMPLE[:51])
+# version 2
+write('refused_2', cue_file(EXAMPLE_PARAMETERS, EXAMPLE_INPUTS, end=1000, version=2))
+# two actuators
+write('refused_3', cue_file(EXAMPLE_PARAMETERS, EXAMPLE_INPUTS, end=1000, actuators=2))
+# an octet too many
+write('refused_4', EXAMPLE + b'\0')
+# scene 7 in entry 0, which is octet 16 of the parameters, and again in entry 2, which is octet 20
+write('refused_5', cue_file(
+    parameters(timed_on=60, scenes=[(7, TAUGHT_ON), (8, TAUGHT_OFF), (7, TAUGHT_OFF)]), EXAMPLE_INPUTS, end=1000))
+# a night of 2 in input 2; its stamp is wrong too, but 6 comes before 7
+write('refused_6', cue_file(EXAMPLE_PARAMETERS, [(0, TIMED, START), (50, SWITCH, ON), (40, NIGHT, 2)], end=1000))
+# stamps 50, 49
+write('refused_7', cue_file(EXAMPLE_PARAMETERS, [(50, SWITCH, ON), (49, SWITCH, OFF)], end=1000))

@@ -1,0 +1,85 @@
+#!/usr/bin/env bash
+# Plays every show and holds what ./preview prints, and how it ends, to what is written down. The last line is
+# 'N passed, M failed'; the exit status is 0 exactly when M is 0.
+set -u
+cd "$(dirname "$0")/.." || exit 2
+
+passed=0
+failed=0
+work=$(mktemp -d) || exit 2
+trap 'rm -rf "$work"' EXIT
+
+# holds NAME STATUS WANTED LINES WORDS..: ./preview WORDS.. ends with STATUS, prints exactly the file WANTED, and says LINES
+# lines on standard error.
+holds() {
+    local name=$1 status=$2 wanted=$3 lines=$4 got why=
+    shift 4
+    "$@" >"$work/out" 2>"$work/err"
+    got=$?
+    [ "$got" -eq "$status" ] || why="$why; exit status $got, not $status"
+    cmp -s "$work/out" "$wanted" || why="$why; another printout"
+    [ "$(wc -l <"$work/err")" -eq "$lines" ] || why="$why; not $lines lines on standard error"
+    if [ -z "$why" ]; then
+        passed=$((passed + 1))
+        echo "ok: $name"
+    else
+        failed=$((failed + 1))
+        echo "FAILED: $name: ${why#; }"
+        diff "$wanted" "$work/out" | head -n 10
+        head -n 10 "$work/err"
+    fi
+}
+
+shows=0
+for cue in shows/*.cue; do
+    [ -f "$cue" ] || continue
+    shows=$((shows + 1))
+    name=$(basename "$cue" .cue)
+    case $name in
+    refused_*) holds "$name" 1 "shows/$name.txt" 1 ./preview "$cue" ;;
+    *) holds "$name" 0 "shows/$name.txt" 0 ./preview "$cue" ;;
+    esac
+done
+
+: >"$work/nothing"
+echo "NO 1 0" >"$work/no_1"
+echo "NO 4 0" >"$work/no_4"
+(cat shows/example.cue && head -c 20000 /dev/zero) >"$work/long.cue"
+
+holds "no file named: the example" 0 shows/example.txt 0 ./preview
+holds "an empty file" 1 "$work/no_1" 1 ./preview "$work/nothing"
+holds "a file longer than the longest" 1 "$work/no_4" 1 ./preview "$work/long.cue"
+holds "a file that is not there" 2 "$work/nothing" 1 ./preview "$work/missing.cue"
+holds "a folder" 2 "$work/nothing" 1 ./preview shows
+holds "a name from another folder" 0 shows/ties.txt 0 bash -c 'cd shows && ../preview ties.cue'
+
+# the stored test of the print program is the example show
+for pair in example.cue:stdin example.txt:stdout; do
+    if cmp "shows/${pair%:*}" "crates/cueprint/${pair#*:}"; then
+        passed=$((passed + 1))
+        echo "ok: shows/${pair%:*} is crates/cueprint/${pair#*:}"
+    else
+        failed=$((failed + 1))
+        echo "FAILED: shows/${pair%:*} is not crates/cueprint/${pair#*:}"
+    fi
+done
+
+# the files are those that make.py writes
+if command -v python3 >/dev/null; then
+    mkdir "$work/made" && cp shows/make.py "$work/made/" && python3 "$work/made/make.py"
+    for cue in shows/*.cue; do
+        cmp "$cue" "$work/made/$(basename "$cue")" || echo "$cue"
+    done >"$work/other" 2>&1
+    if [ "$shows" -gt 0 ] && [ ! -s "$work/other" ] && [ "$(find "$work/made" -name '*.cue' | wc -l)" -eq "$shows" ]; then
+        passed=$((passed + 1))
+        echo "ok: shows/make.py writes the $shows shows"
+    else
+        failed=$((failed + 1))
+        echo "FAILED: shows/make.py does not write these shows"
+        cat "$work/other"
+    fi
+fi
+
+[ "$shows" -gt 0 ] || failed=$((failed + 1))
+echo "$passed passed, $failed failed"
+[ "$failed" -eq 0 ]
