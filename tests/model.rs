@@ -1,0 +1,1152 @@
+//! The house-light actuator of document 01, as an independent model.
+//!
+//! Written from documents 00 and 01 alone, to be read beside document 01: the sections come in its
+//! order and each rule stands under the sentence it renders. Times inside the model are tenths of
+//! a second; only the parameters keep their seconds.
+#![allow(dead_code)]
+
+use std::cmp::min;
+use std::fmt::Write;
+
+// ================================================================================================
+// Time and the cue file
+// ================================================================================================
+
+/// "A stamp is in tenths of a second, 0 to 864,000."
+pub const LAST_STAMP: u32 = 864_000;
+
+/// "a deadline lies 1 to 655,350 after the clock": the longest U16 delay, in tenths.
+pub const LONGEST_DELAY: u32 = 655_350;
+
+/// "8-11 count n of inputs (0 to 2,048)"
+pub const MOST_INPUTS: u32 = 2_048;
+
+/// "20 octets of counts and offsets"; "Parameters, 32 octets"; "Input, 8 octets"; and "A record is
+/// 8 octets".
+const HEADER: usize = 20;
+const PARAMETERS: usize = 32;
+const INPUT: usize = 8;
+const RECORD: usize = 8;
+
+/// "Delays are U16 seconds; a delay of s lasts 10*s tenths."
+///
+/// `after(t, on_delay)` reads "t+OnDelay".
+fn after(t: u32, delay: u16) -> u32 {
+    t + 10 * u32::from(delay)
+}
+
+/// "Numbers are most significant octet first."
+fn u16_at(octets: &[u8], at: usize) -> u16 {
+    u16::from_be_bytes([octets[at], octets[at + 1]])
+}
+
+fn u32_at(octets: &[u8], at: usize) -> u32 {
+    u32::from_be_bytes([octets[at], octets[at + 1], octets[at + 2], octets[at + 3]])
+}
+
+/// "0-1 OnDelay; 2-3 OffDelay; 4-5 TimedOnDuration, 1 or more; 6-7 PrewarningDuration;
+/// 8 BehaviourAtLocking (0 keep, 1 off, 2 on); 9 BehaviourAtUnlocking (0 to 2 alike, 3 as before
+/// locking); 10 BusFailureMode, 11 BusReturnMode (0 keep, 1 off, 2 on); 12 PowerReturnMode (0 as
+/// before the failure, 1 off, 2 on); 13 SceneLearningModeEnable (0, 1)"
+///
+/// The fields can hold values out of range, since a state handed in is judged for that.
+#[derive(Clone, Copy, Debug, PartialEq, Eq)]
+pub struct Params {
+    pub on_delay: u16,
+    pub off_delay: u16,
+    pub timed_on: u16,
+    pub prewarning: u16,
+    pub behaviour_at_locking: u8,
+    pub behaviour_at_unlocking: u8,
+    pub bus_failure_mode: u8,
+    pub bus_return_mode: u8,
+    pub power_return_mode: u8,
+    pub scene_learning_mode_enable: u8,
+}
+
+/// The mode codes. 0 is "keep", except in PowerReturnMode where it is "as before the failure".
+pub const KEEP: u8 = 0;
+pub const OFF: u8 = 1;
+pub const ON: u8 = 2;
+pub const AS_BEFORE_LOCKING: u8 = 3;
+pub const AS_BEFORE_THE_FAILURE: u8 = 0;
+
+/// "eight scene entries of two octets: number (0 to 63, or 255 for unused) and flags (bit 0 value,
+/// bit 1 taught in, others zero)"
+#[derive(Clone, Copy, Debug, PartialEq, Eq)]
+pub struct Scene {
+    pub number: u8,
+    pub flags: u8,
+}
+
+pub const UNUSED: u8 = 255;
+const SCENE_VALUE: u8 = 1;
+const SCENE_TAUGHT: u8 = 2;
+
+impl Scene {
+    fn value(&self) -> bool {
+        self.flags & SCENE_VALUE != 0
+    }
+
+    fn taught(&self) -> bool {
+        self.flags & SCENE_TAUGHT != 0
+    }
+}
+
+/// The 32 parameter octets as they stand in a file, from a state's parameters and scene table.
+/// "14-15 zero".
+pub fn parameter_octets(params: &Params, scenes: &[Scene; 8]) -> [u8; 32] {
+    let mut octets = [0; PARAMETERS];
+    octets[0..2].copy_from_slice(&params.on_delay.to_be_bytes());
+    octets[2..4].copy_from_slice(&params.off_delay.to_be_bytes());
+    octets[4..6].copy_from_slice(&params.timed_on.to_be_bytes());
+    octets[6..8].copy_from_slice(&params.prewarning.to_be_bytes());
+    octets[8] = params.behaviour_at_locking;
+    octets[9] = params.behaviour_at_unlocking;
+    octets[10] = params.bus_failure_mode;
+    octets[11] = params.bus_return_mode;
+    octets[12] = params.power_return_mode;
+    octets[13] = params.scene_learning_mode_enable;
+    for (entry, scene) in scenes.iter().enumerate() {
+        octets[16 + 2 * entry] = scene.number;
+        octets[17 + 2 * entry] = scene.flags;
+    }
+    octets
+}
+
+/// The parameters and the scene table that 32 parameter octets spell.
+fn decode_parameters(octets: &[u8]) -> (Params, [Scene; 8]) {
+    let params = Params {
+        on_delay: u16_at(octets, 0),
+        off_delay: u16_at(octets, 2),
+        timed_on: u16_at(octets, 4),
+        prewarning: u16_at(octets, 6),
+        behaviour_at_locking: octets[8],
+        behaviour_at_unlocking: octets[9],
+        bus_failure_mode: octets[10],
+        bus_return_mode: octets[11],
+        power_return_mode: octets[12],
+        scene_learning_mode_enable: octets[13],
+    };
+    let mut scenes = [Scene { number: UNUSED, flags: 0 }; 8];
+    for (entry, scene) in scenes.iter_mut().enumerate() {
+        scene.number = octets[16 + 2 * entry];
+        scene.flags = octets[17 + 2 * entry];
+    }
+    (params, scenes)
+}
+
+/// "parameter out of range | lowest bad octet in 0-31 (TimedOn 0: 4; a repeated scene: the later
+/// entry's number)"
+///
+/// The octets are judged in order, so the first found is the lowest.
+fn lowest_bad_octet(octets: &[u8]) -> Option<u16> {
+    // "4-5 TimedOnDuration, 1 or more" (the other three durations take any U16)
+    if u16_at(octets, 4) == 0 {
+        return Some(4);
+    }
+    // octet by octet, the highest value it may have
+    let highest = [
+        (8, 2),  // "8 BehaviourAtLocking (0 keep, 1 off, 2 on)"
+        (9, 3),  // "9 BehaviourAtUnlocking (0 to 2 alike, 3 as before locking)"
+        (10, 2), // "10 BusFailureMode ... (0 keep, 1 off, 2 on)"
+        (11, 2), // "11 BusReturnMode (0 keep, 1 off, 2 on)"
+        (12, 2), // "12 PowerReturnMode (0 as before the failure, 1 off, 2 on)"
+        (13, 1), // "13 SceneLearningModeEnable (0, 1)"
+        (14, 0), // "14-15 zero"
+        (15, 0),
+    ];
+    for (octet, most) in highest {
+        if octets[octet] > most {
+            return Some(octet as u16);
+        }
+    }
+    for entry in 0..8 {
+        let at = 16 + 2 * entry;
+        let (number, flags) = (octets[at], octets[at + 1]);
+        let used = number != UNUSED;
+        // "number (0 to 63, or 255 for unused)"
+        if used && number > 63 {
+            return Some(at as u16);
+        }
+        // "Used numbers are distinct."
+        let repeated = (0..entry).any(|earlier| octets[16 + 2 * earlier] == number);
+        if used && repeated {
+            return Some(at as u16);
+        }
+        // "flags (bit 0 value, bit 1 taught in, others zero). Unused entries have flags 0."
+        if flags > 3 || (!used && flags != 0) {
+            return Some(at as u16 + 1);
+        }
+    }
+    None
+}
+
+/// "An input is one of eight kinds, each with its own value"
+#[derive(Clone, Copy, Debug, PartialEq, Eq)]
+pub enum Input {
+    SwitchOnOff { on: bool },
+    TimedStartStop { start: bool },
+    NumberedSceneControl { learn: bool, number: u8 },
+    SwitchOnOffForced { force: Force },
+    LockDevice { lock: bool },
+    NightMode { night: bool },
+    Bus { back: bool },
+    Power { back: bool },
+}
+
+/// "Input, 8 octets: 0-3 stamp; 4 kind; 5 value; 6-7 zero."
+///
+/// None where "kind, value or zero octet wrong" (refusal 6).
+fn decode_input(octets: &[u8]) -> Option<Input> {
+    if octets[6] != 0 || octets[7] != 0 {
+        return None;
+    }
+    match (octets[4], octets[5]) {
+        // "1 SwitchOnOff, 2 TimedStartStop, 5 LockDevice (1 locks), 6 NightMode: 0 or 1."
+        (1, value @ 0..=1) => Some(Input::SwitchOnOff { on: value == 1 }),
+        (2, value @ 0..=1) => Some(Input::TimedStartStop { start: value == 1 }),
+        (5, value @ 0..=1) => Some(Input::LockDevice { lock: value == 1 }),
+        (6, value @ 0..=1) => Some(Input::NightMode { night: value == 1 }),
+        // "3 scene: bit 7 set is learn, bit 6 zero, low six bits the number."
+        (3, value) if value & 0x40 == 0 => {
+            Some(Input::NumberedSceneControl { learn: value & 0x80 != 0, number: value & 0x3F })
+        }
+        // "4 forced: 0 and 1 no control, 2 Off, 3 On."
+        (4, 0..=1) => Some(Input::SwitchOnOffForced { force: Force::None }),
+        (4, 2) => Some(Input::SwitchOnOffForced { force: Force::Off }),
+        (4, 3) => Some(Input::SwitchOnOffForced { force: Force::On }),
+        // "7 bus and 8 power: 0 failure, 1 return."
+        (7, value @ 0..=1) => Some(Input::Bus { back: value == 1 }),
+        (8, value @ 0..=1) => Some(Input::Power { back: value == 1 }),
+        _ => None,
+    }
+}
+
+// ================================================================================================
+// Phases
+// ================================================================================================
+
+/// "force (none, off, on)"
+#[derive(Clone, Copy, Debug, PartialEq, Eq)]
+pub enum Force {
+    None,
+    Off,
+    On,
+}
+
+/// "link (up, bus down, power down)"
+#[derive(Clone, Copy, Debug, PartialEq, Eq)]
+pub enum Link {
+    Up,
+    BusDown,
+    PowerDown,
+}
+
+/// "and one phase, some with a deadline"
+///
+/// "Dark (off), Lit (on): no deadline."
+/// "Starting (off), steady or timed."
+/// "Timed (on)."
+/// "Warning and Ending (on)."
+#[derive(Clone, Copy, Debug, PartialEq, Eq)]
+pub enum Phase {
+    Dark,
+    Lit,
+    Starting { timed: bool, deadline: u32 },
+    Timed { deadline: u32 },
+    Warning { deadline: u32 },
+    Ending { deadline: u32 },
+}
+
+impl Phase {
+    fn output(self) -> bool {
+        match self {
+            Phase::Dark | Phase::Starting { .. } => false,
+            Phase::Lit | Phase::Timed { .. } | Phase::Warning { .. } | Phase::Ending { .. } => true,
+        }
+    }
+
+    fn deadline(self) -> Option<u32> {
+        match self {
+            Phase::Dark | Phase::Lit => None,
+            Phase::Starting { deadline, .. }
+            | Phase::Timed { deadline }
+            | Phase::Warning { deadline }
+            | Phase::Ending { deadline } => Some(deadline),
+        }
+    }
+}
+
+/// "The state holds its parameters and current scene table, the clock, night, lock, force (none,
+/// off, on), link (up, bus down, power down), the outputs remembered at locking and at power
+/// failure, and one phase, some with a deadline"
+#[derive(Clone, Copy, Debug, PartialEq, Eq)]
+pub struct State {
+    pub clock: u32,
+    pub phase: Phase,
+    pub night: bool,
+    pub lock: bool,
+    pub force: Force,
+    pub link: Link,
+    pub output_at_locking: bool,
+    pub output_at_power_failure: bool,
+    pub scenes: [Scene; 8],
+    pub params: Params,
+}
+
+/// "Fresh: clock 0, Dark, link up, night off, no lock, no force, both remembered outputs off."
+fn fresh_state(params: Params, scenes: [Scene; 8]) -> State {
+    State {
+        clock: 0,
+        phase: Phase::Dark,
+        night: false,
+        lock: false,
+        force: Force::None,
+        link: Link::Up,
+        output_at_locking: false,
+        output_at_power_failure: false,
+        scenes,
+        params,
+    }
+}
+
+/// "every deadline at or before t is run, each at its own moment, at most three"
+///
+/// Starting, Timed, Warning, Dark is the longest way, so the loop turns at most three times.
+fn move_clock(state: &mut State, t: u32, tape: &mut impl Tape) {
+    while let Some(d) = state.phase.deadline() {
+        if d > t {
+            break;
+        }
+        let before = status(state);
+        state.phase = at_deadline(state, d);
+        write_change(before, state, d, CAUSE_TIMER, tape);
+    }
+    state.clock = t;
+}
+
+/// What the phase becomes at its deadline d.
+fn at_deadline(state: &State, d: u32) -> Phase {
+    let p = &state.params;
+    match state.phase {
+        // "At its deadline d: Timed until d+TimedOn if it is timed or night is then on, else Lit."
+        Phase::Starting { timed, .. } => {
+            if timed || state.night {
+                Phase::Timed { deadline: after(d, p.timed_on) }
+            } else {
+                Phase::Lit
+            }
+        }
+        // "At d: Warning until d+Prewarning; Dark if Prewarning is 0."
+        Phase::Timed { .. } => {
+            if p.prewarning == 0 {
+                Phase::Dark
+            } else {
+                Phase::Warning { deadline: after(d, p.prewarning) }
+            }
+        }
+        // "Warning and Ending (on). At d: Dark."
+        Phase::Warning { .. } | Phase::Ending { .. } => Phase::Dark,
+        // "Dark (off), Lit (on): no deadline."
+        Phase::Dark => Phase::Dark,
+        Phase::Lit => Phase::Lit,
+    }
+}
+
+/// ""Set off" is Dark. ... Neither waits for a delay."
+fn set_off(state: &mut State) {
+    state.phase = Phase::Dark;
+}
+
+/// ""Set on" is Lit, or Timed until t+TimedOn when night is on and, once the order's own flags are
+/// changed, neither lock nor force stands. Neither waits for a delay."
+///
+/// An order changes its own flags first and calls this last.
+fn set_on(state: &mut State, t: u32) {
+    state.phase = if state.night && !state.lock && state.force == Force::None {
+        Phase::Timed { deadline: after(t, state.params.timed_on) }
+    } else {
+        Phase::Lit
+    };
+}
+
+/// "set on if ... else set off"
+fn set(state: &mut State, output: bool, t: u32) {
+    if output {
+        set_on(state, t);
+    } else {
+        set_off(state);
+    }
+}
+
+// ================================================================================================
+// Which input counts
+// ================================================================================================
+
+/// One row of the table: what stops this kind.
+struct Barriers {
+    power_down: bool,
+    bus_down: bool,
+    lock: bool,
+    force: bool,
+}
+
+const fn row(power_down: bool, bus_down: bool, lock: bool, force: bool) -> Barriers {
+    Barriers { power_down, bus_down, lock, force }
+}
+
+/// "What stops each kind is kept as one table of eight rows that names the barriers of that kind:
+/// power down stops 1 to 7; bus down stops 1 to 6; lock stops 1 to 4 and 6; force stops 1 to 3
+/// and 6."
+const BARRIERS: [Barriers; 8] = [
+    // power  bus    lock   force
+    row(true, true, true, true),     // 1 SwitchOnOff
+    row(true, true, true, true),     // 2 TimedStartStop
+    row(true, true, true, true),     // 3 scene
+    row(true, true, true, false),    // 4 forced
+    row(true, true, false, false),   // 5 LockDevice
+    row(true, true, true, true),     // 6 NightMode
+    row(true, false, false, false),  // 7 bus
+    row(false, false, false, false), // 8 power
+];
+
+/// "Answer octet, first that fits: 5 power down, 4 bus down, 3 lock, 2 force"
+///
+/// None where no barrier of that kind stands: the input is taken.
+fn stopped(state: &State, kind: u8) -> Option<u8> {
+    let barriers = &BARRIERS[usize::from(kind) - 1];
+    if barriers.power_down && state.link == Link::PowerDown {
+        Some(5)
+    } else if barriers.bus_down && state.link == Link::BusDown {
+        Some(4)
+    } else if barriers.lock && state.lock {
+        Some(3)
+    } else if barriers.force && state.force != Force::None {
+        Some(2)
+    } else {
+        None
+    }
+}
+
+/// "An input at stamp t first moves the clock ... Then the input acts."
+///
+/// "A stopped input is dropped for good; every other is taken, though it may change nothing."
+///
+/// "then 0 if anything but the clock changed after the due timers had run, else 1"
+fn take_input(state: &mut State, octets: &[u8], input: Input, tape: &mut impl Tape) -> u8 {
+    let (t, kind) = (u32_at(octets, 0), octets[4]);
+    move_clock(state, t, tape);
+    if let Some(answer) = stopped(state, kind) {
+        return answer;
+    }
+    // the clock already reads t, so any difference below is "anything but the clock"
+    let before = *state;
+    act(state, input, t);
+    write_change(status(&before), state, t, kind, tape);
+    if *state != before {
+        0
+    } else {
+        1
+    }
+}
+
+// ================================================================================================
+// What each order does, at t
+// ================================================================================================
+
+/// "What an order does depends on its kind and on the phase it meets."
+fn act(state: &mut State, input: Input, t: u32) {
+    match input {
+        Input::SwitchOnOff { on: true } => on(state, t),
+        Input::SwitchOnOff { on: false } => off(state, t),
+        Input::TimedStartStop { start: true } => timed_start(state, t),
+        Input::TimedStartStop { start: false } => timed_stop(state, t),
+        Input::NumberedSceneControl { learn: false, number } => scene_recall(state, number, t),
+        Input::NumberedSceneControl { learn: true, number } => scene_learn(state, number),
+        Input::SwitchOnOffForced { force: Force::None } => release(state, t),
+        Input::SwitchOnOffForced { force } => force_off_or_on(state, force),
+        Input::LockDevice { lock: true } => lock(state),
+        Input::LockDevice { lock: false } => unlock(state, t),
+        Input::NightMode { night: true } => night_1(state, t),
+        Input::NightMode { night: false } => night_0(state),
+        Input::Bus { back: false } => bus_failure(state, t),
+        Input::Bus { back: true } => bus_return(state, t),
+        Input::Power { back: false } => power_failure(state),
+        Input::Power { back: true } => power_return(state, t),
+    }
+}
+
+fn on(state: &mut State, t: u32) {
+    let p = state.params;
+    match state.phase {
+        // "On: Dark becomes lit at once when OnDelay is 0 (Timed if night, else Lit), otherwise
+        // Starting, steady, until t+OnDelay."
+        Phase::Dark => {
+            state.phase = if p.on_delay != 0 {
+                Phase::Starting { timed: false, deadline: after(t, p.on_delay) }
+            } else if state.night {
+                Phase::Timed { deadline: after(t, p.timed_on) }
+            } else {
+                Phase::Lit
+            }
+        }
+        // "Starting keeps its deadline and becomes steady."
+        Phase::Starting { deadline, .. } => {
+            state.phase = Phase::Starting { timed: false, deadline }
+        }
+        // "Lit stays."
+        Phase::Lit => {}
+        // "Timed, Warning, Ending: set on."
+        Phase::Timed { .. } | Phase::Warning { .. } | Phase::Ending { .. } => set_on(state, t),
+    }
+}
+
+fn timed_start(state: &mut State, t: u32) {
+    let p = state.params;
+    state.phase = match state.phase {
+        // "Timed start: the same from Dark and Starting but timed"
+        Phase::Dark => {
+            if p.on_delay != 0 {
+                Phase::Starting { timed: true, deadline: after(t, p.on_delay) }
+            } else {
+                Phase::Timed { deadline: after(t, p.timed_on) }
+            }
+        }
+        Phase::Starting { deadline, .. } => Phase::Starting { timed: true, deadline },
+        // "every lit phase becomes Timed until t+TimedOn."
+        Phase::Lit | Phase::Timed { .. } | Phase::Warning { .. } | Phase::Ending { .. } => {
+            Phase::Timed { deadline: after(t, p.timed_on) }
+        }
+    };
+}
+
+fn off(state: &mut State, t: u32) {
+    let p = state.params;
+    let t_plus_off_delay = after(t, p.off_delay);
+    state.phase = match state.phase {
+        // "Off: Dark stays; Starting becomes Dark."
+        Phase::Dark => Phase::Dark,
+        Phase::Starting { .. } => Phase::Dark,
+        // "With OffDelay 0 the result is Dark."
+        _ if p.off_delay == 0 => Phase::Dark,
+        // "Lit: Ending until t+OffDelay."
+        Phase::Lit => Phase::Ending { deadline: t_plus_off_delay },
+        // "Timed with deadline d: Ending until the earlier of t+OffDelay and d+Prewarning."
+        Phase::Timed { deadline: d } => {
+            Phase::Ending { deadline: min(t_plus_off_delay, after(d, p.prewarning)) }
+        }
+        // "Warning or Ending: Ending until the earlier of t+OffDelay and d."
+        Phase::Warning { deadline: d } | Phase::Ending { deadline: d } => {
+            Phase::Ending { deadline: min(t_plus_off_delay, d) }
+        }
+    };
+}
+
+/// "Timed stop: as Off in Timed, Warning and timed Starting; otherwise nothing."
+fn timed_stop(state: &mut State, t: u32) {
+    match state.phase {
+        Phase::Timed { .. } | Phase::Warning { .. } | Phase::Starting { timed: true, .. } => {
+            off(state, t)
+        }
+        Phase::Dark | Phase::Lit | Phase::Starting { timed: false, .. } | Phase::Ending { .. } => {}
+    }
+}
+
+/// "Scene recall: a used, taught entry acts as On or Off by its value; any other number does
+/// nothing."
+///
+/// A recalled number is at most 63, so it never meets an unused entry's 255.
+fn scene_recall(state: &mut State, number: u8, t: u32) {
+    let entry = state.scenes.iter().copied().find(|scene| scene.number == number);
+    match entry {
+        Some(scene) if scene.taught() && scene.value() => on(state, t),
+        Some(scene) if scene.taught() => off(state, t),
+        _ => {}
+    }
+}
+
+/// "Learn, if enabled and the number is in the table: the entry's value becomes the present output
+/// and it is taught."
+fn scene_learn(state: &mut State, number: u8) {
+    if state.params.scene_learning_mode_enable != 1 {
+        return;
+    }
+    let present_output = state.phase.output();
+    if let Some(scene) = state.scenes.iter_mut().find(|scene| scene.number == number) {
+        scene.flags = if present_output { SCENE_TAUGHT | SCENE_VALUE } else { SCENE_TAUGHT };
+    }
+}
+
+fn night_1(state: &mut State, t: u32) {
+    // "Night 1, when off:"
+    if state.night {
+        return;
+    }
+    let p = state.params;
+    // "night on;"
+    state.night = true;
+    state.phase = match state.phase {
+        // "Lit becomes Timed until t+TimedOn;"
+        Phase::Lit => Phase::Timed { deadline: after(t, p.timed_on) },
+        // "Ending until the earlier of d and t+TimedOn+Prewarning."
+        Phase::Ending { deadline: d } => {
+            Phase::Ending { deadline: min(d, after(after(t, p.timed_on), p.prewarning)) }
+        }
+        other => other,
+    };
+}
+
+/// "Night 0 clears the flag only."
+fn night_0(state: &mut State) {
+    state.night = false;
+}
+
+/// "Force Off or On: force stands, phase Dark or Lit."
+fn force_off_or_on(state: &mut State, force: Force) {
+    state.force = force;
+    state.phase = if force == Force::On { Phase::Lit } else { Phase::Dark };
+}
+
+/// "Release of a standing force: set on if the output is on, else set off."
+fn release(state: &mut State, t: u32) {
+    if state.force == Force::None {
+        return;
+    }
+    state.force = Force::None;
+    let present_output = state.phase.output();
+    set(state, present_output, t);
+}
+
+fn lock(state: &mut State) {
+    // "Lock, when unlocked:"
+    if state.lock {
+        return;
+    }
+    // "the output is remembered,"
+    let present_output = state.phase.output();
+    state.output_at_locking = present_output;
+    state.lock = true;
+    // "the phase becomes Dark or Lit by BehaviourAtLocking (keep: by the present output)."
+    let lit = match state.params.behaviour_at_locking {
+        OFF => false,
+        ON => true,
+        _keep => present_output,
+    };
+    state.phase = if lit { Phase::Lit } else { Phase::Dark };
+}
+
+fn unlock(state: &mut State, t: u32) {
+    // "Unlock, when locked:"
+    if !state.lock {
+        return;
+    }
+    state.lock = false;
+    match state.force {
+        // "a standing force decides the phase;"
+        Force::Off => state.phase = Phase::Dark,
+        Force::On => state.phase = Phase::Lit,
+        // "otherwise BehaviourAtUnlocking, by set on or set off ("keep" sets the present output)."
+        Force::None => {
+            let output = match state.params.behaviour_at_unlocking {
+                OFF => false,
+                ON => true,
+                AS_BEFORE_LOCKING => state.output_at_locking,
+                _keep => state.phase.output(),
+            };
+            set(state, output, t);
+        }
+    }
+}
+
+/// "Bus failure from up ...: the link changes; then the mode"; "Other bus events do nothing."
+fn bus_failure(state: &mut State, t: u32) {
+    if state.link == Link::Up {
+        state.link = Link::BusDown;
+        let mode = state.params.bus_failure_mode;
+        bus_mode(state, mode, t);
+    }
+}
+
+/// "return from bus down: the link changes; then the mode"; "Other bus events do nothing."
+fn bus_return(state: &mut State, t: u32) {
+    if state.link == Link::BusDown {
+        state.link = Link::Up;
+        let mode = state.params.bus_return_mode;
+        bus_mode(state, mode, t);
+    }
+}
+
+/// "then the mode, unless lock or force stands. Keep leaves phase and timers running."
+fn bus_mode(state: &mut State, mode: u8, t: u32) {
+    if state.lock || state.force != Force::None {
+        return;
+    }
+    match mode {
+        OFF => set_off(state),
+        ON => set_on(state, t),
+        _keep => {}
+    }
+}
+
+/// "Power failure, link up or bus down: the output is remembered, the phase is Dark, night, lock
+/// and force clear, link power down." ... "Scenes outlive it."
+fn power_failure(state: &mut State) {
+    if state.link == Link::PowerDown {
+        return;
+    }
+    state.output_at_power_failure = state.phase.output();
+    state.phase = Phase::Dark;
+    state.night = false;
+    state.lock = false;
+    state.force = Force::None;
+    state.link = Link::PowerDown;
+}
+
+/// "Power return from power down: link up, set on or set off by mode. Else nothing."
+fn power_return(state: &mut State, t: u32) {
+    if state.link != Link::PowerDown {
+        return;
+    }
+    state.link = Link::Up;
+    let output = match state.params.power_return_mode {
+        OFF => false,
+        ON => true,
+        _as_before_the_failure => state.output_at_power_failure,
+    };
+    set(state, output, t);
+}
+
+// ================================================================================================
+// Records and the printout
+// ================================================================================================
+
+/// "Status octets follow document 004, 2.5.3: value 0 or 255; attributes bit 0 valid (power not
+/// down), bit 1 locked, 2 forced, 3 night, 4 staircase (our reading, which decides: Timed or
+/// Warning, however entered), 5 to 7 zero."
+fn status(state: &State) -> (u8, u8) {
+    let value = if state.phase.output() { 255 } else { 0 };
+    let valid = state.link != Link::PowerDown;
+    let forced = state.force != Force::None;
+    let staircase = matches!(state.phase, Phase::Timed { .. } | Phase::Warning { .. });
+    let attributes = u8::from(valid)
+        | u8::from(state.lock) << 1
+        | u8::from(forced) << 2
+        | u8::from(state.night) << 3
+        | u8::from(staircase) << 4;
+    (value, attributes)
+}
+
+/// "Cause is the input's kind, 0 for a timer and for the start."
+#[derive(Clone, Copy, Debug, PartialEq, Eq)]
+pub struct Record {
+    pub stamp: u32,
+    pub value: u8,
+    pub attributes: u8,
+    pub cause: u8,
+}
+
+const CAUSE_TIMER: u8 = 0;
+const CAUSE_START: u8 = 0;
+
+/// "A record is 8 octets: stamp, value, attributes, cause, zero."
+pub fn record_octets(record: &Record) -> [u8; 8] {
+    let s = record.stamp.to_be_bytes();
+    [s[0], s[1], s[2], s[3], record.value, record.attributes, record.cause, 0]
+}
+
+fn record_of(state: &State, stamp: u32, cause: u8) -> Record {
+    let (value, attributes) = status(state);
+    Record { stamp, value, attributes, cause }
+}
+
+/// "then one after each timer or input that changed value or attributes"
+fn write_change(before: (u8, u8), now: &State, stamp: u32, cause: u8, tape: &mut impl Tape) {
+    if status(now) != before {
+        tape.record(record_of(now, stamp, cause));
+    }
+}
+
+/// Where records and answers go: into vectors, or into the two lent buffers.
+trait Tape {
+    fn record(&mut self, record: Record);
+    fn answer(&mut self, answer: u8);
+}
+
+struct VecTape {
+    records: Vec<Record>,
+    answers: Vec<u8>,
+    records_before: Vec<usize>,
+}
+
+impl VecTape {
+    fn with_capacity(records: usize, answers: usize) -> VecTape {
+        VecTape {
+            records: Vec::with_capacity(records),
+            answers: Vec::with_capacity(answers),
+            records_before: Vec::with_capacity(answers),
+        }
+    }
+}
+
+impl Tape for VecTape {
+    fn record(&mut self, record: Record) {
+        self.records.push(record);
+    }
+
+    fn answer(&mut self, answer: u8) {
+        self.records_before.push(self.records.len());
+        self.answers.push(answer);
+    }
+}
+
+/// "two lent octet buffers ... Octets past what is written stay."
+struct LentTape<'a> {
+    records: &'a mut [u8],
+    answers: &'a mut [u8],
+    record_count: usize,
+    answer_count: usize,
+}
+
+impl Tape for LentTape<'_> {
+    fn record(&mut self, record: Record) {
+        let at = RECORD * self.record_count;
+        self.records[at..at + RECORD].copy_from_slice(&record_octets(&record));
+        self.record_count += 1;
+    }
+
+    fn answer(&mut self, answer: u8) {
+        self.answers[self.answer_count] = answer;
+        self.answer_count += 1;
+    }
+}
+
+/// An accepted cue file: its parameters as a fresh state, its inputs and its end time.
+struct Cues<'a> {
+    fresh: State,
+    inputs: &'a [u8],
+    end_time: u32,
+}
+
+/// An accepted list, from the start record to the end time; gives the end state.
+fn play(cues: &Cues, tape: &mut impl Tape) -> State {
+    let mut state = cues.fresh;
+    // "One record is written at the start"
+    tape.record(record_of(&state, state.clock, CAUSE_START));
+    // "Equal stamps keep list order."
+    for octets in cues.inputs.chunks_exact(INPUT) {
+        let input = decode_input(octets).expect("an accepted file has no bad input");
+        let answer = take_input(&mut state, octets, input, tape);
+        tape.answer(answer);
+    }
+    // "After the last input the clock moves to the end time."
+    move_clock(&mut state, cues.end_time, tape);
+    state
+}
+
+/// "records, at least 8(3n+3) octets": the most records n inputs can give.
+fn most_records(n: usize) -> usize {
+    3 * n + 3
+}
+
+/// What the run gives; `records_before[i]` is how many records precede answer i.
+#[derive(Clone, Debug, PartialEq, Eq)]
+pub struct Run {
+    pub code: u8,
+    pub place: u16,
+    pub records: Vec<Record>,
+    pub answers: Vec<u8>,
+    pub end: State,
+    pub records_before: Vec<usize>,
+}
+
+/// A whole cue file, with the sizes in octets of the two lent buffers.
+pub fn run(file: &[u8], records_len: usize, answers_len: usize) -> Run {
+    match accept(file, records_len, answers_len) {
+        Err(refusal) => Run {
+            code: refusal.code,
+            place: refusal.place,
+            records: Vec::new(),
+            answers: Vec::new(),
+            end: state_of_a_refusal(),
+            records_before: Vec::new(),
+        },
+        Ok(cues) => {
+            let n = cues.inputs.len() / INPUT;
+            let mut tape = VecTape::with_capacity(most_records(n), n);
+            let end = play(&cues, &mut tape);
+            Run {
+                code: 0,
+                place: 0,
+                records: tape.records,
+                answers: tape.answers,
+                end,
+                records_before: tape.records_before,
+            }
+        }
+    }
+}
+
+/// "To C it answers one 64-bit number, code*2^48 + place*2^32 + record count"
+fn packed(code: u8, place: u16, record_count: usize) -> u64 {
+    (u64::from(code) << 48) + (u64::from(place) << 32) + record_count as u64
+}
+
+pub fn number(run: &Run) -> u64 {
+    packed(run.code, run.place, run.records.len())
+}
+
+/// "calls the run with a file and two lent octet buffers"; a refused call writes nothing.
+pub fn run_into(file: &[u8], records: &mut [u8], answers: &mut [u8]) -> u64 {
+    match accept(file, records.len(), answers.len()) {
+        Err(refusal) => packed(refusal.code, refusal.place, 0),
+        Ok(cues) => {
+            let mut tape = LentTape { records, answers, record_count: 0, answer_count: 0 };
+            play(&cues, &mut tape);
+            packed(0, 0, tape.record_count)
+        }
+    }
+}
+
+/// "A single input, eight octets by value, returns state, answer and at most three records"
+#[derive(Clone, Debug, PartialEq, Eq)]
+pub struct Single {
+    pub state: State,
+    pub code: u8,
+    pub place: u16,
+    pub answer: u8,
+    pub records: Vec<Record>,
+}
+
+/// "For a single input 9, 6, 7, place 0."
+pub fn single(state: &State, octets: &[u8; 8]) -> Single {
+    // "hands back the state it was given"; "a single input's answer and all by-value records are
+    // 0 on refusal"
+    let refused = |code| Single { state: *state, code, place: 0, answer: 0, records: Vec::new() };
+    if !sound(state) {
+        return refused(9);
+    }
+    let input = match decode_input(octets) {
+        Some(input) => input,
+        None => return refused(6),
+    };
+    if stamp_refused(u32_at(octets, 0), state.clock, LAST_STAMP) {
+        return refused(7);
+    }
+    let mut moved = *state;
+    let mut tape = VecTape::with_capacity(3, 0);
+    let answer = take_input(&mut moved, octets, input, &mut tape);
+    Single { state: moved, code: 0, place: 0, answer, records: tape.records }
+}
+
+/// "a clock move the state and at most two"
+#[derive(Clone, Debug, PartialEq, Eq)]
+pub struct Move {
+    pub state: State,
+    pub code: u8,
+    pub place: u16,
+    pub records: Vec<Record>,
+}
+
+/// "A clock move: 9, 7."
+pub fn clock_move(state: &State, stamp: u32) -> Move {
+    let refused = |code| Move { state: *state, code, place: 0, records: Vec::new() };
+    if !sound(state) {
+        return refused(9);
+    }
+    if stamp_refused(stamp, state.clock, LAST_STAMP) {
+        return refused(7);
+    }
+    let mut moved = *state;
+    let mut tape = VecTape::with_capacity(2, 0);
+    move_clock(&mut moved, stamp, &mut tape);
+    Move { state: moved, code: 0, place: 0, records: tape.records }
+}
+
+/// "Parameters alone give the fresh state." With it code and place.
+pub fn fresh(parameters: &[u8]) -> (State, u8, u16) {
+    // "1 | ... parameters offered alone not 32 | 0"
+    if parameters.len() != PARAMETERS {
+        return (state_of_a_refusal(), 1, 0);
+    }
+    // "5 | parameter out of range | lowest bad octet in 0-31"
+    if let Some(octet) = lowest_bad_octet(parameters) {
+        return (state_of_a_refusal(), 5, octet);
+    }
+    let (params, scenes) = decode_parameters(parameters);
+    (fresh_state(params, scenes), 0, 0)
+}
+
+/// "The print program reads a file on standard input." Its buffers are never too short.
+///
+/// "OK: count of inputs. R: stamp, value, attributes, cause. A: input index from 0, answer.
+/// E: count of records. A refused file prints one line, `NO code place`."
+pub fn print(file: &[u8]) -> String {
+    let run = run(file, usize::MAX, usize::MAX);
+    if run.code != 0 {
+        return format!("NO {} {}\n", run.code, run.place);
+    }
+    let mut text = String::with_capacity(32 * (run.records.len() + run.answers.len() + 2));
+    line(&mut text, "OK", &[run.answers.len() as u32]);
+    let mut printed = 0;
+    for (index, answer) in run.answers.iter().enumerate() {
+        print_records(&mut text, &run.records[printed..run.records_before[index]]);
+        printed = run.records_before[index];
+        line(&mut text, "A", &[index as u32, u32::from(*answer)]);
+    }
+    print_records(&mut text, &run.records[printed..]);
+    line(&mut text, "E", &[run.records.len() as u32]);
+    text
+}
+
+fn print_records(text: &mut String, records: &[Record]) {
+    for r in records {
+        let numbers = [r.stamp, u32::from(r.value), u32::from(r.attributes), u32::from(r.cause)];
+        line(text, "R", &numbers);
+    }
+}
+
+fn line(text: &mut String, word: &str, numbers: &[u32]) {
+    text.push_str(word);
+    for number in numbers {
+        write!(text, " {}", number).expect("writing to a String cannot fail");
+    }
+    text.push('\n');
+}
+
+// ================================================================================================
+// Refusal numbers
+// ================================================================================================
+
+struct Refusal {
+    code: u8,
+    place: u16,
+}
+
+fn refuse<T>(code: u8, place: u16) -> Result<T, Refusal> {
+    Err(Refusal { code, place })
+}
+
+/// "Order 1, 2, 3, 4, 5; then the first bad input, 6 before 7; then 8."
+fn accept(file: &[u8], records_len: usize, answers_len: usize) -> Result<Cues<'_>, Refusal> {
+    // "1 | file under 52 octets"
+    if file.len() < HEADER + PARAMETERS {
+        return refuse(1, 0);
+    }
+    // "2 | version not 1": "0-1 version (1)"
+    if u16_at(file, 0) != 1 {
+        return refuse(2, 0);
+    }
+    // "3 | actuator count not 1": "2-3 count of actuators (1)"
+    if u16_at(file, 2) != 1 {
+        return refuse(3, 0);
+    }
+    // "4 | an offset, n, the length or the end time is not as above": "4-7 offset of parameters
+    // (20); 8-11 count n of inputs (0 to 2,048); 12-15 offset of inputs (52); 16-19 end time (at
+    // most 864,000). The file is exactly 52+8n octets."
+    let offset_of_parameters = u32_at(file, 4);
+    let n = u32_at(file, 8);
+    let offset_of_inputs = u32_at(file, 12);
+    let end_time = u32_at(file, 16);
+    if offset_of_parameters != 20
+        || n > MOST_INPUTS
+        || offset_of_inputs != 52
+        || end_time > LAST_STAMP
+        || file.len() != 52 + 8 * n as usize
+    {
+        return refuse(4, 0);
+    }
+    let (parameters, inputs) = file[HEADER..].split_at(PARAMETERS);
+    // "5 | parameter out of range | lowest bad octet in 0-31"
+    if let Some(octet) = lowest_bad_octet(parameters) {
+        return refuse(5, octet);
+    }
+    let mut stamp_before = 0;
+    for (index, octets) in inputs.chunks_exact(INPUT).enumerate() {
+        // "6 | kind, value or zero octet wrong | input index"
+        if decode_input(octets).is_none() {
+            return refuse(6, index as u16);
+        }
+        // "7 | stamp below the one before ..., above the end time ... | input index"
+        let stamp = u32_at(octets, 0);
+        if stamp_refused(stamp, stamp_before, end_time) {
+            return refuse(7, index as u16);
+        }
+        stamp_before = stamp;
+    }
+    // "8 | a lent buffer too short": "records, at least 8(3n+3) octets, and answers, at least n"
+    let n = n as usize;
+    if records_len < RECORD * most_records(n) || answers_len < n {
+        return refuse(8, 0);
+    }
+    let (params, scenes) = decode_parameters(parameters);
+    Ok(Cues { fresh: fresh_state(params, scenes), inputs, end_time })
+}
+
+/// "7 | stamp below the one before (or the clock), above the end time (single input or clock move:
+/// 864,000)"
+fn stamp_refused(stamp: u32, lowest: u32, highest: u32) -> bool {
+    stamp < lowest || stamp > highest
+}
+
+/// "Where no state was handed in, a refusal's state is the fresh one with TimedOn 1 second, other
+/// times and modes 0, no scenes."
+pub fn state_of_a_refusal() -> State {
+    let params = Params {
+        on_delay: 0,
+        off_delay: 0,
+        timed_on: 1,
+        prewarning: 0,
+        behaviour_at_locking: 0,
+        behaviour_at_unlocking: 0,
+        bus_failure_mode: 0,
+        bus_return_mode: 0,
+        power_return_mode: 0,
+        scene_learning_mode_enable: 0,
+    };
+    fresh_state(params, [Scene { number: UNUSED, flags: 0 }; 8])
+}
+
+/// "A state is sound when ..."
+pub fn sound(state: &State) -> bool {
+    let lock_or_force = state.lock || state.force != Force::None;
+
+    // "its parameters and scenes are in range,"
+    let in_range = lowest_bad_octet(&parameter_octets(&state.params, &state.scenes)).is_none();
+
+    // "the clock is at most 864,000,"
+    let clock_good = state.clock <= LAST_STAMP;
+
+    // "a deadline lies 1 to 655,350 after the clock,"
+    let deadline_good = match state.phase.deadline() {
+        None => true,
+        Some(d) => d > state.clock && d - state.clock <= LONGEST_DELAY,
+    };
+
+    // "lock or force leaves only Dark or Lit,"
+    let dark_or_lit = !lock_or_force || matches!(state.phase, Phase::Dark | Phase::Lit);
+
+    // "force without lock agrees with the phase,"
+    let force_agrees = state.lock
+        || match state.force {
+            Force::None => true,
+            Force::Off => state.phase == Phase::Dark,
+            Force::On => state.phase == Phase::Lit,
+        };
+
+    // "Lit in night needs lock or force,"
+    let lit_in_night = state.phase == Phase::Lit && state.night;
+    let night_good = !lit_in_night || lock_or_force;
+
+    // "and power down means Dark with night, lock and force clear."
+    let power_good = state.link != Link::PowerDown
+        || (state.phase == Phase::Dark && !state.night && !lock_or_force);
+
+    in_range
+        && clock_good
+        && deadline_good
+        && dark_or_lit
+        && force_agrees
+        && night_good
+        && power_good
+}
