@@ -107,6 +107,7 @@ def slips():
     worked = parameters(unlocking=3)
     script('three timers in one clock move', worked, [(0, START)], LAST)
     script('three timers in one input', worked, [(0, START), (LAST, ON)], LAST)
+    script('two timers that show, and an input that shows', worked, [(0, START), (LAST, LOCK)], LAST)
     script('ties: each timer before an input at its moment', worked, [(0, START), (20, OFF), (70, ON), (90, START), (690, ON), (690, START), (1290, START), (1990, OFF)], 1990, 1991)
     script('ties: inputs at one stamp in list order', worked, [(0, ON), (0, OFF), (0, START), (0, STOP), (20, LOCK), (20, UNLOCK), (20, FORCE_ON), (20, FREE)], LAST)
     script('repeated On, repeated Off', worked, [(0, ON), (19, ON), (20, ON), (30, OFF), (40, OFF), (79, OFF), (80, OFF), (90, OFF)], 100)
@@ -318,10 +319,10 @@ def handed(text, *changes):
     back()
     for field, value in changes:
         change(FIELDS[field] if field in FIELDS else 32 + int(field), value)
-    keep_stamp = next((value for field, value in reversed(changes) if field == 'clock'), 0)
-    cue(keep_stamp, ON)
-    octets_in(keep_stamp, 9, 0)
-    clock(keep_stamp)
+    stamp = next((value for field, value in reversed(changes) if field == 'clock'), 0)
+    cue(stamp, ON)
+    octets_in(stamp, 9, 0)
+    clock(stamp)
     clock(LAST)
 
 
