@@ -1,0 +1,65 @@
+#!/usr/bin/env bash
+# Compares the stored output of the program `paces` with what the independent model in Rust gives for the same steps, and runs
+# the model's own tests. Needs a rustc on the PATH (1.63 or newer); builds in a temporary folder. (That the proved program
+# writes its stored output is for `rt check paces`.) The last line is 'N passed, M failed'; succeeds exactly when M is 0.
+set -u
+cd "$(dirname "$0")/.." || exit 2
+
+passed=0
+failed=0
+room=$(mktemp -d) || exit 2
+trap 'rm -rf "$room"' EXIT
+
+pass() {
+    passed=$((passed + $2))
+    echo "ok: $1"
+}
+
+fail() {
+    failed=$((failed + $2))
+    echo "FAILED: $1"
+}
+
+# build NAME OPTION..: tests/NAME.rs to a program, with sums that overflow caught.
+build() {
+    local name=$1
+    shift
+    rustc --edition 2021 -O -C overflow-checks=on "$@" "tests/$name.rs" -o "$room/$name"
+}
+
+# The stored steps are those that the script writes, where there is a Python to ask.
+if command -v python3 >/dev/null; then
+    if python3 tests/make_paces.py >"$room/stdin" && cmp "$room/stdin" crates/paces/stdin; then
+        pass "crates/paces/stdin is what tests/make_paces.py writes" 1
+    else
+        fail "crates/paces/stdin is not what tests/make_paces.py writes" 1
+    fi
+fi
+
+# The model, at the same steps, gives the stored lines.
+if build paces && "$room/paces" <crates/paces/stdin >"$room/stdout" && cmp "$room/stdout" crates/paces/stdout; then
+    pass "the model gives the $(wc -l <crates/paces/stdout) lines of crates/paces/stdout" 1
+else
+    fail "the model does not give crates/paces/stdout" 1
+fi
+
+# The model's own tests.
+if build model_tests --test; then
+    "$room/model_tests" >"$room/tests" 2>&1
+    status=$?
+    if [[ $(grep '^test result:' "$room/tests") =~ ([0-9]+)\ passed\;\ ([0-9]+)\ failed ]]; then
+        pass "${BASH_REMATCH[1]} tests of the model" "${BASH_REMATCH[1]}"
+        if [ "$status" -ne 0 ]; then
+            cat "$room/tests"
+            fail "tests of the model" "$((BASH_REMATCH[2] > 0 ? BASH_REMATCH[2] : 1))"
+        fi
+    else
+        cat "$room/tests"
+        fail "the tests of the model ended without a count" 1
+    fi
+else
+    fail "the tests of the model do not compile" 1
+fi
+
+echo "$passed passed, $failed failed"
+[ "$failed" -eq 0 ]
