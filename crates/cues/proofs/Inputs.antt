@@ -5,6 +5,7 @@ use mathlib.Core.List.{List, []}
 use mathlib.Core.Path.{_≡_, refl}
 use native.Mathlib.Omega.{arith}
 use lib.Dec.{leb}
+use Rattle.rules.specs.declared.input.Input.{Input}
 use Rattle.rules.specs.declared.input.Decoded.{Decoded}
 use Rattle.rules.specs.declared.input.Decoded.the-variants.{Meant, Wrong}
 use Rattle.rules.specs.declared.refusal.Refusal.{Refusal}
@@ -31,6 +32,15 @@ one-decides (Meant x) stamp last end i later = by (leb last stamp && leb stamp e
     by true (cues list) = refl
     by true (bad why place) = refl
     by false later = refl
+
+-- the stamp decides over an input that means something
+pub stamp-decides : (meant : Decoded) (x : Input) (stamp last end i : ℕ) (b : Bool) → meant ≡ Meant x → (leb last stamp && leb stamp end) ≡ b → cond b Passed (Refused BadStamp i) ≡ checkOne meant stamp last end i
+unfolding checkOne readOne
+stamp-decides meant x stamp last end i b m e = rw (m, ← e) (by (leb last stamp && leb stamp end))
+  where
+    by : (b : Bool) → cond b Passed (Refused BadStamp i) ≡ verdict (cond b (before (cue stamp x) (cues [])) (bad BadStamp i))
+    by true = refl
+    by false = refl
 
 pub none-left : (file : List ℕ) (n i last end : ℕ) → n ≤ i → verdict (readInputs file (n - i) i last end) ≡ Passed
 unfolding readInputs

@@ -1,9 +1,10 @@
 // The check of a whole file: the first thing that is wrong, in the order of the refusal numbers.
 ghost use mathlib.Core.Path.{_≡_};
+ghost use mathlib.Core.Bool.{true};
 ghost use Prim.Native.Nat.{_+_, _*_, _≤_};
 ghost use lib.ListN.{length};
 ghost use Rattle.rules.specs.Refusals.{checkParameters};
-ghost use Rattle.rules.specs.Files.{parametersIn, readInputs, readFile};
+ghost use Rattle.rules.specs.Files.{inputCount, endTime, parametersIn, layoutRight, readInputs, afterCheck, readFile};
 ghost use Rattle.cues.specs.Verdict.{verdict, checkOne};
 use crate::header::actuators_of;
 use crate::header::end_time;
@@ -78,6 +79,19 @@ fn check_inputs(file: &[u8], n: u32, end: u32) -> Check
     Check::Passed
 }
 
+// What stands after a good header: the parameters, then the inputs.
+fn check_contents(file: &[u8]) -> Check
+    requires { ⌜ (52 ≤ length (now file)) × (layoutRight (now file) ≡ true) ⌝ }
+    ensures { λ r. ⌜ r ≡ verdict (afterCheck (checkParameters (parametersIn (now (file .entry)))) (readInputs (now (file .entry)) (inputCount (now (file .entry))) 0 0 (endTime (now (file .entry))))) ⌝ }
+{
+    let parameters = check_parameters_in(file);
+    match parameters {
+        Check::Passed => check_inputs(file, input_count(file), end_time(file)),
+        Check::Refused { why, place } => Check::Refused { why, place },
+    }
+}
+
+// A whole file: accepted, or refused for the first row of the table that holds.
 pub fn check_file(file: &[u8]) -> Check
     ensures { λ r. ⌜ r ≡ verdict (readFile (now (file .entry))) ⌝ }
 {
@@ -100,11 +114,7 @@ pub fn check_file(file: &[u8]) -> Check
         };
     }
     if layout_is_right(file) {
-        let parameters = check_parameters_in(file);
-        match parameters {
-            Check::Passed => check_inputs(file, input_count(file), end_time(file)),
-            Check::Refused { why, place } => Check::Refused { why, place },
-        }
+        check_contents(file)
     } else {
         Check::Refused {
             why: Refusal::WrongLayout,

@@ -19,5 +19,6 @@ pub mod Delays
 pub mod Worked
 pub mod Inputs
 pub mod Accepted
+pub mod CueFiles
 pub mod Calls
 pub mod Unique

@@ -8,11 +8,6 @@ use Rattle.cues.specs.Verdict.{verdict}
 use Rattle.cues.proofs.Inputs.{none-left, good-goes-on, bad-ends}
 use Rattle.cues.proofs.check.check_inputs.Statement.{statement}
 use Rattle.cues.proofs.check.check_inputs.Tie as tie
-use Rattle.cues.proofs.check.check_inputs.Reads as reads
-use Rattle.cues.proofs.check.check_inputs.Lts as lts
-use Rattle.cues.proofs.check.check_one.Reads as check-one-reads
-use Rattle.decode.proofs.input.input_at.Reads as input-at-reads
-use Rattle.decode.proofs.input.stamp_at.Reads as stamp-at-reads
 
 abbrev Inv-loop : tie.InvT-loop
 Inv-loop file n end i₀ last₀ i last = (i ≤ n) × (verdict (readInputs file n 0 0 end) ≡ verdict (readInputs file (n - i) i last end))
@@ -23,33 +18,6 @@ abbrev μ-loop : tie.MeasureT-loop
 loop-holds : tie.Need-loop-holds Inv-loop μ-loop
 loop-holds c = (search needs, rw (sub-zero _))
 
-cast-at : tie.Need-cast-at Inv-loop μ-loop
-cast-at c = search needs
-
-mul-at : tie.Need-mul-at Inv-loop μ-loop
-mul-at c = search needs
-
-add-at : tie.Need-add-at Inv-loop μ-loop
-add-at c = search needs
-
-stamp-at-requires : tie.Need-stamp-at-requires Inv-loop μ-loop
-stamp-at-requires c κs = search needs
-
-input-at-requires : tie.Need-input-at-requires Inv-loop μ-loop
-input-at-requires c κs = search needs
-
-check-one-requires : tie.Need-check-one-requires Inv-loop μ-loop
-check-one-requires c κs = search needs
-
-enum-told : tie.Need-enum-told Inv-loop μ-loop
-enum-told c = search needs
-
-add-i : tie.Need-add-i Inv-loop μ-loop
-add-i c = search needs
-
-loop-less : tie.Need-loop-less Inv-loop μ-loop
-loop-less c = search needs
-
 loop-again : tie.Need-loop-again Inv-loop μ-loop
 loop-again c =
     let a = c .before .before .before .before .before .before .before .before .args in
@@ -58,9 +26,6 @@ loop-again c =
       search needs,
       rw (c .before .before .before .before .stamp-at .ensures) (l .inv .1 ∙ good-goes-on (now (a .file)) (a .n) (l .i) (l .last) (a .end) (c .before .before .before .before .before .loop-test .taken) one),
     )
-
-enum-known-one : tie.Need-enum-known-one Inv-loop μ-loop
-enum-known-one c = search needs
 
 returns : tie.Need-returns Inv-loop μ-loop
 returns c =
@@ -82,16 +47,16 @@ check-inputs-spec =
     Inv-loop
     μ-loop
     loop-holds
-    cast-at
-    mul-at
-    add-at
-    stamp-at-requires
-    input-at-requires
-    check-one-requires
-    enum-told
-    add-i
-    loop-less
+    (λ c. search needs)
+    (λ c. search needs)
+    (λ c. search needs)
+    (λ c κs. search needs)
+    (λ c κs. search needs)
+    (λ c κs. search needs)
+    (λ c. search needs)
+    (λ c. search needs)
+    (λ c. search needs)
     loop-again
-    enum-known-one
+    (λ c. search needs)
     returns
     returns-2)

@@ -1,40 +1,23 @@
+use mathlib.Core.Bool.{true, false}
+use mathlib.Core.Path.{sym, _∙_}
+use Rattle.cues.proofs.Inputs.{stamp-decides}
 use Rattle.cues.specs.Verdict.{checkOne}
 use Rattle.rules.specs.Files.{readOne}
 use borrow.Author.Needs.{needs}
 use Rattle.cues.proofs.check.check_one.Statement.{statement}
 use Rattle.cues.proofs.check.check_one.Tie as tie
-use Rattle.cues.proofs.check.check_one.Reads as reads
-use Rattle.cues.proofs.check.check_one.Lts as lts
-use Rattle.phases.proofs.logic.both.Reads as both-reads
-
-enum-told : tie.Need-enum-told
-enum-told c = search needs
-
-cast-t10 : tie.Need-cast-t10
-cast-t10 c = search needs
-
-enum-told-2 : tie.Need-enum-told-2
-enum-told-2 c = search needs
-
-both-requires : tie.Need-both-requires
-both-requires c κs = search needs
-
-cast-t14 : tie.Need-cast-t14
-cast-t14 c = search needs
 
 returns : tie.Need-returns
 unfolding checkOne readOne
 returns c = simp (c .enum-told .given .1)
 
 returns-2 : tie.Need-returns-2
-unfolding checkOne readOne
-returns-2 c = simp (c .if1 .taken, ← c .before .both .ensures, c .before .before .enum-told2 .given .1)
+returns-2 c = stamp-decides _ _ _ _ _ _ true (c .before .before .enum-told2 .given .1) (sym (c .before .both .ensures) ∙ c .if1 .taken)
 
 returns-3 : tie.Need-returns-3
-unfolding checkOne readOne
-returns-3 c = simp (c .if1 .left, ← c .before .both .ensures, c .before .before .enum-told2 .given .1)
+returns-3 c = stamp-decides _ _ _ _ _ _ false (c .before .before .enum-told2 .given .1) (sym (c .before .both .ensures) ∙ c .if1 .left)
 
 pub check-one-spec : {M : Type 1} → statement M
 check-one-spec =
     tie.close
-    (tie.spec enum-told cast-t10 enum-told-2 both-requires cast-t14 returns returns-2 returns-3)
+    (tie.spec (λ c. search needs) (λ c. search needs) (λ c. search needs) (λ c κs. search needs) (λ c. search needs) returns returns-2 returns-3)
