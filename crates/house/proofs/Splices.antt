@@ -19,7 +19,7 @@ unfolding splice
 splice-none b at = simp (add-zero, append-nil, take-append-drop)
 
 -- a second piece right after a first
-pub splice-splice : (b : List ℕ) (at to : ℕ) (xs ys : List ℕ) → at ≤ length b → to ≡ at + length xs → splice (splice b at xs) to ys ≡ splice b at (xs ++ ys)
+splice-splice : (b : List ℕ) (at to : ℕ) (xs ys : List ℕ) → at ≤ length b → to ≡ at + length xs → splice (splice b at xs) to ys ≡ splice b at (xs ++ ys)
 unfolding splice
 splice-splice b at to xs ys h e =
     let l : length (take at b ++ xs) ≡ to = length-append (take at b) xs ∙ ap (λ (n : ℕ). n + length xs) (length-take-le at b h) ∙ sym e in
@@ -33,7 +33,7 @@ unfolding splice over
 splice-front b xs = rw zero-add
 
 -- one octet
-pub set-splice : (b : List ℕ) (i x : ℕ) → i < length b → set b i x ≡ splice b i (x ∷ [])
+set-splice : (b : List ℕ) (i x : ℕ) → i < length b → set b i x ≡ splice b i (x ∷ [])
 unfolding splice
 set-splice b i x h =
     let l : length (take i b) ≡ i = length-take-le i b (omega arith) in
@@ -42,13 +42,17 @@ set-splice b i x h =
     ∙ sym (append-snoc (take i b) x (drop (suc i) b))
     ∙ ap (λ (n : ℕ). take i b ++ (x ∷ []) ++ drop n b) (sym (add-one i))
 
+-- one octet more after the front that was replaced
+pub octet-more : (b c : List ℕ) (i x : ℕ) (xs : List ℕ) → c ≡ splice b 0 xs → length xs ≡ i → i < length c → set c i x ≡ splice b 0 (xs ++ (x ∷ []))
+octet-more b c i x xs p e h = set-splice c i x h ∙ rw p (splice-splice b 0 i xs (x ∷ []) (omega arith) (omega arith))
+
 -- ---- records
 
-pub record-length : (r : Record) → length (recordOctets r) ≡ 8
+record-length : (r : Record) → length (recordOctets r) ≡ 8
 unfolding recordOctets
 record-length r = refl
 
-pub records-append : (k l : List Record) → recordsOctets (k ++ l) ≡ recordsOctets k ++ recordsOctets l
+records-append : (k l : List Record) → recordsOctets (k ++ l) ≡ recordsOctets k ++ recordsOctets l
 unfolding recordsOctets
 records-append [] l = refl
 records-append (r ∷ k) l = rw (append-assoc, records-append k l)
@@ -57,7 +61,7 @@ pub records-one : (r : Record) → recordsOctets (r ∷ []) ≡ recordOctets r
 unfolding recordsOctets
 records-one r = append-nil (recordOctets r)
 
-pub records-length : (k : List Record) → length (recordsOctets k) ≡ 8 * length k
+records-length : (k : List Record) → length (recordsOctets k) ≡ 8 * length k
 unfolding recordsOctets
 records-length [] = refl
 records-length (r ∷ k) = simp (length-append, record-length, records-length k) (omega arith)

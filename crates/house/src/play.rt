@@ -66,7 +66,7 @@ fn step_at(file: &[u8], at: usize, s: State) -> Acted
 // The inputs, after the start record: an input's records follow those before it, its answer has its index.
 fn play_inputs(file: &[u8], n: u32, start: State, records: &mut [u8], answers: &mut [u8]) -> Ended
     requires { ⌜ Ready (now file) n start × (8 + 24 * n ≤ length (now records)) × (n ≤ length (now answers)) ⌝ }
-    ensures { λ r. ⌜ Filled 1 (plays (listIn (now (file .entry))) start) (now (records .entry)) (now (answers .entry)) r (now (records .exit)) (now (answers .exit)) ⌝ }
+    ensures { λ r. ⌜ Filled 1 (plays (listIn (now (file .entry))) start) (now (records .entry)) (now (answers .entry)) r (now (records .exit)) (now (answers .exit)) × (sound (r .state) ≡ true) × (r .count ≤ 1 + 3 * n) ⌝ }
 {
     let mut s = start;
     let mut count: u32 = 1;

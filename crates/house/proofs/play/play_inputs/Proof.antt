@@ -1,3 +1,7 @@
+use Prim.Native.Nat.{_-_}
+use native.Mathlib.Omega.{arith}
+use borrow.Author.Needs.{needs}
+use Rattle.house.proofs.Turns.{Going, going-first, turn, turn-few, going-on, going-last}
 use Rattle.house.proofs.play.play_inputs.Statement.{statement}
 use Rattle.house.proofs.play.play_inputs.Tie as tie
 use Rattle.house.proofs.play.play_inputs.Reads as reads
@@ -6,82 +10,50 @@ use Rattle.house.proofs.play.step_at.Reads as step-at-reads
 use Rattle.house.proofs.put.put_notes.Reads as put-notes-reads
 
 abbrev Inv-loop : tie.InvT-loop
-Inv-loop file n records₀ answers₀ s₀ count₀ i₀ records answers s count i = ?
+Inv-loop file n records₀ answers₀ s₀ count₀ i₀ records answers s count i = Going file n s₀ records₀ answers₀ records answers s count i
 
 abbrev μ-loop : tie.MeasureT-loop
-μ-loop file n records₀ answers₀ s₀ count₀ i₀ records answers s count i = ?
+μ-loop file n records₀ answers₀ s₀ count₀ i₀ records answers s count i = n - i
 
--- src/play.rt:74:5
 loop-holds : tie.Need-loop-holds Inv-loop μ-loop
-loop-holds c = ?
+loop-holds c = going-first _ _ _ _ _ (c .before .before .before .pre .0)
 
--- src/play.rt:75:41
-cast-step-at : tie.Need-cast-step-at Inv-loop μ-loop
-cast-step-at c = ?
-
--- src/play.rt:75:36
-mul-step-at : tie.Need-mul-step-at Inv-loop μ-loop
-mul-step-at c = ?
-
--- src/play.rt:75:31
-add-step-at : tie.Need-add-step-at Inv-loop μ-loop
-add-step-at c = ?
-
--- src/play.rt:75:13
+-- the file has an input at this index, whose stamp is in order
 step-at-requires : tie.Need-step-at-requires Inv-loop μ-loop
-step-at-requires c κs = ?
+step-at-requires c κs =
+    let ready = c .before .before .before .before .before .pre .0 in
+    let g = c .before .loop .inv in
+    let f = turn _ _ _ _ _ ready _ _ _ _ _ g (c .loop-test .taken) in
+    (omega (arith, ready .whole), g .safe, f .risen, omega (arith, f .timely, ready .timely))
 
--- src/play.rt:77:33
-cast-put-notes : tie.Need-cast-put-notes Inv-loop μ-loop
-cast-put-notes c = ?
-
--- src/play.rt:77:28
-mul-put-notes : tie.Need-mul-put-notes Inv-loop μ-loop
-mul-put-notes c = ?
-
--- src/play.rt:77:9
 put-notes-requires : tie.Need-put-notes-requires Inv-loop μ-loop
-put-notes-requires c κs = ?
+put-notes-requires c κs =
+    let start = c .before .before .before .before .before .before .before .before in
+    let g = c .before .before .before .before .loop .inv in
+    let few = turn-few _ _ _ _ _ (start .pre .0) _ _ _ _ _ g (c .before .before .before .loop-test .taken) _ (c .before .before .step-at .ensures) in
+    (few, omega (arith, few, g .few, g .room, start .pre .1))
 
--- src/play.rt:78:17
-cast-answers : tie.Need-cast-answers Inv-loop μ-loop
-cast-answers c = ?
-
--- src/play.rt:78:9
-slice-write-answers : tie.Need-slice-write-answers Inv-loop μ-loop
-slice-write-answers c = ?
-
--- src/play.rt:81:18
-cast-count : tie.Need-cast-count Inv-loop μ-loop
-cast-count c = ?
-
--- src/play.rt:81:9
 add-count : tie.Need-add-count Inv-loop μ-loop
-add-count c = ?
+add-count c =
+    let ready = c .before .before .before .before .before .before .before .before .before .before .before .before .before .pre .0 in
+    let g = c .before .before .before .before .before .before .before .before .before .loop .inv in
+    let few = turn-few _ _ _ _ _ ready _ _ _ _ _ g (c .before .before .before .before .before .before .before .before .loop-test .taken) _ (c .before .before .before .before .before .before .before .step-at .ensures) in
+    omega (arith, few, g .few, ready .few)
 
--- src/play.rt:82:9
-add-i : tie.Need-add-i Inv-loop μ-loop
-add-i c = ?
-
--- src/play.rt:74:5
-loop-less : tie.Need-loop-less Inv-loop μ-loop
-loop-less c = ?
-
--- src/play.rt:74:5
 loop-again : tie.Need-loop-again Inv-loop μ-loop
-loop-again c = ?
+loop-again c =
+    let start = c .before .before .before .before .before .before .before .before .before .before .before .before .before in
+    let g = c .before .before .before .before .before .before .before .before .before .loop .inv in
+    let put = c .before .before .before .before .put-notes in
+    going-on _ _ _ _ _ (start .pre .0) _ _ _ _ _ g
+    (c .before .before .before .before .before .before .before .before .loop-test .taken) _ (c .before .before .before .before .before .before .before .step-at .ensures)
+    (omega (arith, start .pre .1)) (start .pre .2) _ (put .ensures) (put .kept .0)
 
--- src/play.rt:67:1
-same-length : tie.Need-same-length Inv-loop μ-loop
-same-length c = ?
-
--- src/play.rt:67:1
-same-length-2 : tie.Need-same-length-2 Inv-loop μ-loop
-same-length-2 c = ?
-
--- src/play.rt:67:1
 returns : tie.Need-returns Inv-loop μ-loop
-returns c = ?
+returns c =
+    let g = c .before .loop .inv in
+    let ready = c .before .before .before .before .before .pre .0 in
+    (going-last _ _ _ _ _ ready _ _ _ _ _ g (c .loop-test .left), g .safe, omega (arith, g .few, g .upto))
 
 pub play-inputs-spec : {M : Type 1} → statement M
 play-inputs-spec =
@@ -90,20 +62,20 @@ play-inputs-spec =
     Inv-loop
     μ-loop
     loop-holds
-    cast-step-at
-    mul-step-at
-    add-step-at
+    (λ c. search needs)
+    (λ c. search needs)
+    (λ c. search needs)
     step-at-requires
-    cast-put-notes
-    mul-put-notes
+    (λ c. search needs)
+    (λ c. search needs)
     put-notes-requires
-    cast-answers
-    slice-write-answers
-    cast-count
+    (λ c. search needs)
+    (λ c. search needs)
+    (λ c. search needs)
     add-count
-    add-i
-    loop-less
+    (λ c. search needs)
+    (λ c. search needs)
     loop-again
-    same-length
-    same-length-2
+    (λ c. search needs)
+    (λ c. search needs)
     returns)
