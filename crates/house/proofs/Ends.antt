@@ -11,12 +11,11 @@ use borrow.Author.Tests.{leb-true, leb-false}
 use lib.Seq.{getD-take, getD-drop}
 use Rattle.rules.specs.declared.state.State.{State}
 use Rattle.rules.specs.declared.record.Record.{Record}
-use Rattle.rules.specs.Parameters.{paramsOf, scenesOf}
 use Rattle.rules.specs.Steps.{Moved, fresh, clockMove}
 use Rattle.rules.specs.Soundness.{sound}
 use Rattle.rules.specs.Status.{recordOf}
 use Rattle.rules.specs.Lists.{Played, plays, playsTo, playList}
-use Rattle.rules.specs.Files.{inputCount, endTime, parametersIn}
+use Rattle.rules.specs.Files.{endTime, parametersIn}
 use Rattle.rules.specs.Runs.{recordOctets, recordsOctets, playFile}
 use Rattle.rules.proofs.Accepted.{passed-is-sound}
 use Rattle.rules.proofs.Records.{a-move-writes-at-most-two}

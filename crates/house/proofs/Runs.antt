@@ -1,16 +1,19 @@
 -- The whole run, one law for each way out.
-use Prim.Native.Nat.{ℕ, _+_, _*_}
+use Prim.Native.Nat.{ℕ, _+_, _*_, _≤_}
 use mathlib.Core.Bool.{Bool, true, false, _&&_}
 use mathlib.Core.List.{List}
-use mathlib.Core.Path.{_≡_, refl, sym, ap, _∙_}
+use mathlib.Core.Path.{_≡_, refl}
 use native.Mathlib.Nat.{zero-add}
+use native.Mathlib.Omega.{arith}
 use lib.ListN.{length}
 use lib.Dec.{leb}
+use borrow.Author.Tests.{leb-true}
 use Rattle.rules.specs.declared.refusal.Refusal.{Refusal}
 use Rattle.rules.specs.declared.refusal.Refusal.the-variants.{ShortBuffer}
 use Rattle.rules.specs.declared.refusal.Check.the-variants.{Passed, Refused}
 use Rattle.rules.specs.Files.{Reading, cues, bad, inputCount, readFile, roomy, ifRoomy, readCall}
 use Rattle.rules.specs.Runs.{playFile, accepted, refused, runBy, runCall}
+use Rattle.rules.proofs.Tests.{both}
 use Rattle.cues.specs.Verdict.{verdict}
 use Rattle.house.specs.declared.play.Ended.{Ended}
 use Rattle.house.specs.Playing.{found, listIn, Filled}
@@ -35,6 +38,10 @@ bad-anyway : (b : Bool) (why : Refusal) (place : ℕ) → ifRoomy b (bad why pla
 bad-anyway true why place = refl
 bad-anyway false why place = refl
 
+-- the room that the buffers are tested for
+pub enough-room : (n r a : ℕ) → (leb (8 * (3 * n + 3)) r && leb n a) ≡ true → (24 * n + 24 ≤ r) × (n ≤ a)
+enough-room n r a e = let t = both (leb (8 * (3 * n + 3)) r) (leb n a) e in (omega (arith, leb-true (8 * (3 * n + 3)) r (t .0)), leb-true n a (t .1))
+
 module _ (file r a : List ℕ) where
   pub run-refused : (why : Refusal) (place : ℕ) → verdict (readFile file) ≡ Refused why place → whole (refusal why place) r a ≡ runCall file r a
   unfolding runCall readCall runBy refused refusal
@@ -49,4 +56,4 @@ module _ (file r a : List ℕ) where
       → (e : Ended) (r₁ a₁ : List ℕ) → Filled 0 (playFile file (listIn file)) r a e r₁ a₁ → whole (report e) r₁ a₁ ≡ runCall file r a
   unfolding runCall readCall roomy runBy accepted report
   run-accepted n same read room e r₁ a₁ f =
-      rw (read, ← same, room) (rw (f .state, f .count, f .records, f .answers, splice-front, splice-front, zero-add) refl)
+      rw (read, ← same, room) (rw (f .state, f .count, f .records, f .answers, splice-front r, splice-front a, zero-add) refl)

@@ -1,5 +1,5 @@
 -- The inputs of a checked file, one after the other: what is known after the first of them, and how the next one keeps it.
-use Prim.Native.Nat.{ℕ, zero, suc, _+_, _*_, _-_, _≤_, _<_}
+use Prim.Native.Nat.{ℕ, suc, _+_, _*_, _-_, _≤_, _<_}
 use mathlib.Core.Bool.{Bool, true, false, cond, _&&_}
 use mathlib.Core.List.{List, [], _∷_, _++_, append-nil}
 use mathlib.Core.Path.{_≡_, refl, sym, ap, _∙_}
@@ -14,11 +14,10 @@ use Rattle.rules.specs.declared.input.Decoded.the-variants.{Meant, Wrong}
 use Rattle.rules.specs.declared.state.State.{State}
 use Rattle.rules.specs.declared.record.Record.{Record}
 use Rattle.rules.specs.declared.refusal.Refusal.the-variants.{BadStamp}
-use Rattle.rules.specs.Time.{lastStamp}
 use Rattle.rules.specs.Inputs.{inputAt, stampAt}
 use Rattle.rules.specs.Steps.{Stepped, step}
 use Rattle.rules.specs.Soundness.{sound}
-use Rattle.rules.specs.Lists.{Cue, cue, Played, andThen, unplayed, stepped, plays}
+use Rattle.rules.specs.Lists.{Cue, cue, Played, andThen, stepped, plays}
 use Rattle.rules.specs.Files.{Reading, cues, bad, endTime, inputPlace, before, readOne, readInputs}
 use Rattle.rules.specs.Runs.{recordsOctets}
 use Rattle.rules.proofs.Tests.{both}
@@ -30,7 +29,6 @@ use Rattle.actuator.specs.declared.step.Acted.{Acted}
 use Rattle.actuator.specs.Notes.{notes, acted}
 use Rattle.house.specs.Splice.{splice}
 use Rattle.house.specs.Playing.{found, listIn, stepMeant, stepAt, Ready, Filled}
-use Rattle.house.specs.declared.play.Ended.{Ended}
 use Rattle.house.proofs.Splices.{splice-none, octet-more, records-none, records-more, used-places}
 
 -- ---- one input of a file that is read without fault
@@ -191,4 +189,3 @@ module _ (file : List ℕ) (n : ℕ) (start : State) (r₀ a₀ : List ℕ) (rea
         let left : g .later ≡ [] = sym (ap found (rw none at (g .reads))) in
         let whole : plays (listIn file) start ≡ record { state = s; answers = g .said; records = g .wrote } = g .played ∙ rw left (simp append-nil) in
         record { state = rw whole; count = rw whole (g .count); records = rw whole (g .records); answers = rw whole (g .answers) }
-

@@ -81,10 +81,7 @@ fn play_inputs(file: &[u8], n: u32, start: State, records: &mut [u8], answers: &
         count += written.count as u32;
         i += 1;
     }
-    Ended {
-        state: s,
-        count,
-    }
+    Ended { state: s, count }
 }
 
 // The whole run: the start record, the inputs, and the clock's move to the end time.

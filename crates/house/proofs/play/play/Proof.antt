@@ -1,7 +1,5 @@
-use Prim.Native.Nat.{_+_, _*_, _≤_}
-use mathlib.Core.Path.{_≡_, sym, _∙_}
+use mathlib.Core.Path.{_≡_, _∙_}
 use native.Mathlib.Omega.{arith}
-use lib.ListN.{length}
 use denote.Ref.{now}
 use Rattle.rules.specs.Status.{recordOf}
 use Rattle.rules.specs.Runs.{recordOctets}
@@ -13,14 +11,6 @@ use Rattle.house.proofs.Ends.{fit-ready, move-few, ended}
 use borrow.Author.Needs.{needs}
 use Rattle.house.proofs.play.play.Statement.{statement}
 use Rattle.house.proofs.play.play.Tie as tie
-use Rattle.house.proofs.play.play.Reads as reads
-use Rattle.house.proofs.play.play.Lts as lts
-use Rattle.actuator.proofs.clock.move_clock.Reads as move-clock-reads
-use Rattle.actuator.proofs.status.record_of.Reads as record-of-reads
-use Rattle.house.proofs.play.fresh_in.Reads as fresh-in-reads
-use Rattle.house.proofs.play.play_inputs.Reads as play-inputs-reads
-use Rattle.house.proofs.put.put_notes.Reads as put-notes-reads
-use Rattle.house.proofs.put.put_record.Reads as put-record-reads
 
 -- the fresh state is sound, and the inputs are in order from there on
 ready : (c : tie.After-fresh-in) → let a = c .before .before .before .before .args in Ready (now (a .file)) (a .n) (c .fresh-in .result)

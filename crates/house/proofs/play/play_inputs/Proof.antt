@@ -4,10 +4,6 @@ use borrow.Author.Needs.{needs}
 use Rattle.house.proofs.Turns.{Going, going-first, turn, turn-few, going-on, going-last}
 use Rattle.house.proofs.play.play_inputs.Statement.{statement}
 use Rattle.house.proofs.play.play_inputs.Tie as tie
-use Rattle.house.proofs.play.play_inputs.Reads as reads
-use Rattle.house.proofs.play.play_inputs.Lts as lts
-use Rattle.house.proofs.play.step_at.Reads as step-at-reads
-use Rattle.house.proofs.put.put_notes.Reads as put-notes-reads
 
 abbrev Inv-loop : tie.InvT-loop
 Inv-loop file n records₀ answers₀ s₀ count₀ i₀ records answers s count i = Going file n s₀ records₀ answers₀ records answers s count i

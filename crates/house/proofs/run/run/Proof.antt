@@ -1,92 +1,58 @@
+use mathlib.Core.Path.{_≡_, sym, _∙_}
+use denote.Ref.{now}
+use Rattle.rules.specs.Files.{cues, readFile}
+use Rattle.rules.proofs.CueFiles.{GoodHeader, good-file}
+use Rattle.house.specs.Playing.{listIn}
+use Rattle.house.proofs.Runs.{file-passed, enough-room, run-refused, run-short, run-accepted}
+use native.Mathlib.Omega.{arith}
 use borrow.Author.Needs.{needs}
 use Rattle.house.proofs.run.run.Statement.{statement}
 use Rattle.house.proofs.run.run.Tie as tie
-use Rattle.house.proofs.run.run.Reads as reads
-use Rattle.house.proofs.run.run.Lts as lts
-use Rattle.cues.proofs.check.check_file.Reads as check-file-reads
-use Rattle.cues.proofs.header.end_time.Reads as end-time-reads
-use Rattle.cues.proofs.header.input_count.Reads as input-count-reads
-use Rattle.house.proofs.play.play.Reads as play-reads
-use Rattle.house.proofs.run.accepted.Reads as accepted-reads
-use Rattle.house.proofs.run.is_roomy.Reads as is-roomy-reads
-use Rattle.house.proofs.run.refused.Reads as refused-reads
 
--- src/run.rt:61:9
-check-file-requires : tie.Need-check-file-requires
-check-file-requires c κs = search needs
+-- the file is accepted, so its header is as it must be
+read : (c : tie.After-enum-told) → let file = now (c .before .before .before .before .before .before .args .file) in readFile file ≡ cues (listIn file)
+read c = file-passed _ (sym (c .before .before .check-file .ensures) ∙ c .enum-told .given .1)
 
--- src/run.rt:63:26
-enum-known-checked : tie.Need-enum-known-checked
-enum-known-checked c = search needs
+header : (c : tie.After-enum-told) → GoodHeader (now (c .before .before .before .before .before .before .args .file))
+header c = good-file _ _ (read c) .start .header
 
--- src/run.rt:63:42
-refused-requires : tie.Need-refused-requires
-refused-requires c κs = search needs
-
--- src/run.rt:65:17
-enum-told : tie.Need-enum-told
-enum-told c = search needs
-
--- src/run.rt:65:17
-input-count-requires : tie.Need-input-count-requires
-input-count-requires c κs = ?
-
--- src/run.rt:66:16
 is-roomy-requires : tie.Need-is-roomy-requires
-is-roomy-requires c κs = ?
+is-roomy-requires c κs = omega (arith, c .input-count .ensures, header (c .before) .layout .few)
 
--- src/run.rt:67:40
-end-time-requires : tie.Need-end-time-requires
-end-time-requires c κs = ?
-
--- src/run.rt:67:26
 play-requires : tie.Need-play-requires
-play-requires c κs = ?
+play-requires c κs =
+    let room = enough-room _ _ _ (sym (c .before .before .before .before .is-roomy .ensures) ∙ c .before .before .before .if1 .taken) in
+    (record { accepted = read (c .before .before .before .before .before .before); inputs = c .before .before .before .before .before .input-count .ensures; ends = c .before .before .end-time .ensures }, room .0, room .1)
 
--- src/run.rt:67:17
-accepted-requires : tie.Need-accepted-requires
-accepted-requires c κs = search needs
-
--- src/run.rt:69:17
-refused-requires-2 : tie.Need-refused-requires-2
-refused-requires-2 c κs = search needs
-
--- src/run.rt:58:1
 returns : tie.Need-returns
-returns c = ?
+returns c = rw (c .refused .ensures) (run-refused _ _ _ _ _ (sym (c .before .before .before .before .check-file .ensures) ∙ c .before .before .checked .given .1))
 
--- src/run.rt:58:1
-same-length : tie.Need-same-length
-same-length c = search needs
-
--- src/run.rt:58:1
-same-length-2 : tie.Need-same-length-2
-same-length-2 c = search needs
-
--- src/run.rt:58:1
 returns-2 : tie.Need-returns-2
-returns-2 c = ?
+returns-2 c =
+    rw (c .accepted .ensures)
+    (run-accepted _ _ _ _ (c .before .before .before .before .before .before .before .before .before .before .before .input-count .ensures) (read (c .before .before .before .before .before .before .before .before .before .before .before .before)) (sym (c .before .before .before .before .before .before .before .before .before .before .is-roomy .ensures) ∙ c .before .before .before .before .before .before .before .before .before .if1 .taken) _ _ _ (c .before .before .before .before .before .play .ensures))
 
--- src/run.rt:58:1
 returns-3 : tie.Need-returns-3
-returns-3 c = ?
+returns-3 c =
+    rw (c .refused2 .ensures)
+    (run-short _ _ _ _ (c .before .before .before .input-count .ensures) (read (c .before .before .before .before)) (sym (c .before .before .is-roomy .ensures) ∙ c .before .if1 .left))
 
 pub run-spec : {M : Type 1} → statement M
 run-spec =
     tie.close
     (tie.spec
-    check-file-requires
-    enum-known-checked
-    refused-requires
-    enum-told
-    input-count-requires
+    (λ c κs. search needs)
+    (λ c. search needs)
+    (λ c κs. search needs)
+    (λ c. search needs)
+    (λ c κs. header c .long)
     is-roomy-requires
-    end-time-requires
+    (λ c κs. header (c .before .before .before) .long)
     play-requires
-    accepted-requires
-    refused-requires-2
+    (λ c κs. search needs)
+    (λ c κs. search needs)
     returns
-    same-length
-    same-length-2
+    (λ c. search needs)
+    (λ c. search needs)
     returns-2
     returns-3)
