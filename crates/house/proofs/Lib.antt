@@ -1,0 +1,4 @@
+pub mod Splices
+pub mod Turns
+pub mod Ends
+pub mod Runs

@@ -1,0 +1,59 @@
+-- The whole run, one law for each way out.
+use Prim.Native.Nat.{ℕ, _+_, _*_, _≤_}
+use mathlib.Core.Bool.{Bool, true, false, _&&_}
+use mathlib.Core.List.{List}
+use mathlib.Core.Path.{_≡_, refl}
+use native.Mathlib.Nat.{zero-add}
+use native.Mathlib.Omega.{arith}
+use lib.ListN.{length}
+use lib.Dec.{leb}
+use borrow.Author.Tests.{leb-true}
+use Rattle.rules.specs.declared.refusal.Refusal.{Refusal}
+use Rattle.rules.specs.declared.refusal.Refusal.the-variants.{ShortBuffer}
+use Rattle.rules.specs.declared.refusal.Check.the-variants.{Passed, Refused}
+use Rattle.rules.specs.Files.{Reading, cues, bad, inputCount, readFile, roomy, ifRoomy, readCall}
+use Rattle.rules.specs.Runs.{playFile, accepted, refused, runBy, runCall}
+use Rattle.rules.proofs.Tests.{both}
+use Rattle.cues.specs.Verdict.{verdict}
+use Rattle.house.specs.declared.play.Ended.{Ended}
+use Rattle.house.specs.Playing.{found, listIn, Filled}
+use Rattle.house.specs.Reports.{refusal, report, whole}
+use Rattle.house.proofs.Splices.{splice-front}
+
+-- what the check of a file has found
+bad-read : (x : Reading) (why : Refusal) (place : ℕ) → verdict x ≡ Refused why place → x ≡ bad why place
+bad-read (cues list) why place e = cc
+bad-read (bad reason at) why place e = cc
+
+good-read : (x : Reading) → verdict x ≡ Passed → x ≡ cues (found x)
+good-read (cues list) e = refl
+good-read (bad reason at) e = cc
+
+pub file-passed : (file : List ℕ) → verdict (readFile file) ≡ Passed → readFile file ≡ cues (listIn file)
+unfolding listIn
+file-passed file e = good-read (readFile file) e
+
+-- the file's own refusal comes first
+bad-anyway : (b : Bool) (why : Refusal) (place : ℕ) → ifRoomy b (bad why place) ≡ bad why place
+bad-anyway true why place = refl
+bad-anyway false why place = refl
+
+-- the room that the buffers are tested for
+pub enough-room : (n r a : ℕ) → (leb (8 * (3 * n + 3)) r && leb n a) ≡ true → (24 * n + 24 ≤ r) × (n ≤ a)
+enough-room n r a e = let t = both (leb (8 * (3 * n + 3)) r) (leb n a) e in (omega (arith, leb-true (8 * (3 * n + 3)) r (t .0)), leb-true n a (t .1))
+
+module _ (file r a : List ℕ) where
+  pub run-refused : (why : Refusal) (place : ℕ) → verdict (readFile file) ≡ Refused why place → whole (refusal why place) r a ≡ runCall file r a
+  unfolding runCall readCall runBy refused refusal
+  run-refused why place e = rw (bad-read (readFile file) why place e, bad-anyway (roomy file r a) why place)
+
+  pub run-short : (n : ℕ) → n ≡ inputCount file → readFile file ≡ cues (listIn file) → (leb (8 * (3 * n + 3)) (length r) && leb n (length a)) ≡ false
+      → whole (refusal ShortBuffer 0) r a ≡ runCall file r a
+  unfolding runCall readCall roomy runBy refused refusal
+  run-short n same read short = rw (read, ← same, short)
+
+  pub run-accepted : (n : ℕ) → n ≡ inputCount file → readFile file ≡ cues (listIn file) → (leb (8 * (3 * n + 3)) (length r) && leb n (length a)) ≡ true
+      → (e : Ended) (r₁ a₁ : List ℕ) → Filled 0 (playFile file (listIn file)) r a e r₁ a₁ → whole (report e) r₁ a₁ ≡ runCall file r a
+  unfolding runCall readCall roomy runBy accepted report
+  run-accepted n same read room e r₁ a₁ f =
+      rw (read, ← same, room) (rw (f .state, f .count, f .records, f .answers, splice-front r, splice-front a, zero-add) refl)
