@@ -82,12 +82,12 @@ fn run_timers(s: State, t: u32) -> Clocked
 }
 
 // Only the clock moves: no timer is due.
-fn let_pass(s: State, t: u32) -> Clocked
+fn let_pass(mut s: State, t: u32) -> Clocked
     ensures { λ r. ⌜ r ≡ clocked (passed s t) ⌝ }
 {
-    let ph = s.phase;
+    s.clock = t;
     Clocked {
-        state: at_moment(s, t, ph),
+        state: s,
         notes: notes::none(),
     }
 }

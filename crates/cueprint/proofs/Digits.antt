@@ -7,7 +7,7 @@ use lib.Dec.{lit<}
 use Rattle.io.specs.Digits.{Fewest}
 
 pub at-most-twenty : (x k : ℕ) → x < 18446744073709551616 → Fewest 10 1 x k → k ≤ 20
-at-most-twenty x k small few = elim (le-or-lt k 20) [ | inl u ↦ u | inr u ↦ absurd (no u) ]
+at-most-twenty x k small few = elim (le-or-lt k 20) [ inl u ↦ u | inr u ↦ absurd (no u) ]
   where
     no : 20 < k → ⊥
     no u =

@@ -1,21 +1,17 @@
-use Rattle.actuator.specs.Notes.{clocked, passed, noNotes}
+use Rattle.actuator.specs.Notes.{clocked, noNotes, passed}
 use borrow.Author.Needs.{needs}
 use Rattle.actuator.proofs.clock.let_pass.Statement.{statement}
 use Rattle.actuator.proofs.clock.let_pass.Tie as tie
 use Rattle.actuator.proofs.clock.let_pass.Reads as reads
 use Rattle.actuator.proofs.clock.let_pass.Lts as lts
-use Rattle.actuator.proofs.clock.at_moment.Reads as at-moment-reads
 use Rattle.actuator.proofs.notes.none.Reads as none-reads
-
-at-moment-requires : tie.Need-at-moment-requires
-at-moment-requires c κs = search needs
 
 none-requires : tie.Need-none-requires
 none-requires c κs = search needs
 
 returns : tie.Need-returns
 unfolding clocked passed noNotes
-returns c = simp (c .none .ensures, c .before .at-moment .ensures)
+returns c = simp (c .none .ensures)
 
 pub let-pass-spec : {M : Type 1} → statement M
-let-pass-spec = tie.close (tie.spec at-moment-requires none-requires returns)
+let-pass-spec = tie.close (tie.spec none-requires returns)
