@@ -1,5 +1,6 @@
 // Reads a cue file on standard input and prints what its run does, or the refusal's number and place.
 mod line;
+
 ghost use Prim.Native.Nat.{_+_, _*_, _≤_};
 ghost use lib.ListN.{length};
 ghost use mathlib.Core.Path.{_≡_};
