@@ -1,5 +1,5 @@
 use mathlib.Core.Path.{sym, _∙_}
-use Rattle.cueprint.proofs.Passed.{passed-is-whole}
+use Rattle.cues.proofs.Passed.{passed-is-good}
 use borrow.Author.Needs.{needs}
 use Rattle.cueprint.proofs.print_file.Statement.{statement}
 use Rattle.cueprint.proofs.print_file.Tie as tie
@@ -20,7 +20,10 @@ enum-told c = search needs
 
 -- src/main.rt:133:26
 play-file-requires : tie.Need-play-file-requires
-play-file-requires c κs = passed-is-whole _ (sym (c .before .before .check-file .ensures) ∙ c .enum-told .given .1)
+play-file-requires c κs =
+    let good = passed-is-good _ (sym (c .before .before .check-file .ensures) ∙ c .enum-told .given .1) in
+    let layout = good .start .header .layout in
+    (layout .few, layout .whole)
 
 -- src/main.rt:134:26
 enum-known-check : tie.Need-enum-known-check
