@@ -26,7 +26,7 @@ letter-requires c κs = search needs
 
 -- src/line.rt:44:5
 loop-holds : tie.Need-loop-holds Inv-loop μ-loop
-loop-holds c = (omega arith, at-most-twenty _ _ (search needs) (c .before .decimal .ensures .1), omega arith)
+loop-holds c = (omega arith, at-most-twenty (c .before .before .before .args .x) _ (search needs) (c .before .decimal .ensures .1 .0), omega arith)
 
 -- src/line.rt:45:30
 array-read-letter : tie.Need-array-read-letter Inv-loop μ-loop
