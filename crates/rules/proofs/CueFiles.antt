@@ -1,13 +1,13 @@
 -- What a cue file is refused for, exactly; and what an accepted one says.
-use Prim.Native.Nat.{ℕ, zero, suc, _+_, _-_, _*_, _≤_, _<_}
-use mathlib.Core.Bool.{Bool, true, false, cond, _&&_, and-false}
+use Prim.Native.Nat.{ℕ, zero, suc, _+_, _*_, _≤_, _<_}
+use mathlib.Core.Bool.{Bool, true, false, _&&_, and-false}
 use mathlib.Core.List.{List, [], _∷_}
-use mathlib.Core.Logic.{_↔_, _⊎_, inl, inr, ⊎-elim}
+use mathlib.Core.Logic.{_↔_, _⊎_, inl, inr}
 use mathlib.Core.Path.{_≡_, refl, sym, _∙_, ap}
 use native.Mathlib.Nat.{eq-or-lt-of-le}
 use native.Mathlib.Numerals.{add-one}
 use native.Mathlib.Omega.{arith}
-use lib.ListN.{length, take, drop, length-take, length-drop}
+use lib.ListN.{length, drop, length-take, length-drop}
 use lib.Dec.{eqb, leb}
 use borrow.Author.Count.{below-none, below-more}
 use borrow.Author.Tests.{leb-true, leb-false, eqb-true, eqb-false, le-leb, lt-leb, eq-eqb, ne-eqb}
@@ -99,6 +99,7 @@ pub record GoodFile (file : List ℕ) : Type 0 where
 
 -- ---- the tests of the header
 
+-- the test of the layout holds exactly when the layout is good
 pub layout-true : (file : List ℕ) → layoutRight file ≡ true → GoodLayout file
 unfolding layoutRight
 layout-true file h =
@@ -125,6 +126,7 @@ layout-good file g =
       eq-eqb (length file) (52 + 8 * inputCount file) (g .whole),
     )
 
+-- and fails exactly when it is not
 pub layout-false : (file : List ℕ) → (GoodLayout file → ⊥) → layoutRight file ≡ false
 layout-false file other = by (layoutRight file) refl
   where
@@ -165,10 +167,12 @@ abbrev Given : List ℕ → Reading → Type 0
 Given file (cues list) = GoodFile file
 Given file (bad why place) = GivenWhen file why place
 
+-- a cue put before a reading changes nothing of that
 before-given : (file : List ℕ) (c : Cue) (later : Reading) → Given file later → Given file (before c later)
 before-given file c (cues list) g = g
 before-given file c (bad why place) g = g
 
+-- a stamp that fails one of two tests is below or above
 out-of-range : (low stamp high : ℕ) → (leb low stamp && leb stamp high) ≡ false → (stamp < low) ⊎ (high < stamp)
 out-of-range low stamp high h = by (leb low stamp) refl h
   where
@@ -195,6 +199,7 @@ one-given file start i within good later next = by (inputAt file (inputPlace i))
 next-stamp : (file : List ℕ) (i : ℕ) → stampBefore file (i + 1) ≡ stampAt file (inputPlace i)
 next-stamp file i = rw (add-one i)
 
+-- from an input on, when those before it are good: one turn refuses, or hands on to the next
 inputs-given : (file : List ℕ) → GoodStart file → (left i : ℕ) → i + left ≡ inputCount file → ((j : ℕ) → j < i → GoodInput file j) → Given file (readInputs file left i (stampBefore file i) (endTime file))
 unfolding readInputs
 inputs-given file start zero i all good = record { start = start; good = λ j within. good j (omega arith) }
@@ -207,6 +212,7 @@ parameters-whole : (file : List ℕ) → 52 ≤ length file → length (paramete
 unfolding parametersIn
 parameters-whole file long = length-take 32 (drop 20 file) ∙ omega (arith, length-drop 20 file)
 
+-- the tests of the header in their order, then the parameters, then the inputs
 read-given : (file : List ℕ) → Given file (readFile file)
 unfolding readFile
 read-given file =
@@ -253,6 +259,7 @@ first-ends file why place (suc left) i reached within good ends =
       | inr less ↦ one-read file i (good i less) _ ∙ rw (rw (next-stamp file i) at (first-ends file why place left (i + 1) (omega arith) (omega arith) good ends))
     ]
 
+-- an input that means nothing ends it, whatever its stamp is
 wrong-ends : (file : List ℕ) (i : ℕ) (later : Reading) → inputAt file (inputPlace i) ≡ Wrong →
     readOne (inputAt file (inputPlace i)) (stampAt file (inputPlace i)) (stampBefore file i) (endTime file) i later ≡ bad BadInput i
 unfolding readOne
@@ -262,6 +269,7 @@ not-in-range : (low stamp high : ℕ) → (stamp < low) ⊎ (high < stamp) → (
 not-in-range low stamp high (inl below) = simp (lt-leb low stamp below)
 not-in-range low stamp high (inr above) = simp (lt-leb stamp high above, and-false)
 
+-- an input that means something is ended by its stamp alone
 untimely-ends : (file : List ℕ) (i : ℕ) (later : Reading) (x : Input) → inputAt file (inputPlace i) ≡ Meant x → (stampAt file (inputPlace i) < stampBefore file i) ⊎ (endTime file < stampAt file (inputPlace i)) →
     readOne (inputAt file (inputPlace i)) (stampAt file (inputPlace i)) (stampBefore file i) (endTime file) i later ≡ bad BadStamp i
 unfolding readOne
@@ -313,6 +321,7 @@ says-more file i left list g s = record { count = ap suc (s .count); each = by }
         let later = s .each k (omega arith) in
         rw e (record { input = later .input; means = later .means; listed = later .listed })
 
+-- from an input on, good ones are all read
 all-read : (file : List ℕ) → GoodFile file → (left i : ℕ) → i + left ≡ inputCount file → (list : List Cue) × (readInputs file left i (stampBefore file i) (endTime file) ≡ cues list) × SaysFrom file i left list
 unfolding readInputs
 all-read file g zero i all = ([], refl, record { count = refl; each = λ k within. absurd (omega arith) })
