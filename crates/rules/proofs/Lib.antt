@@ -22,3 +22,6 @@ pub mod Accepted
 pub mod CueFiles
 pub mod Calls
 pub mod Unique
+pub mod Readings
+pub mod RunLaws
+pub mod Joined
