@@ -146,9 +146,9 @@ joins file (suc left) i s list timely safe early read =
     let rest = joins file left (i + 1) (d .state) (f .later) timely safely (rw clock (f .timely)) (rw clock (f .reads)) in
     let same : singlePlayed (singleCall s (inputIn file i)) ≡ stepped d = ap singlePlayed call ∙ step-played s (f .input) t in (
       ap (λ l. playsTo (endTime file) l s) (f .starts)
-      ∙ plays-to-next (endTime file) t (f .input) (f .later) s
-      ∙ andThen-from (stepped d) (playsTo (endTime file) (f .later)) (calls (endTime file) (inputsIn file left (i + 1))) (rest .0)
-      ∙ sym (ap (λ a. andThen a (calls (endTime file) (inputsIn file left (i + 1)))) same),
+          ∙ plays-to-next (endTime file) t (f .input) (f .later) s
+          ∙ andThen-from (stepped d) (playsTo (endTime file) (f .later)) (calls (endTime file) (inputsIn file left (i + 1))) (rest .0)
+          ∙ sym (ap (λ a. andThen a (calls (endTime file) (inputsIn file left (i + 1)))) same),
       (rw call, rw call (rest .1)),
     )
 
