@@ -118,11 +118,9 @@ if choose_way; then
         done_or_not "the comparison is built" rust compare
     fi
     done_or_not "the printout's comparison is built" rust prints
-    done_or_not "the second model's own tests are built" rust model_tests --test
     counted "the run against the second model" "${run[@]}" "$out/compare" "${kit_run[@]}" "$out/bridge"
     counted "the printout against the second model" "${run[@]}" "$out/prints" "${kit_run[@]}" target/bin/cueprint
-    done_or_not "the second model's own tests" "${run[@]}" "$out/model_tests" --quiet
-    counted "the by-value calls against the second model" bash tests/paces.sh
+    counted "the by-value calls against the second model, and that model's own tests" bash tests/paces.sh
 else
     failed=$((failed + 1))
 fi
