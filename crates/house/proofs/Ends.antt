@@ -1,14 +1,10 @@
 -- The start and the end of a run: what is read of an accepted file, and the whole that the start record, the inputs and the move to the
 -- end time come to.
 use Prim.Native.Nat.{ℕ, _+_, _*_, _≤_, _<_}
-use mathlib.Core.Bool.{Bool, true, false}
 use mathlib.Core.List.{List, [], _∷_, _++_, append-nil}
 use mathlib.Core.Path.{_≡_, refl, sym, ap, _∙_}
 use native.Mathlib.Omega.{arith}
-use lib.ListN.{length, getD, take, drop, length-append, length-take, List·getD-eq-default}
-use lib.Dec.{leb}
-use borrow.Author.Tests.{leb-true, leb-false}
-use lib.Seq.{getD-take, getD-drop}
+use lib.ListN.{length, getD, take, length-append}
 use Rattle.rules.specs.declared.state.State.{State}
 use Rattle.rules.specs.declared.record.Record.{Record}
 use Rattle.rules.specs.Steps.{Moved, fresh, clockMove}
@@ -18,27 +14,19 @@ use Rattle.rules.specs.Lists.{Played, plays, playsTo, playList}
 use Rattle.rules.specs.Files.{endTime, parametersIn}
 use Rattle.rules.specs.Runs.{recordOctets, recordsOctets, playFile}
 use Rattle.rules.proofs.Accepted.{passed-is-sound}
-use Rattle.rules.proofs.Records.{a-move-writes-at-most-two}
+use Rattle.rules.proofs.Records.{a-move-writes-at-most-two, used-places}
 use Rattle.rules.proofs.CueFiles.{good-file, good-start}
+use Rattle.rules.proofs.Joined.{parameters-small}
 use Rattle.actuator.specs.declared.clock.Clocked.{Clocked}
 use Rattle.actuator.specs.Notes.{notes, clocked}
 use Rattle.house.specs.declared.play.Ended.{Ended}
 use Rattle.house.specs.Splice.{splice}
 use Rattle.house.specs.Playing.{listIn, freshIn, Fit, Ready, Filled}
-use Rattle.house.proofs.Splices.{records-one, records-more, used-places}
+use Rattle.house.proofs.Splices.{records-one, records-more}
 
 -- ---- an accepted file
 
--- an octet of the parameters is one of the file
-parameters-small : (file : List ℕ) → ((i : ℕ) → getD file i 0 < 256) → (i : ℕ) → getD (parametersIn file) i 0 < 256
-unfolding parametersIn
-parameters-small file small i = by (leb 32 i) refl
-  where
-    by : (b : Bool) → leb 32 i ≡ b → getD (take 32 (drop 20 file)) i 0 < 256
-    by true past = rw (List·getD-eq-default (take 32 (drop 20 file)) 0 {n = i} (omega (arith, length-take 32 (drop 20 file), leb-true 32 i past))) (omega arith)
-    by false within = rw (getD-take 32 (drop 20 file) i 0 (leb-false 32 i within), getD-drop 20 file i 0) (small (20 + i))
-
--- so its own parameters start a sound state, and its inputs can be played from there on
+-- its own parameters start a sound state, and its inputs can be played from there on
 pub fit-ready : (file : List ℕ) (n end : ℕ) → Fit file n end → ((i : ℕ) → getD file i 0 < 256) → Ready file n (freshIn file)
 unfolding freshIn fresh
 fit-ready file n end fit small =
@@ -57,7 +45,7 @@ fit-ready file n end fit small =
 -- the used records of a clock move, by value, are its records
 pub move-records : (s : State) (t : ℕ) (m : Clocked) → m ≡ clocked (clockMove s t) → (m .notes .count ≡ length (clockMove s t .records)) × (take (m .notes .count) (m .notes .records) ≡ clockMove s t .records)
 unfolding clocked notes
-move-records s t m e = rw e (refl, used-places (clockMove s t .records) (omega (arith, a-move-writes-at-most-two s t)))
+move-records s t m e = rw e (refl, used-places 3 (clockMove s t .records) (omega (arith, a-move-writes-at-most-two s t)))
 
 pub move-few : (s : State) (t : ℕ) (m : Clocked) → m ≡ clocked (clockMove s t) → m .notes .count ≤ 2
 move-few s t m e = rw (move-records s t m e .0) (a-move-writes-at-most-two s t)

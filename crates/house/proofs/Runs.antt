@@ -1,8 +1,8 @@
 -- The whole run, one law for each way out.
 use Prim.Native.Nat.{ℕ, _+_, _*_, _≤_}
-use mathlib.Core.Bool.{Bool, true, false, _&&_}
+use mathlib.Core.Bool.{true, false, _&&_}
 use mathlib.Core.List.{List}
-use mathlib.Core.Path.{_≡_, refl}
+use mathlib.Core.Path.{_≡_, refl, sym}
 use native.Mathlib.Nat.{zero-add}
 use native.Mathlib.Omega.{arith}
 use lib.ListN.{length}
@@ -11,9 +11,10 @@ use borrow.Author.Tests.{leb-true}
 use Rattle.rules.specs.declared.refusal.Refusal.{Refusal}
 use Rattle.rules.specs.declared.refusal.Refusal.the-variants.{ShortBuffer}
 use Rattle.rules.specs.declared.refusal.Check.the-variants.{Passed, Refused}
-use Rattle.rules.specs.Files.{Reading, cues, bad, inputCount, readFile, roomy, ifRoomy, readCall}
-use Rattle.rules.specs.Runs.{playFile, accepted, refused, runBy, runCall}
+use Rattle.rules.specs.Files.{Reading, cues, bad, inputCount, readFile, roomy}
+use Rattle.rules.specs.Runs.{playFile, accepted, refused, runCall}
 use Rattle.rules.proofs.Tests.{both}
+use Rattle.rules.proofs.RunLaws.{a-bad-file-is-refused, a-short-buffer-is-refused, a-good-file-is-played}
 use Rattle.cues.specs.Verdict.{verdict}
 use Rattle.house.specs.declared.play.Ended.{Ended}
 use Rattle.house.specs.Playing.{found, listIn, Filled}
@@ -33,27 +34,23 @@ pub file-passed : (file : List ℕ) → verdict (readFile file) ≡ Passed → r
 unfolding listIn
 file-passed file e = good-read (readFile file) e
 
--- the file's own refusal comes first
-bad-anyway : (b : Bool) (why : Refusal) (place : ℕ) → ifRoomy b (bad why place) ≡ bad why place
-bad-anyway true why place = refl
-bad-anyway false why place = refl
-
 -- the room that the buffers are tested for
 pub enough-room : (n r a : ℕ) → (leb (8 * (3 * n + 3)) r && leb n a) ≡ true → (24 * n + 24 ≤ r) × (n ≤ a)
 enough-room n r a e = let t = both (leb (8 * (3 * n + 3)) r) (leb n a) e in (omega (arith, leb-true (8 * (3 * n + 3)) r (t .0)), leb-true n a (t .1))
 
 module _ (file r a : List ℕ) where
   pub run-refused : (why : Refusal) (place : ℕ) → verdict (readFile file) ≡ Refused why place → whole (refusal why place) r a ≡ runCall file r a
-  unfolding runCall readCall runBy refused refusal
-  run-refused why place e = rw (bad-read (readFile file) why place e, bad-anyway (roomy file r a) why place)
+  unfolding refused refusal
+  run-refused why place e = sym (a-bad-file-is-refused file r a why place (bad-read (readFile file) why place e))
 
   pub run-short : (n : ℕ) → n ≡ inputCount file → readFile file ≡ cues (listIn file) → (leb (8 * (3 * n + 3)) (length r) && leb n (length a)) ≡ false
       → whole (refusal ShortBuffer 0) r a ≡ runCall file r a
-  unfolding runCall readCall roomy runBy refused refusal
-  run-short n same read short = rw (read, ← same, short)
+  unfolding roomy refused refusal
+  run-short n same read short = sym (a-short-buffer-is-refused file r a (listIn file) read (rw (← same) short))
 
   pub run-accepted : (n : ℕ) → n ≡ inputCount file → readFile file ≡ cues (listIn file) → (leb (8 * (3 * n + 3)) (length r) && leb n (length a)) ≡ true
       → (e : Ended) (r₁ a₁ : List ℕ) → Filled 0 (playFile file (listIn file)) r a e r₁ a₁ → whole (report e) r₁ a₁ ≡ runCall file r a
-  unfolding runCall readCall roomy runBy accepted report
+  unfolding roomy accepted report
   run-accepted n same read room e r₁ a₁ f =
-      rw (read, ← same, room) (rw (f .state, f .count, f .records, f .answers, splice-front r, splice-front a, zero-add) refl)
+      rw (f .state, f .count, f .records, f .answers, splice-front r, splice-front a, zero-add)
+      (sym (a-good-file-is-played file r a (listIn file) read (rw (← same) room)))

@@ -9,7 +9,7 @@ use lib.ListN.{length, take, drop, getD, set, length-append, take-append-drop}
 use lib.Seq.{take-suc, take-at, drop-at, drop-drop, length-take-le, set-at, drop-cons, append-snoc}
 use Rattle.rules.specs.declared.record.Record.{Record}
 use Rattle.rules.specs.Runs.{recordOctets, recordsOctets, over}
-use Rattle.rules.specs.Calls.{places}
+use Rattle.rules.proofs.RunLaws.{records-length}
 use Rattle.house.specs.Splice.{splice}
 
 -- ---- any octets
@@ -48,10 +48,6 @@ octet-more b c i x xs p e h = set-splice c i x h ∙ rw p (splice-splice b 0 i x
 
 -- ---- records
 
-record-length : (r : Record) → length (recordOctets r) ≡ 8
-unfolding recordOctets
-record-length r = refl
-
 records-append : (k l : List Record) → recordsOctets (k ++ l) ≡ recordsOctets k ++ recordsOctets l
 unfolding recordsOctets
 records-append [] l = refl
@@ -60,11 +56,6 @@ records-append (r ∷ k) l = rw (append-assoc, records-append k l)
 pub records-one : (r : Record) → recordsOctets (r ∷ []) ≡ recordOctets r
 unfolding recordsOctets
 records-one r = append-nil (recordOctets r)
-
-records-length : (k : List Record) → length (recordsOctets k) ≡ 8 * length k
-unfolding recordsOctets
-records-length [] = refl
-records-length (r ∷ k) = simp (length-append, record-length, records-length k) (omega arith)
 
 pub records-none : (b : List ℕ) (at : ℕ) → b ≡ splice b at (recordsOctets [])
 unfolding recordsOctets
@@ -84,12 +75,3 @@ next-record b c at j row z h l p =
     let m : length (take j row) ≡ j = length-take-le j row (omega arith) in
     rw (add-one, take-suc row j z, ← records-one (getD row j z))
     (records-more b c at (at + 8 * j) (take j row) (getD row j z ∷ []) h (rw m) p)
-
--- the used ones of three places
-pub used-places : (l : List Record) → length l ≤ 3 → take (length l) (places 3 l) ≡ l
-unfolding places
-used-places [] h = refl
-used-places (a ∷ []) h = refl
-used-places (a ∷ b ∷ []) h = refl
-used-places (a ∷ b ∷ c ∷ []) h = refl
-used-places (a ∷ b ∷ c ∷ d ∷ l) h = absurd (omega arith)

@@ -18,25 +18,25 @@ use Rattle.rules.specs.Runs.{recordsOctets}
 use Rattle.rules.proofs.Readings.{First, first-read}
 use Rattle.rules.proofs.Inputs.{input-number}
 use Rattle.rules.proofs.Soundness.{step-is-sound, step-clock}
-use Rattle.rules.proofs.Records.{an-input-writes-at-most-three}
+use Rattle.rules.proofs.Records.{an-input-writes-at-most-three, used-places}
 use Rattle.rules.proofs.Plays.{andThen-assoc}
 use Rattle.actuator.specs.declared.step.Acted.{Acted}
 use Rattle.actuator.specs.Notes.{notes, acted}
 use Rattle.house.specs.Splice.{splice}
 use Rattle.house.specs.Playing.{found, listIn, stepMeant, stepAt, Ready, Filled}
-use Rattle.house.proofs.Splices.{splice-none, octet-more, records-none, records-more, used-places}
+use Rattle.house.proofs.Splices.{splice-none, octet-more, records-none, records-more}
 
 -- ---- one input
 
 -- an input that is read without fault is not wrong, so the code plays it
-pub first-steps : {left last end : ℕ} {list : List Cue} (file : List ℕ) (i : ℕ) (s : State) (f : First file left i last end list) → stepAt file (inputPlace i) s ≡ step s (f .input) (stampAt file (inputPlace i))
+first-steps : {left last end : ℕ} {list : List Cue} (file : List ℕ) (i : ℕ) (s : State) (f : First file left i last end list) → stepAt file (inputPlace i) s ≡ step s (f .input) (stampAt file (inputPlace i))
 unfolding stepAt stepMeant
 first-steps file i s f = rw (f .meant)
 
 -- the code's step gives that input's state, answer and records, by value
-pub first-acted : (s : State) (i : Input) (t : ℕ) (d : Acted) → d ≡ acted (step s i t) → (d .notes .count ≡ length (step s i t .records)) × (take (d .notes .count) (d .notes .records) ≡ step s i t .records)
+first-acted : (s : State) (i : Input) (t : ℕ) (d : Acted) → d ≡ acted (step s i t) → (d .notes .count ≡ length (step s i t .records)) × (take (d .notes .count) (d .notes .records) ≡ step s i t .records)
 unfolding acted notes
-first-acted s i t d e = rw e (refl, used-places (step s i t .records) (an-input-writes-at-most-three s i t))
+first-acted s i t d e = rw e (refl, used-places 3 (step s i t .records) (an-input-writes-at-most-three s i t))
 
 -- the first cue is played before the others
 one-played : (done : Played) (list later : List Cue) (t : ℕ) (i : Input) → list ≡ cue t i ∷ later → andThen done (plays list) ≡ andThen (andThen done (λ u. stepped (step u i t))) (plays later)
@@ -45,7 +45,7 @@ one-played done list later t i e = rw e (sym (andThen-assoc done (λ u. stepped 
 
 -- ---- after the first i inputs
 
--- what was said and written has led to this state and stands in the buffers, and what is left can be read
+-- the answers said and the records written stand in the buffers and have led to this state, and the cues that are left can be read
 pub record Going (file : List ℕ) (n : ℕ) (start : State) (records₀ answers₀ records₁ answers₁ : List ℕ) (s : State) (k i : ℕ) : Type 0 where
   pub upto : i ≤ n
   pub said : List ℕ
@@ -88,7 +88,7 @@ module _ (file : List ℕ) (n : ℕ) (start : State) (r₀ a₀ : List ℕ) (rea
     turn h = let left : n - i ≡ suc (n - (i + 1)) = omega arith in first-read file _ i _ _ _ (rw left at (g .reads))
 
     -- it is played: its records come after those that were written, its answer after those that were given
-    pub going-step : (h : i < n) → let d = step s (turn h .input) (stampAt file (inputPlace i)) in 8 ≤ length r₀ → n ≤ length a₀
+    going-step : (h : i < n) → let d = step s (turn h .input) (stampAt file (inputPlace i)) in 8 ≤ length r₀ → n ≤ length a₀
         → (r₁ : List ℕ) → r₁ ≡ splice r (8 * k) (recordsOctets (d .records)) → length r₁ ≡ length r
         → Going file n start r₀ a₀ r₁ (set a i (d .answer)) (d .state) (k + length (d .records)) (i + 1)
     going-step h some enough r₁ p l =
@@ -124,7 +124,7 @@ module _ (file : List ℕ) (n : ℕ) (start : State) (r₀ a₀ : List ℕ) (rea
         let b = first-acted s (f .input) t d same in
         rw (b .0, same) (going-step h some enough r₁ (p ∙ rw (b .1)) l)
 
-    -- what the code's step needs, and how much it writes
+    -- it writes at most three records, so there is room for them
     pub turn-few : (h : i < n) (d : Acted) → d ≡ acted (stepAt file (inputPlace i) s) → d .notes .count ≤ 3
     turn-few h d e =
         let f = turn h in

@@ -29,7 +29,7 @@ listIn file = found (readFile file)
 unfoldable pub freshIn : List ℕ → State
 freshIn file = fresh (paramsOf (parametersIn file)) (scenesOf (parametersIn file))
 
--- a wrong input does nothing; a checked file has none (proofs/Turns.antt)
+-- a wrong input does nothing; a checked file has none (first-steps in proofs/Turns.antt)
 unfoldable pub stepMeant : State → ℕ → Decoded → Stepped
 stepMeant s stamp (Meant i) = step s i stamp
 stepMeant s stamp Wrong = record { state = s; answer = 0; records = [] }

@@ -1,17 +1,17 @@
 -- The run is the public calls by value, joined in order: the fresh state of the file's parameters, a start record, a single input for each
 -- eight octets, and a clock move to the end time.
 use Prim.Native.Nat.{ℕ, zero, suc, _+_, _≤_, _<_}
-use mathlib.Core.Bool.{true}
+use mathlib.Core.Bool.{Bool, true, false}
 use mathlib.Core.List.{List, [], _∷_}
 use mathlib.Core.Path.{_≡_, refl, sym, ap, _∙_}
 use native.Mathlib.Omega.{arith}
-use lib.ListN.{length, take, drop}
+use lib.ListN.{take, drop, length-take, List·getD-eq-default}
+use lib.Dec.{leb}
 use lib.Seq.{getD-take, getD-drop}
-use borrow.Author.Tests.{le-leb}
+use borrow.Author.Tests.{le-leb, leb-true, leb-false}
 use Rattle.octets.specs.BigEndian.{octet}
 use Rattle.rules.specs.declared.input.Input.{Input}
 use Rattle.rules.specs.declared.state.State.{State}
-use Rattle.rules.specs.declared.record.Record.{Record}
 use Rattle.rules.specs.declared.refusal.Check.the-variants.{Passed}
 use Rattle.rules.specs.declared.call.Fresh.{Fresh}
 use Rattle.rules.specs.declared.call.Single.{Single}
@@ -24,12 +24,12 @@ use Rattle.rules.specs.Steps.{fresh, clockMove, step}
 use Rattle.rules.specs.Soundness.{sound}
 use Rattle.rules.specs.Lists.{Cue, cue, Played, andThen, moved, stepped, plays, playsTo, playList}
 use Rattle.rules.specs.Refusals.{checkParameters, stampInRange}
-use Rattle.rules.specs.Calls.{freshBy, freshCall, places, singleDone, singleCall, moveDone, moveCall}
+use Rattle.rules.specs.Calls.{freshBy, freshCall, singleDone, singleCall, moveDone, moveCall}
 use Rattle.rules.specs.Files.{cues, inputCount, endTime, inputPlace, parametersIn, readInputs, readFile, roomy}
 use Rattle.rules.specs.Runs.{playFile, accepted, runCall}
 use Rattle.rules.proofs.Inputs.{input-number}
 use Rattle.rules.proofs.Soundness.{step-is-sound, step-clock}
-use Rattle.rules.proofs.Records.{a-move-writes-at-most-two, an-input-writes-at-most-three}
+use Rattle.rules.proofs.Records.{a-move-writes-at-most-two, an-input-writes-at-most-three, used-places}
 use Rattle.rules.proofs.Plays.{andThen-assoc, andThen-from}
 use Rattle.rules.proofs.Accepted.{passed-is-sound}
 use Rattle.rules.proofs.Calls.{good-is-played}
@@ -75,13 +75,6 @@ callsOf file =
     (calls (endTime file) (inputsIn file (inputCount file) 0))
 
 -- ---- one call
-
-used-places : (n : ℕ) (l : List Record) → length l ≤ n → take (length l) (places n l) ≡ l
-unfolding places
-used-places zero [] h = refl
-used-places zero (r ∷ l) h = absurd (omega arith)
-used-places (suc n) [] h = refl
-used-places (suc n) (r ∷ l) h = rw (used-places n l (omega arith))
 
 -- the eight octets say what the file says at their place
 input-octet : (file : List ℕ) (i j : ℕ) → j < 8 → octet (inputIn file i) j ≡ octet file (inputPlace i + j)
@@ -167,14 +160,23 @@ pub record Joined (file : List ℕ) (list : List Cue) : Type 0 where
   pub accepted : NoneRefused (endTime file) (inputsIn file (inputCount file) 0) (startOf file)
   pub joined : playFile file list ≡ callsOf file
 
--- every octet is below 256
-pub file-is-the-calls-joined : (file : List ℕ) (list : List Cue) → ((i : ℕ) → octet (parametersIn file) i < 256) → readFile file ≡ cues list → Joined file list
+-- an octet of the parameters is one of the file
+pub parameters-small : (file : List ℕ) → ((i : ℕ) → octet file i < 256) → (i : ℕ) → octet (parametersIn file) i < 256
+unfolding parametersIn
+parameters-small file small i = by (leb 32 i) refl
+  where
+    by : (b : Bool) → leb 32 i ≡ b → octet (take 32 (drop 20 file)) i < 256
+    by true past = rw (List·getD-eq-default (take 32 (drop 20 file)) 0 {n = i} (omega (arith, length-take 32 (drop 20 file), leb-true 32 i past))) (omega arith)
+    by false within = rw (getD-take 32 (drop 20 file) i 0 (leb-false 32 i within), getD-drop 20 file i 0) (small (20 + i))
+
+-- for any file of octets, which are below 256
+pub file-is-the-calls-joined : (file : List ℕ) (list : List Cue) → ((i : ℕ) → octet file i < 256) → readFile file ≡ cues list → Joined file list
 unfolding callsOf playFile playList
 file-is-the-calls-joined file list small read =
     let start = good-file file list read .start in
     let s : State = fresh (paramsOf (parametersIn file)) (scenesOf (parametersIn file)) in
     let first = start-is-fresh file (start .passed) in
-    let safe = passed-is-sound (parametersIn file) small (start .passed) in
+    let safe = passed-is-sound (parametersIn file) (parameters-small file small) (start .passed) in
     let all = joins file (inputCount file) 0 s list (start .header .layout .end) safe (unfold fresh in omega arith) (unfold fresh in sym (good-start file start) ∙ read) in
     record {
       fresh = rw (fresh-played (parametersIn file) (start .passed));
@@ -183,7 +185,7 @@ file-is-the-calls-joined file list small read =
     }
 
 -- the accepted run, whole: report and both buffers are those of the calls
-pub run-is-the-calls-joined : (file records answers : List ℕ) (list : List Cue) → ((i : ℕ) → octet (parametersIn file) i < 256) → readFile file ≡ cues list → roomy file records answers ≡ true →
+pub run-is-the-calls-joined : (file records answers : List ℕ) (list : List Cue) → ((i : ℕ) → octet file i < 256) → readFile file ≡ cues list → roomy file records answers ≡ true →
     runCall file records answers ≡ accepted (callsOf file) records answers
 run-is-the-calls-joined file records answers list small read room =
     a-good-file-is-played file records answers list read room ∙ ap (λ p. accepted p records answers) (file-is-the-calls-joined file list small read .joined)

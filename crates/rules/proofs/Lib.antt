@@ -20,8 +20,8 @@ pub mod Worked
 pub mod Inputs
 pub mod Accepted
 pub mod CueFiles
-pub mod Calls
-pub mod Unique
 pub mod Readings
+pub mod Calls
 pub mod RunLaws
 pub mod Joined
+pub mod Unique

@@ -5,7 +5,7 @@ use mathlib.Core.List.{List, [], _∷_, _++_}
 use mathlib.Core.Path.{_≡_, refl, ap}
 use native.Mathlib.Nat.{sub-zero, suc-sub-suc}
 use native.Mathlib.Omega.{arith}
-use lib.ListN.{length, length-append}
+use lib.ListN.{length, take, length-append}
 use Rattle.rules.specs.declared.phase.Phase.{Phase}
 use Rattle.rules.specs.declared.phase.Phase.the-variants.{Dark, Lit, Starting, Timed, Warning, Ending}
 use Rattle.rules.specs.declared.input.Input.{Input}
@@ -107,3 +107,11 @@ places-hold-all zero [] fits = refl
 places-hold-all zero (r ∷ l) fits = absurd (omega arith)
 places-hold-all (suc n) [] fits = rw sub-zero
 places-hold-all (suc n) (r ∷ l) fits = rw (places-hold-all n l (omega arith), suc-sub-suc n (length l))
+
+-- so the used ones are the list
+pub used-places : (n : ℕ) (l : List Record) → length l ≤ n → take (length l) (places n l) ≡ l
+unfolding places
+used-places zero [] h = refl
+used-places zero (r ∷ l) h = absurd (omega arith)
+used-places (suc n) [] h = refl
+used-places (suc n) (r ∷ l) h = rw (used-places n l (omega arith))

@@ -113,7 +113,7 @@ played-answers : (file : List ℕ) (list : List Cue) → length (playFile file l
 unfolding playFile playList playsTo
 played-answers file list = rw (length-append, length-append) (omega (arith, plays-answers list (fresh (paramsOf (parametersIn file)) (scenesOf (parametersIn file)))))
 
-records-length : (k : List Record) → length (recordsOctets k) ≡ 8 * length k
+pub records-length : (k : List Record) → length (recordsOctets k) ≡ 8 * length k
 unfolding recordsOctets recordOctets
 records-length [] = refl
 records-length (r ∷ k) = rw length-append (omega (arith, records-length k))
