@@ -99,7 +99,8 @@ build_example() {
     if command -v "$cc" >/dev/null; then
         "$cc" -std=c99 -Wall -Wextra -Werror -pedantic -O2 -fPIE -Iinclude -c examples/preview.c -o "$out/preview.o"
     else
-        kit_cc "$out/preview.o" examples/preview.c -std=c99 -Iinclude -isystem /usr/include -isystem "/usr/include/$(uname -m)-linux-gnu"
+        kit_cc "$out/preview.o" examples/preview.c -std=c99 -Iinclude -isystem "$(cc -print-file-name=include)" \
+            -isystem /usr/include -isystem "/usr/include/$(uname -m)-linux-gnu"
     fi && kit_link "$out/preview" "$out/preview.o" target/staticlib/libhouse.a
 }
 
