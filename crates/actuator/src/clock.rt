@@ -64,7 +64,7 @@ fn tick_once(s: State, t: u32) -> State
 }
 
 // Every timer due at or before t: a phase has at most three before it rests.
-fn run_timers(s: State, t: u32) -> Clocked
+pub fn run_timers(s: State, t: u32) -> Clocked
     requires { ⌜ Room (s .params) t ⌝ }
     ensures { λ r. ⌜ r ≡ clocked (clockMove s t) ⌝ }
 {

@@ -12,7 +12,7 @@ ghost use Rattle.house.specs.Playing.{listIn, freshIn, stepAt, Ready, Fi
 use crate::put::put_notes;
 use crate::put::put_record;
 use actuator::clock::Clocked;
-use actuator::clock::move_clock;
+use actuator::clock::run_timers;
 use actuator::fresh::fresh_with;
 use actuator::notes;
 use actuator::notes::Notes;
@@ -93,7 +93,7 @@ pub fn play(file: &[u8], n: u32, end: u32, records: &mut [u8], answers: &mut [u8
     put_record(records, 0, record_of(0, start));
     let played = play_inputs(file, n, start, records, answers);
     let s = played.state;
-    let last = move_clock(s, end);
+    let last = run_timers(s, end);
     let written = last.notes;
     put_notes(records, 8 * (played.count as usize), written);
     let state = last.state;

@@ -26,18 +26,18 @@ fresh-in-requires c κs = good-file _ _ (c .before .before .before .pre .0 .acce
 play-inputs-requires : tie.Need-play-inputs-requires
 play-inputs-requires c κs = (ready (c .before .before .before .before .before .before .before), omega (arith, c .before .before .before .before .put-record .kept .0, c .before .before .before .before .before .before .before .before .before .before .before .pre .1), c .before .before .before .before .before .before .before .before .before .before .before .pre .2)
 
-move-clock-requires : tie.Need-move-clock-requires
-move-clock-requires c κs =
+run-timers-requires : tie.Need-run-timers-requires
+run-timers-requires c κs =
     let fit = c .before .before .before .before .before .before .before .before .before .before .before .before .before .before .before .before .before .pre .0 in
     sound-room _ _ (c .before .before .before .before .before .play-inputs .ensures .1) (omega (arith, fit .ends, good-file _ _ (fit .accepted) .start .header .layout .end))
 
 put-notes-requires : tie.Need-put-notes-requires
 put-notes-requires c κs =
-    let few = move-few _ _ _ (c .before .before .before .move-clock .ensures) in
+    let few = move-few _ _ _ (c .before .before .before .run-timers .ensures) in
     (omega (arith, few), omega (arith, few, c .before .before .before .before .before .before .before .before .before .play-inputs .ensures .2, c .before .before .before .before .before .before .before .before .before .play-inputs .kept .1 .1 .1 .0, c .before .before .before .before .before .before .before .before .before .before .before .before .before .before .put-record .kept .0, c .before .before .before .before .before .before .before .before .before .before .before .before .before .before .before .before .before .before .before .before .before .pre .1))
 
 add-t25 : tie.Need-add-t25
-add-t25 c = omega (arith, move-few _ _ _ (c .before .before .before .before .before .before .before .before .before .move-clock .ensures), c .before .before .before .before .before .before .before .before .before .before .before .before .before .before .before .play-inputs .ensures .2, ready (c .before .before .before .before .before .before .before .before .before .before .before .before .before .before .before .before .before .before .before .before .before .before .before) .few)
+add-t25 c = omega (arith, move-few _ _ _ (c .before .before .before .before .before .before .before .before .before .run-timers .ensures), c .before .before .before .before .before .before .before .before .before .before .before .before .before .before .before .play-inputs .ensures .2, ready (c .before .before .before .before .before .before .before .before .before .before .before .before .before .before .before .before .before .before .before .before .before .before .before) .few)
 
 same-length : tie.Need-same-length
 same-length c = c .before .before .before .before .before .put-notes .kept .0 ∙ c .before .before .before .before .before .before .before .before .before .before .before .before .before .before .before .play-inputs .kept .1 .1 .1 .0 ∙ c .before .before .before .before .before .before .before .before .before .before .before .before .before .before .before .before .before .before .before .before .put-record .kept .0
@@ -45,7 +45,7 @@ same-length c = c .before .before .before .before .before .put-notes .kept .0 �
 returns : tie.Need-returns
 returns c =
     let inputs = c .before .before .before .before .before .before .before .before .before .before .before .before .before .before .before .play-inputs in
-    ended _ _ (c .before .before .before .before .before .before .before .before .before .before .before .before .before .before .before .before .before .before .before .before .before .before .before .before .before .before .before .pre .0 .ends) _ _ (begun (c .before .before .before .before .before .before .before .before .before .before .before .before .before .before .before .before .before .before .before .before)) _ _ _ _ (inputs .result) (rw (c .before .before .before .before .before .before .before .before .before .before .before .before .before .before .before .before .before .before .before .before .before .before .before .fresh-in .ensures) at (inputs .ensures .0)) _ (c .before .before .before .before .before .before .before .before .before .move-clock .ensures) (c .before .before .before .before .before .put-notes .ensures)
+    ended _ _ (c .before .before .before .before .before .before .before .before .before .before .before .before .before .before .before .before .before .before .before .before .before .before .before .before .before .before .before .pre .0 .ends) _ _ (begun (c .before .before .before .before .before .before .before .before .before .before .before .before .before .before .before .before .before .before .before .before)) _ _ _ _ (inputs .result) (rw (c .before .before .before .before .before .before .before .before .before .before .before .before .before .before .before .before .before .before .before .before .before .before .before .fresh-in .ensures) at (inputs .ensures .0)) _ (c .before .before .before .before .before .before .before .before .before .run-timers .ensures) (c .before .before .before .before .before .put-notes .ensures)
 
 pub play-spec : {M : Type 1} → statement M
 play-spec =
@@ -55,7 +55,7 @@ play-spec =
     (λ c κs. search needs)
     (λ c κs. search needs)
     play-inputs-requires
-    move-clock-requires
+    run-timers-requires
     (λ c. search needs)
     (λ c. search needs)
     put-notes-requires
