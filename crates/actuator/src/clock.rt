@@ -101,8 +101,8 @@ pub fn move_clock(s: State, t: u32) -> Clocked
     let deadline = phase::deadline_of(ph);
     match deadline {
         Deadline::Never => let_pass(s, t),
-        Deadline::At(d) => {
-            if d <= t {
+        Deadline::At(due) => {
+            if due <= t {
                 run_timers(s, t)
             } else {
                 let_pass(s, t)
