@@ -1,4 +1,4 @@
 // The run over a cue file: every input of a checked file is played once, into the two lent buffers.
-pub mod play;
-pub mod put;
+mod play;
+mod put;
 pub mod run;
