@@ -13,7 +13,7 @@ use Rattle.rules.specs.Inputs.{stampAt}
 use Rattle.rules.specs.Steps.{Stepped, step}
 use Rattle.rules.specs.Soundness.{sound}
 use Rattle.rules.specs.Lists.{Cue, cue, Played, andThen, stepped, plays}
-use Rattle.rules.specs.Files.{cues, endTime, inputPlace, before, readInputs}
+use Rattle.rules.specs.Files.{cues, endTime, inputPlace, readInputs}
 use Rattle.rules.specs.Runs.{recordsOctets}
 use Rattle.rules.proofs.Readings.{First, first-read}
 use Rattle.rules.proofs.Inputs.{input-number}

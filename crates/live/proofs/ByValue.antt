@@ -3,16 +3,12 @@ use Prim.Native.Nat.{ℕ}
 use mathlib.Core.List.{List, [], _∷_}
 use mathlib.Core.Path.{_≡_, refl}
 use lib.ListN.{length, getD}
-use lib.Dec.{eqb}
-use borrow.Author.Tests.{eqb-true}
 use Rattle.rules.specs.declared.record.Record.{Record}
-use Rattle.rules.specs.declared.refusal.Check.{Check}
-use Rattle.rules.specs.declared.refusal.Check.the-variants.{Passed, Refused}
-use Rattle.rules.specs.declared.refusal.Refusal.the-variants.{WrongLength}
+use Rattle.rules.specs.declared.refusal.Check.the-variants.{Passed}
 use Rattle.rules.specs.Steps.{Moved, Stepped}
-use Rattle.rules.specs.Refusals.{lowestBad, checkParameters}
+use Rattle.rules.specs.Refusals.{checkParameters}
 use Rattle.rules.specs.Calls.{blank, places, singleDone, moveDone}
-use Rattle.rules.proofs.Tests.{cond-case}
+use Rattle.rules.proofs.Accepted.{lowest-bad-octet}
 use Rattle.actuator.specs.Notes.{notes, clocked, acted}
 use Rattle.live.specs.ByValue.{singleOf, moveOf}
 
@@ -31,10 +27,6 @@ pub clocked-is-done : (m : Moved) → moveOf (clocked m) ≡ moveDone m
 unfolding moveOf clocked notes moveDone
 clocked-is-done m = rw (two-of-three (m .records))
 
--- the length is tested first
+-- accepted parameters are 32 octets
 pub passed-length : (octets : List ℕ) → checkParameters octets ≡ Passed → length octets ≡ 32
-unfolding checkParameters
-passed-length octets h =
-    cond-case (λ (c : Check). c ≡ Passed → length octets ≡ 32) (eqb (length octets) 32) (lowestBad octets 32 0) (Refused WrongLength 0)
-    (λ e p. eqb-true (length octets) 32 e)
-    (λ e p. cc) h
+passed-length octets h = lowest-bad-octet octets Passed .0 h .whole

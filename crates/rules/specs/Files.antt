@@ -5,7 +5,6 @@ use mathlib.Core.List.{List, [], _∷_}
 use lib.ListN.{length, take, drop}
 use lib.Dec.{eqb, leb}
 use Rattle.octets.specs.BigEndian.{be16, be32}
-use Rattle.rules.specs.declared.input.Input.{Input}
 use Rattle.rules.specs.declared.input.Decoded.{Decoded}
 use Rattle.rules.specs.declared.input.Decoded.the-variants.{Meant, Wrong}
 use Rattle.rules.specs.declared.refusal.Refusal.{Refusal}

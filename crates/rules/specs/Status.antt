@@ -38,7 +38,7 @@ attributes s =
     bit (staircase (s .phase)) 16
 
 -- "A record is 8 octets: stamp, value, attributes, cause, zero. Cause is the input's kind, 0 for a timer and for the start."
--- A record is written at the moment that the clock of its state shows. (Its eight octets, with the zero, come with the run.)
+-- A record is written at the moment that the clock of its state shows. (Its eight octets, with the zero: Runs.antt.)
 unfoldable pub recordOf : ℕ → State → Record
 recordOf cause s = record { stamp = s .clock; value = value s; attributes = attributes s; cause = cause }
 

@@ -1,20 +1,8 @@
 use Prim.Native.Nat.{_+_, _*_, _-_, _≤_}
-use native.Mathlib.Omega.{arith}
 use lib.ListN.{length}
 use borrow.Author.Needs.{needs}
 use Rattle.cueprint.proofs.play_file.Statement.{statement}
 use Rattle.cueprint.proofs.play_file.Tie as tie
-use Rattle.cueprint.proofs.play_file.Reads as reads
-use Rattle.cueprint.proofs.play_file.Lts as lts
-use Rattle.actuator.proofs.status.record_of.Reads as record-of-reads
-use Rattle.cueprint.proofs.play_end.Reads as play-end-reads
-use Rattle.cueprint.proofs.play_input.Reads as play-input-reads
-use Rattle.cueprint.proofs.print_accepted.Reads as print-accepted-reads
-use Rattle.cueprint.proofs.print_end.Reads as print-end-reads
-use Rattle.cueprint.proofs.print_record.Reads as print-record-reads
-use Rattle.cues.proofs.header.end_time.Reads as end-time-reads
-use Rattle.cues.proofs.header.input_count.Reads as input-count-reads
-use Rattle.live.proofs.fresh.fresh_state.Reads as fresh-state-reads
 
 abbrev Inv-loop : tie.InvT-loop
 Inv-loop file n s₀ count₀ i₀ s count i = (i ≤ n) × (n ≤ 2048) × (52 + 8 * n ≤ length file) × (count ≤ 255 * i + 1)

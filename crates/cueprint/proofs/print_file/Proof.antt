@@ -3,12 +3,6 @@ use Rattle.cues.proofs.Passed.{passed-is-good}
 use borrow.Author.Needs.{needs}
 use Rattle.cueprint.proofs.print_file.Statement.{statement}
 use Rattle.cueprint.proofs.print_file.Tie as tie
-use Rattle.cueprint.proofs.print_file.Reads as reads
-use Rattle.cueprint.proofs.print_file.Lts as lts
-use Rattle.cueprint.proofs.play_file.Reads as play-file-reads
-use Rattle.cueprint.proofs.print_refusal.Reads as print-refusal-reads
-use Rattle.cues.proofs.check.check_file.Reads as check-file-reads
-use Rattle.decode.proofs.refusal.number_of.Reads as number-of-reads
 
 -- src/main.rt:131:9
 check-file-requires : tie.Need-check-file-requires

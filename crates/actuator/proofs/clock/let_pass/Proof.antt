@@ -2,9 +2,6 @@ use Rattle.actuator.specs.Notes.{clocked, noNotes, passed}
 use borrow.Author.Needs.{needs}
 use Rattle.actuator.proofs.clock.let_pass.Statement.{statement}
 use Rattle.actuator.proofs.clock.let_pass.Tie as tie
-use Rattle.actuator.proofs.clock.let_pass.Reads as reads
-use Rattle.actuator.proofs.clock.let_pass.Lts as lts
-use Rattle.actuator.proofs.notes.none.Reads as none-reads
 
 none-requires : tie.Need-none-requires
 none-requires c κs = search needs

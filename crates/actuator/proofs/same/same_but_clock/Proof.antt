@@ -1,15 +1,9 @@
 use mathlib.Core.Path.{_∙_}
 use Rattle.actuator.proofs.Tables.{standing-decides}
 use Rattle.rules.specs.Answers.{sameButClock}
-use borrow.Author.Tests.{eq-eqb, ne-eqb}
 use borrow.Author.Needs.{needs}
 use Rattle.actuator.proofs.same.same_but_clock.Statement.{statement}
 use Rattle.actuator.proofs.same.same_but_clock.Tie as tie
-use Rattle.actuator.proofs.same.same_but_clock.Reads as reads
-use Rattle.actuator.proofs.same.same_but_clock.Lts as lts
-use Rattle.actuator.proofs.same.same_scenes.Reads as same-scenes-reads
-use Rattle.actuator.proofs.same.same_standing.Reads as same-standing-reads
-use Rattle.phases.proofs.logic.both.Reads as both-reads
 
 same-standing-requires : tie.Need-same-standing-requires
 same-standing-requires c κs = search needs

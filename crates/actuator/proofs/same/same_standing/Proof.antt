@@ -1,11 +1,6 @@
 use borrow.Author.Needs.{needs}
 use Rattle.actuator.proofs.same.same_standing.Statement.{statement}
 use Rattle.actuator.proofs.same.same_standing.Tie as tie
-use Rattle.actuator.proofs.same.same_standing.Reads as reads
-use Rattle.actuator.proofs.same.same_standing.Lts as lts
-use Rattle.actuator.proofs.same.same_flags.Reads as same-flags-reads
-use Rattle.actuator.proofs.same.same_phase.Reads as same-phase-reads
-use Rattle.phases.proofs.logic.both.Reads as both-reads
 
 same-phase-requires : tie.Need-same-phase-requires
 same-phase-requires c κs = search needs

@@ -4,14 +4,6 @@ use Rattle.actuator.specs.Notes.{takenBy}
 use borrow.Author.Needs.{needs}
 use Rattle.actuator.proofs.step.take.Statement.{statement}
 use Rattle.actuator.proofs.step.take.Tie as tie
-use Rattle.actuator.proofs.step.take.Reads as reads
-use Rattle.actuator.proofs.step.take.Lts as lts
-use Rattle.actuator.proofs.barrier.kind_of.Reads as kind-of-reads
-use Rattle.actuator.proofs.notes.add.Reads as add-reads
-use Rattle.actuator.proofs.notes.noted.Reads as noted-reads
-use Rattle.actuator.proofs.same.same_but_clock.Reads as same-but-clock-reads
-use Rattle.actuator.proofs.step.answer_number.Reads as answer-number-reads
-use Rattle.orders.proofs.order.carry_out.Reads as carry-out-reads
 
 carry-out-requires : tie.Need-carry-out-requires
 carry-out-requires c κs = search needs

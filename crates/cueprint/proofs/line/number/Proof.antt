@@ -5,10 +5,6 @@ use borrow.Author.Needs.{needs}
 use Rattle.cueprint.proofs.Digits.{at-most-twenty}
 use Rattle.cueprint.proofs.line.number.Statement.{statement}
 use Rattle.cueprint.proofs.line.number.Tie as tie
-use Rattle.cueprint.proofs.line.number.Reads as reads
-use Rattle.cueprint.proofs.line.number.Lts as lts
-use Rattle.cueprint.proofs.line.letter.Reads as letter-reads
-use Rattle.io.proofs.decimal.Reads as decimal-reads
 
 abbrev Inv-loop : tie.InvT-loop
 Inv-loop x digits n r₀ i₀ r i = (i ≤ n) × (n ≤ 20) × (r .size ≡ r₀ .size + i)

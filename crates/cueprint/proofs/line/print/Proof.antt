@@ -3,10 +3,6 @@ use Rattle.io.proofs.Counting.{counts}
 use borrow.Author.Needs.{needs}
 use Rattle.cueprint.proofs.line.print.Statement.{statement}
 use Rattle.cueprint.proofs.line.print.Tie as tie
-use Rattle.cueprint.proofs.line.print.Reads as reads
-use Rattle.cueprint.proofs.line.print.Lts as lts
-use Rattle.cueprint.proofs.line.letter.Reads as letter-reads
-use Rattle.io.proofs.write_all.Reads as write-all-reads
 
 -- src/line.rt:56:9
 letter-requires : tie.Need-letter-requires
