@@ -1,6 +1,7 @@
 //! The proved run and the second model, side by side in one program.
 //!
-//! bench count WHICH N: plays one show of N inputs once, by `house_run` or by `model_run`, for a tool that counts instructions.
+//! bench count WHICH N CALLS: plays one show of N inputs so many times, by `house_run` or by `model_run`, for a tool that counts
+//! instructions: what ten calls more cost is ten times one call, without the start and the end of the program.
 //! bench time: prints the nanoseconds of a call for each N, both sides, the best of several rounds taken in turn.
 //! The buffers are as long as the header asks, and are not cleared between calls: either side writes all that it answers for.
 
@@ -46,12 +47,16 @@ fn main() {
     let mut answers = vec![0; 2048];
     if words[0] == "count" {
         let file = show(words[2].parse().unwrap());
-        let number = if words[1] == "house_run" {
-            proved_run(&file, &mut records, &mut answers)
-        } else {
-            model_run(&file, &mut records, &mut answers)
-        };
-        println!("{:#x}", number);
+        let calls: usize = words[3].parse().unwrap();
+        let proved = words[1] == "house_run";
+        for _ in 0..calls {
+            let number = if proved {
+                proved_run(&file, &mut records, &mut answers)
+            } else {
+                model_run(&file, &mut records, &mut answers)
+            };
+            std::hint::black_box(number);
+        }
         return;
     }
     for n in SIZES {

@@ -27,10 +27,15 @@ native_object() {
         -Wno-override-module 2>/dev/null
 }
 
-# instructions WHICH N: those executed inside one call.
-instructions() {
-    valgrind --tool=callgrind --callgrind-out-file=/dev/null --toggle-collect="$1" "$out/bench" count "$1" "$2" 2>&1 |
+# counted WHICH N CALLS: the instructions of the whole program.
+counted() {
+    valgrind --tool=callgrind --callgrind-out-file=/dev/null "$out/bench" count "$1" "$2" "$3" 2>&1 |
         sed -n 's/.*Collected : *\([0-9]*\).*/\1/p'
+}
+
+# instructions WHICH N: those of one call, a tenth of what ten calls more cost.
+instructions() {
+    echo $((($(counted "$1" "$2" 11) - $(counted "$1" "$2" 1)) / 10))
 }
 
 rt check house >"$out/check" 2>&1
