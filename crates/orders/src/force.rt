@@ -1,28 +1,32 @@
 // SwitchOnOffForced: a force stands, or a standing one is released.
 ghost use mathlib.Core.Path.{_≡_};
+ghost use mathlib.Core.List.{List};
+ghost use Rattle.rules.specs.declared.parameters.Scene.{Scene};
 ghost use Prim.Native.Nat.{_+_, _≤_};
 ghost use Rattle.rules.specs.Orders.{forced};
 ghost use Rattle.phases.specs.Room.{Room};
-use crate::state;
+ghost use Rattle.orders.specs.Lamps.{lampOf, stateOf};
+use crate::lamp;
+use crate::lamp::Lamp;
 use phases::phase;
 use rules::input::Force;
+use rules::parameters::Params;
 use rules::phase::Phase;
-use rules::state::State;
 
-pub fn force_order(s: State, f: Force) -> State
-    requires { ⌜ Room (s .params) (s .clock) ⌝ }
-    ensures { λ r. ⌜ r ≡ forced s f ⌝ }
+pub fn force_order(p: Params, l: Lamp, f: Force) -> Lamp
+    requires { ⌜ Room p (l .clock) ⌝ }
+    ensures { λ r. ⌜ ((k : List Scene) → r ≡ lampOf (forced (stateOf p k l) f)) ⌝ }
 {
-    let standing = s.force;
-    let ph = s.phase;
+    let standing = l.force;
+    let ph = l.phase;
     match f {
-        Force::Off => state::with_phase(state::with_force(s, Force::Off), Phase::Dark),
-        Force::On => state::with_phase(state::with_force(s, Force::On), Phase::Lit),
+        Force::Off => lamp::with_phase(lamp::with_force(l, Force::Off), Phase::Dark),
+        Force::On => lamp::with_phase(lamp::with_force(l, Force::On), Phase::Lit),
         Force::Free => {
-            if state::stands(standing) {
-                state::settled(state::with_force(s, Force::Free), phase::output_of(ph))
+            if lamp::stands(standing) {
+                lamp::settled(p, lamp::with_force(l, Force::Free), phase::output_of(ph))
             } else {
-                s
+                l
             }
         }
     }

@@ -1,8 +1,8 @@
-// What each order makes of the state, at the state's own clock.
+// What each order makes of the lamp, at the lamp's own clock, and of the scene table.
 pub mod force;
+pub mod lamp;
 pub mod light;
 pub mod link;
 pub mod lock;
 pub mod order;
 pub mod scene;
-pub mod state;

@@ -1,96 +1,83 @@
 // Orders to the light: On, Off, timed start and stop, scenes, night.
 ghost use mathlib.Core.Path.{_≡_};
+ghost use mathlib.Core.List.{List};
+ghost use Rattle.rules.specs.declared.parameters.Scene.{Scene};
 ghost use Prim.Native.Nat.{_+_, _≤_};
-ghost use Rattle.rules.specs.Orders.{switch, timed, recall, learn, scene, nightMode};
+ghost use Rattle.rules.specs.Orders.{switch, timed, recall, scene, nightMode};
 ghost use Rattle.phases.specs.Room.{Room, Roomy};
+ghost use Rattle.orders.specs.Lamps.{lampOf, stateOf};
+use crate::lamp;
+use crate::lamp::Lamp;
 use crate::scene;
-use crate::state;
 use phases::order;
-use phases::phase;
 use rules::parameters::Params;
 use rules::parameters::Recalled;
-use rules::state::State;
+use rules::parameters::Scene;
 
-pub fn switched(s: State, on: bool) -> State
-    requires { ⌜ Roomy (s .params) (s .clock) (s .phase) ⌝ }
-    ensures { λ r. ⌜ r ≡ switch s on ⌝ }
+pub fn switched(p: Params, l: Lamp, on: bool) -> Lamp
+    requires { ⌜ Roomy p (l .clock) (l .phase) ⌝ }
+    ensures { λ r. ⌜ ((k : List Scene) → r ≡ lampOf (switch (stateOf p k l) on)) ⌝ }
 {
-    let p = s.params;
-    let ph = s.phase;
+    let ph = l.phase;
     if on {
-        state::with_phase(
-            s,
-            order::order_on(p, s.night, state::is_held(s), s.clock, ph),
+        lamp::with_phase(
+            l,
+            order::order_on(p, l.night, lamp::is_held(l), l.clock, ph),
         )
     } else {
-        state::with_phase(s, order::order_off(p, s.clock, ph))
+        lamp::with_phase(l, order::order_off(p, l.clock, ph))
     }
 }
 
-pub fn timed_order(s: State, start: bool) -> State
-    requires { ⌜ Roomy (s .params) (s .clock) (s .phase) ⌝ }
-    ensures { λ r. ⌜ r ≡ timed s start ⌝ }
+pub fn timed_order(p: Params, l: Lamp, start: bool) -> Lamp
+    requires { ⌜ Roomy p (l .clock) (l .phase) ⌝ }
+    ensures { λ r. ⌜ ((k : List Scene) → r ≡ lampOf (timed (stateOf p k l) start)) ⌝ }
 {
-    let p = s.params;
-    let ph = s.phase;
+    let ph = l.phase;
     if start {
-        state::with_phase(s, order::order_timed_start(p, s.clock, ph))
+        lamp::with_phase(l, order::order_timed_start(p, l.clock, ph))
     } else {
-        state::with_phase(s, order::order_timed_stop(p, s.clock, ph))
+        lamp::with_phase(l, order::order_timed_stop(p, l.clock, ph))
     }
 }
 
-fn recall_order(s: State, found: Recalled) -> State
-    requires { ⌜ Roomy (s .params) (s .clock) (s .phase) ⌝ }
-    ensures { λ r. ⌜ r ≡ recall s found ⌝ }
+fn recall_order(p: Params, l: Lamp, found: Recalled) -> Lamp
+    requires { ⌜ Roomy p (l .clock) (l .phase) ⌝ }
+    ensures { λ r. ⌜ ((k : List Scene) → r ≡ lampOf (recall (stateOf p k l) found)) ⌝ }
 {
     match found {
-        Recalled::Nothing => s,
-        Recalled::Output(value) => switched(s, value),
+        Recalled::Nothing => l,
+        Recalled::Output(value) => switched(p, l, value),
     }
 }
 
-fn learn_order(s: State, number: u8) -> State
-    ensures { λ r. ⌜ r ≡ learn s number ⌝ }
+// Learning leaves the lamp alone: it changes the table.
+pub fn scene_order(p: Params, k: [Scene; 8], l: Lamp, learn: bool, number: u8) -> Lamp
+    requires { ⌜ Roomy p (l .clock) (l .phase) ⌝ }
+    ensures { λ r. ⌜ r ≡ lampOf (scene (stateOf p k l) learn number) ⌝ }
 {
-    let p = s.params;
-    let k = s.scenes;
-    let ph = s.phase;
-    if p.learning {
-        state::with_scenes(s, scene::learns(k, number, phase::output_of(ph)))
-    } else {
-        s
-    }
-}
-
-pub fn scene_order(s: State, learn: bool, number: u8) -> State
-    requires { ⌜ Roomy (s .params) (s .clock) (s .phase) ⌝ }
-    ensures { λ r. ⌜ r ≡ scene s learn number ⌝ }
-{
-    let k = s.scenes;
     if learn {
-        learn_order(s, number)
+        l
     } else {
-        recall_order(s, scene::recalls(k, number))
+        recall_order(p, l, scene::recalls(k, number))
     }
 }
 
-pub fn night_order(s: State, on: bool) -> State
-    requires { ⌜ Room (s .params) (s .clock) ⌝ }
-    ensures { λ r. ⌜ r ≡ nightMode s on ⌝ }
+pub fn night_order(p: Params, l: Lamp, on: bool) -> Lamp
+    requires { ⌜ Room p (l .clock) ⌝ }
+    ensures { λ r. ⌜ ((k : List Scene) → r ≡ lampOf (nightMode (stateOf p k l) on)) ⌝ }
 {
-    let p = s.params;
-    let ph = s.phase;
+    let ph = l.phase;
     if on {
-        if s.night {
-            s
+        if l.night {
+            l
         } else {
-            state::with_phase(
-                state::with_night(s, true),
-                order::order_night(p, s.clock, ph),
+            lamp::with_phase(
+                lamp::with_night(l, true),
+                order::order_night(p, l.clock, ph),
             )
         }
     } else {
-        state::with_night(s, false)
+        lamp::with_night(l, false)
     }
 }

@@ -1,114 +1,110 @@
 // The bus and the power fail and return.
 ghost use mathlib.Core.Path.{_≡_};
+ghost use mathlib.Core.List.{List};
+ghost use Rattle.rules.specs.declared.parameters.Scene.{Scene};
 ghost use Prim.Native.Nat.{_+_, _≤_};
 ghost use Rattle.rules.specs.Orders.{busMode, bus, powerFails, powerReturns, power};
 ghost use Rattle.phases.specs.Room.{Room};
-use crate::state;
+ghost use Rattle.orders.specs.Lamps.{lampOf, stateOf, alone};
+use crate::lamp;
+use crate::lamp::Lamp;
 use phases::logic;
 use phases::phase;
 use rules::input::Event;
 use rules::input::Force;
 use rules::parameters::Params;
-use rules::parameters::Scene;
 use rules::phase::Phase;
 use rules::state::Link;
-use rules::state::State;
 
 // A bus mode, once the link has changed: lock, force and keep leave the phase and its timer alone.
-fn by_bus_mode(s: State, mode: u8) -> State
-    requires { ⌜ Room (s .params) (s .clock) ⌝ }
-    ensures { λ r. ⌜ r ≡ busMode s mode ⌝ }
+fn by_bus_mode(p: Params, l: Lamp, mode: u8) -> Lamp
+    requires { ⌜ Room p (l .clock) ⌝ }
+    ensures { λ r. ⌜ ((k : List Scene) → r ≡ lampOf (busMode (stateOf p k l) mode)) ⌝ }
 {
     let keep = mode == 0;
-    if logic::either(state::is_held(s), keep) {
-        s
+    if logic::either(lamp::is_held(l), keep) {
+        l
     } else {
-        state::settled(s, mode == 2)
+        lamp::settled(p, l, mode == 2)
     }
 }
 
-pub fn bus_event(s: State, link: Link, event: Event) -> State
-    requires { ⌜ Room (s .params) (s .clock) ⌝ }
-    ensures { λ r. ⌜ r ≡ bus s link event ⌝ }
+pub fn bus_event(p: Params, l: Lamp, link: Link, event: Event) -> Lamp
+    requires { ⌜ Room p (l .clock) ⌝ }
+    ensures { λ r. ⌜ ((k : List Scene) → r ≡ lampOf (bus (stateOf p k l) link event)) ⌝ }
 {
     match link {
-        Link::Up => bus_fails(s, event),
-        Link::BusDown => bus_returns(s, event),
-        Link::PowerDown => s,
+        Link::Up => bus_fails(p, l, event),
+        Link::BusDown => bus_returns(p, l, event),
+        Link::PowerDown => l,
     }
 }
 
 // What an event does to a bus that is up.
-fn bus_fails(s: State, event: Event) -> State
-    requires { ⌜ Room (s .params) (s .clock) ⌝ }
-    ensures { λ r. ⌜ r ≡ bus s Link.Up event ⌝ }
+fn bus_fails(p: Params, l: Lamp, event: Event) -> Lamp
+    requires { ⌜ Room p (l .clock) ⌝ }
+    ensures { λ r. ⌜ ((k : List Scene) → r ≡ lampOf (bus (stateOf p k l) Link.Up event)) ⌝ }
 {
-    let p = s.params;
     match event {
-        Event::Failure => by_bus_mode(state::with_link(s, Link::BusDown), p.busfailure),
-        Event::Return => s,
+        Event::Failure => by_bus_mode(p, lamp::with_link(l, Link::BusDown), p.busfailure),
+        Event::Return => l,
     }
 }
 
 // What an event does to a bus that is down.
-fn bus_returns(s: State, event: Event) -> State
-    requires { ⌜ Room (s .params) (s .clock) ⌝ }
-    ensures { λ r. ⌜ r ≡ bus s Link.BusDown event ⌝ }
+fn bus_returns(p: Params, l: Lamp, event: Event) -> Lamp
+    requires { ⌜ Room p (l .clock) ⌝ }
+    ensures { λ r. ⌜ ((k : List Scene) → r ≡ lampOf (bus (stateOf p k l) Link.BusDown event)) ⌝ }
 {
-    let p = s.params;
     match event {
-        Event::Failure => s,
-        Event::Return => by_bus_mode(state::with_link(s, Link::Up), p.busreturn),
+        Event::Failure => l,
+        Event::Return => by_bus_mode(p, lamp::with_link(l, Link::Up), p.busreturn),
     }
 }
 
-// The power fails: the output is remembered, and all but the parameters, the scenes and the clock falls back.
-fn power_fails(s: State) -> State
-    ensures { λ r. ⌜ r ≡ powerFails s ⌝ }
+// The power fails: the output is remembered, and all but the clock falls back.
+fn power_fails(l: Lamp) -> Lamp
+    ensures { λ r. ⌜ r ≡ lampOf (powerFails (alone l)) ⌝ }
 {
-    let p = s.params;
-    let k = s.scenes;
-    let ph = s.phase;
+    let ph = l.phase;
     let out = phase::output_of(ph);
-    State {
-        params: p,
-        scenes: k,
-        clock: s.clock,
+    Lamp {
+        clock: l.clock,
         night: false,
         lock: false,
         force: Force::Free,
         link: Link::PowerDown,
-        atlocking: s.atlocking,
+        atlocking: l.atlocking,
         atfailure: out,
         phase: Phase::Dark,
     }
 }
 
-fn power_returns(s: State) -> State
-    requires { ⌜ Room (s .params) (s .clock) ⌝ }
-    ensures { λ r. ⌜ r ≡ powerReturns s ⌝ }
+fn power_returns(p: Params, l: Lamp) -> Lamp
+    requires { ⌜ Room p (l .clock) ⌝ }
+    ensures { λ r. ⌜ ((k : List Scene) → r ≡ lampOf (powerReturns (stateOf p k l))) ⌝ }
 {
-    let p = s.params;
-    state::settled(
-        state::with_link(s, Link::Up),
-        state::by_mode(p.powerreturn, s.atfailure),
+    lamp::settled(
+        p,
+        lamp::with_link(l, Link::Up),
+        lamp::by_mode(p.powerreturn, l.atfailure),
     )
 }
 
-pub fn power_event(s: State, link: Link, event: Event) -> State
-    requires { ⌜ Room (s .params) (s .clock) ⌝ }
-    ensures { λ r. ⌜ r ≡ power s link event ⌝ }
+pub fn power_event(p: Params, l: Lamp, link: Link, event: Event) -> Lamp
+    requires { ⌜ Room p (l .clock) ⌝ }
+    ensures { λ r. ⌜ ((k : List Scene) → r ≡ lampOf (power (stateOf p k l) link event)) ⌝ }
 {
     match event {
         Event::Failure => match link {
-            Link::Up => power_fails(s),
-            Link::BusDown => power_fails(s),
-            Link::PowerDown => s,
+            Link::Up => power_fails(l),
+            Link::BusDown => power_fails(l),
+            Link::PowerDown => l,
         },
         Event::Return => match link {
-            Link::Up => s,
-            Link::BusDown => s,
-            Link::PowerDown => power_returns(s),
+            Link::Up => l,
+            Link::BusDown => l,
+            Link::PowerDown => power_returns(p, l),
         },
     }
 }

@@ -1,62 +1,63 @@
 // LockDevice: the actuator is locked or unlocked.
 ghost use mathlib.Core.Path.{_≡_};
+ghost use mathlib.Core.List.{List};
+ghost use Rattle.rules.specs.declared.parameters.Scene.{Scene};
 ghost use Prim.Native.Nat.{_+_, _≤_};
 ghost use Rattle.rules.specs.Orders.{locked, unlockingOutput, unlocked, lockDevice};
 ghost use Rattle.phases.specs.Room.{Room};
-use crate::state;
+ghost use Rattle.orders.specs.Lamps.{lampOf, stateOf};
+use crate::lamp;
+use crate::lamp::Lamp;
 use phases::phase;
 use rules::input::Force;
 use rules::parameters::Params;
 use rules::phase::Phase;
-use rules::state::State;
 
 // An unlocked state is locked: its output is remembered.
-fn locks(s: State) -> State
-    ensures { λ r. ⌜ r ≡ locked s ⌝ }
+fn locks(p: Params, l: Lamp) -> Lamp
+    ensures { λ r. ⌜ ((k : List Scene) → r ≡ lampOf (locked (stateOf p k l))) ⌝ }
 {
-    let p = s.params;
-    let ph = s.phase;
+    let ph = l.phase;
     let out = phase::output_of(ph);
-    state::with_phase(
-        state::with_lock(s, true, out),
-        state::plain_phase(state::by_mode(p.locking, out)),
+    lamp::with_phase(
+        lamp::with_lock(l, true, out),
+        lamp::plain_phase(lamp::by_mode(p.locking, out)),
     )
 }
 
 // The output that BehaviourAtUnlocking asks for.
-fn unlocking_output(s: State) -> bool
-    ensures { λ r. ⌜ r ≡ unlockingOutput s ⌝ }
+fn unlocking_output(p: Params, l: Lamp) -> bool
+    ensures { λ r. ⌜ ((k : List Scene) → r ≡ unlockingOutput (stateOf p k l)) ⌝ }
 {
-    let p = s.params;
-    let ph = s.phase;
+    let ph = l.phase;
     if p.unlocking == 3 {
-        s.atlocking
+        l.atlocking
     } else {
-        state::by_mode(p.unlocking, phase::output_of(ph))
+        lamp::by_mode(p.unlocking, phase::output_of(ph))
     }
 }
 
 // A locked state is unlocked: a standing force decides, otherwise BehaviourAtUnlocking.
-fn unlocks(s: State, f: Force) -> State
-    requires { ⌜ Room (s .params) (s .clock) ⌝ }
-    ensures { λ r. ⌜ r ≡ unlocked s f ⌝ }
+fn unlocks(p: Params, l: Lamp, f: Force) -> Lamp
+    requires { ⌜ Room p (l .clock) ⌝ }
+    ensures { λ r. ⌜ ((k : List Scene) → r ≡ lampOf (unlocked (stateOf p k l) f)) ⌝ }
 {
-    let r = state::with_lock(s, false, s.atlocking);
+    let r = lamp::with_lock(l, false, l.atlocking);
     match f {
-        Force::Off => state::with_phase(r, Phase::Dark),
-        Force::On => state::with_phase(r, Phase::Lit),
-        Force::Free => state::settled(r, unlocking_output(s)),
+        Force::Off => lamp::with_phase(r, Phase::Dark),
+        Force::On => lamp::with_phase(r, Phase::Lit),
+        Force::Free => lamp::settled(p, r, unlocking_output(p, l)),
     }
 }
 
-pub fn lock_order(s: State, lock: bool) -> State
-    requires { ⌜ Room (s .params) (s .clock) ⌝ }
-    ensures { λ r. ⌜ r ≡ lockDevice s lock ⌝ }
+pub fn lock_order(p: Params, l: Lamp, lock: bool) -> Lamp
+    requires { ⌜ Room p (l .clock) ⌝ }
+    ensures { λ r. ⌜ ((k : List Scene) → r ≡ lampOf (lockDevice (stateOf p k l) lock)) ⌝ }
 {
-    let f = s.force;
+    let f = l.force;
     if lock {
-        if s.lock { s } else { locks(s) }
+        if l.lock { l } else { locks(p, l) }
     } else {
-        if s.lock { unlocks(s, f) } else { s }
+        if l.lock { unlocks(p, l, f) } else { l }
     }
 }

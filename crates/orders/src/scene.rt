@@ -2,6 +2,11 @@
 ghost use mathlib.Core.Path.{_≡_};
 ghost use Prim.Native.Nat.{_+_, _≤_};
 ghost use Rattle.rules.specs.Scenes.{recalled, learnt};
+ghost use Rattle.rules.specs.Orders.{scene};
+ghost use Rattle.orders.specs.Lamps.{stateOf};
+use crate::lamp::Lamp;
+use phases::phase;
+use rules::parameters::Params;
 use rules::parameters::Recalled;
 use rules::parameters::Scene;
 
@@ -43,4 +48,21 @@ pub fn learns(k: [Scene; 8], number: u8, on: bool) -> [Scene; 8]
         i += 1;
     }
     k
+}
+
+// The table after a scene input: it is written where the input is to learn and learning is enabled.
+pub fn taught(p: Params, k: [Scene; 8], l: Lamp, learn: bool, number: u8) -> [Scene; 8]
+    ensures { λ r. ⌜ r ≡ scene (stateOf p k l) learn number .scenes ⌝ }
+{
+    let ph = l.phase;
+    let enabled = p.learning;
+    if learn {
+        if enabled {
+            learns(k, number, phase::output_of(ph))
+        } else {
+            k
+        }
+    } else {
+        k
+    }
 }

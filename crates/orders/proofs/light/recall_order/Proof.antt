@@ -5,11 +5,11 @@ use Rattle.orders.proofs.light.recall_order.Tie as tie
 
 returns : tie.Need-returns
 unfolding recall
-returns c = simp (c .enum-told .given .1)
+returns c = λ k. simp (c .enum-told .given .1)
 
 returns-2 : tie.Need-returns-2
 unfolding recall
-returns-2 c = simp (c .switched .ensures, c .before .before .found .given .1)
+returns-2 c = λ k. simp (c .switched .ensures k, c .before .before .found .given .1)
 
 pub recall-order-spec : {M : Type 1} → statement M
 recall-order-spec =

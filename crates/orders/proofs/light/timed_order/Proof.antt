@@ -5,11 +5,11 @@ use Rattle.orders.proofs.light.timed_order.Tie as tie
 
 returns : tie.Need-returns
 unfolding timed
-returns c = simp (c .with-phase .ensures, c .before .order-timed-start .ensures, c .before .before .if1 .taken)
+returns c = λ k. simp (c .with-phase .ensures, c .before .order-timed-start .ensures, c .before .before .if1 .taken)
 
 returns-2 : tie.Need-returns-2
 unfolding timed
-returns-2 c = simp (c .with-phase2 .ensures, c .before .order-timed-stop .ensures, c .before .before .if1 .left)
+returns-2 c = λ k. simp (c .with-phase2 .ensures, c .before .order-timed-stop .ensures, c .before .before .if1 .left)
 
 pub timed-order-spec : {M : Type 1} → statement M
 timed-order-spec =

@@ -4,11 +4,11 @@ use Rattle.orders.proofs.link.power_returns.Statement.{statement}
 use Rattle.orders.proofs.link.power_returns.Tie as tie
 
 settled-requires : tie.Need-settled-requires
-settled-requires c κs = rw (c .before .with-link .ensures) (c .before .before .before .pre)
+settled-requires c κs = rw (c .before .with-link .ensures) (c .before .before .pre)
 
 returns : tie.Need-returns
 unfolding powerReturns
-returns c = simp (c .settled .ensures, c .before .by-mode .ensures, c .before .before .with-link .ensures)
+returns c = λ k. simp (c .settled .ensures k, c .before .by-mode .ensures, c .before .before .with-link .ensures)
 
 pub power-returns-spec : {M : Type 1} → statement M
 power-returns-spec =

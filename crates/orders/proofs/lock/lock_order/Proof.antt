@@ -1,3 +1,4 @@
+use Rattle.orders.proofs.Lamps.{kept-if, kept-unless}
 use Rattle.rules.specs.Orders.{lockDevice}
 use borrow.Author.Needs.{needs}
 use Rattle.orders.proofs.lock.lock_order.Statement.{statement}
@@ -5,19 +6,19 @@ use Rattle.orders.proofs.lock.lock_order.Tie as tie
 
 returns : tie.Need-returns
 unfolding lockDevice
-returns c = simp (c .if2 .taken, c .before .if1 .taken)
+returns c = λ k. rw (c .before .if1 .taken) (kept-if _ k _ _ _ (c .if2 .taken))
 
 returns-2 : tie.Need-returns-2
 unfolding lockDevice
-returns-2 c = simp (c .locks .ensures, c .before .if2 .left, c .before .before .if1 .taken)
+returns-2 c = λ k. simp (c .locks .ensures k, c .before .if2 .left, c .before .before .if1 .taken)
 
 returns-3 : tie.Need-returns-3
 unfolding lockDevice
-returns-3 c = simp (c .unlocks .ensures, c .before .if3 .taken, c .before .before .if1 .left)
+returns-3 c = λ k. simp (c .unlocks .ensures k, c .before .if3 .taken, c .before .before .if1 .left)
 
 returns-4 : tie.Need-returns-4
 unfolding lockDevice
-returns-4 c = simp (c .if3 .left, c .before .if1 .left)
+returns-4 c = λ k. rw (c .before .if1 .left) (kept-unless _ k _ _ _ (c .if3 .left))
 
 pub lock-order-spec : {M : Type 1} → statement M
 lock-order-spec =

@@ -5,7 +5,7 @@ use Rattle.orders.proofs.lock.locks.Tie as tie
 
 returns : tie.Need-returns
 unfolding locked
-returns c = simp (c .with-phase .ensures, c .before .plain-phase .ensures, c .before .before .by-mode .ensures, c .before .before .before .with-lock .ensures, c .before .before .before .before .output-of .ensures)
+returns c = λ k. simp (c .with-phase .ensures, c .before .plain-phase .ensures, c .before .before .by-mode .ensures, c .before .before .before .with-lock .ensures, c .before .before .before .before .output-of .ensures)
 
 pub locks-spec : {M : Type 1} → statement M
 locks-spec =

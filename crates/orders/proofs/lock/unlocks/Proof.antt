@@ -8,15 +8,15 @@ settled-requires c κs = rw (c .before .before .before .with-lock .ensures) (c .
 
 returns : tie.Need-returns
 unfolding unlocked
-returns c = simp (c .with-phase .ensures, c .before .enum-told .given .1, c .before .before .before .with-lock .ensures)
+returns c = λ k. simp (c .with-phase .ensures, c .before .enum-told .given .1, c .before .before .before .with-lock .ensures)
 
 returns-2 : tie.Need-returns-2
 unfolding unlocked
-returns-2 c = simp (c .with-phase2 .ensures, c .before .enum-told2 .given .1, c .before .before .before .with-lock .ensures)
+returns-2 c = λ k. simp (c .with-phase2 .ensures, c .before .enum-told2 .given .1, c .before .before .before .with-lock .ensures)
 
 returns-3 : tie.Need-returns-3
 unfolding unlocked
-returns-3 c = simp (c .settled .ensures, c .before .unlocking-output .ensures, c .before .before .enum-told3 .given .1, c .before .before .before .before .with-lock .ensures)
+returns-3 c = λ k. simp (c .settled .ensures k, c .before .unlocking-output .ensures k, c .before .before .enum-told3 .given .1, c .before .before .before .before .with-lock .ensures)
 
 pub unlocks-spec : {M : Type 1} → statement M
 unlocks-spec =

@@ -1,7 +1,7 @@
 use Rattle.rules.specs.Orders.{byMode}
 use borrow.Author.Tests.{eq-eqb, ne-eqb}
-use Rattle.orders.proofs.state.by_mode.Statement.{statement}
-use Rattle.orders.proofs.state.by_mode.Tie as tie
+use Rattle.orders.proofs.lamp.by_mode.Statement.{statement}
+use Rattle.orders.proofs.lamp.by_mode.Tie as tie
 
 returns : tie.Need-returns
 unfolding byMode

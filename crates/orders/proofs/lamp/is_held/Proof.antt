@@ -1,7 +1,7 @@
 use Rattle.rules.specs.Orders.{held}
 use borrow.Author.Needs.{needs}
-use Rattle.orders.proofs.state.is_held.Statement.{statement}
-use Rattle.orders.proofs.state.is_held.Tie as tie
+use Rattle.orders.proofs.lamp.is_held.Statement.{statement}
+use Rattle.orders.proofs.lamp.is_held.Tie as tie
 
 returns : tie.Need-returns
 unfolding held
