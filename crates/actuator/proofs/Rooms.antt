@@ -5,17 +5,15 @@ use mathlib.Core.Path.{_≡_, ap}
 use native.Mathlib.Omega.{arith}
 use Rattle.rules.specs.declared.parameters.Params.{Params}
 use Rattle.rules.specs.declared.phase.Phase.{Phase}
-use Rattle.rules.specs.declared.phase.Phase.the-variants.{Dark}
 use Rattle.rules.specs.declared.phase.Deadline.the-variants.{At}
 use Rattle.rules.specs.declared.state.State.{State}
 use Rattle.rules.specs.Time.{lastStamp}
 use Rattle.rules.specs.Phases.{deadline}
 use Rattle.rules.specs.Answers.{due}
-use Rattle.rules.specs.Steps.{tick, clockMove}
+use Rattle.rules.specs.Steps.{clockMove}
 use Rattle.rules.specs.Soundness.{sound}
 use Rattle.rules.proofs.Deadlines.{times-bounded, due-is}
-use Rattle.rules.proofs.Ticks.{tick-keeps}
-use Rattle.rules.proofs.Soundness.{sound-view, due-bounded, move-is-sound}
+use Rattle.rules.proofs.Soundness.{sound-view, due-bounded, move-keeps, move-is-sound}
 use Rattle.phases.specs.Room.{Room, Roomy}
 
 -- at an earlier moment
@@ -33,10 +31,6 @@ room-sooner p t d sooner r =
 pub due-room : (p : Params) (phase : Phase) (t d : ℕ) → deadline phase ≡ At d → d ≤ t → Room p t → Room p (due phase)
 due-room p phase t d at sooner r = rw (due-is phase d at) (room-sooner p t d sooner r)
 
--- a timer keeps the parameters
-pub ticked-room : (s : State) (t : ℕ) → Room (s .params) t → Room (tick s t .params) t
-ticked-room s t r = rw (ap (λ (u : State). u .params) (tick-keeps s t 0 Dark)) r
-
 pub sound-room : (s : State) (t : ℕ) → sound s ≡ true → t ≤ lastStamp → Room (s .params) t
 sound-room s t h b =
     let times = times-bounded (s .params) (sound-view s h .params) in
@@ -51,6 +45,7 @@ sound-room s t h b =
 pub sound-roomy : (s : State) → sound s ≡ true → Roomy (s .params) (s .clock) (s .phase)
 sound-roomy s h = record { room = sound-room s (s .clock) h (sound-view s h .clock); deadline = due-bounded s h }
 
--- and so has the state after a clock move
-pub moved-roomy : (s : State) (t : ℕ) → sound s ≡ true → s .clock ≤ t → t ≤ lastStamp → Roomy (clockMove s t .state .params) (clockMove s t .state .clock) (clockMove s t .state .phase)
-moved-roomy s t h later b = sound-roomy (clockMove s t .state) (move-is-sound s t h later b)
+-- and so has the lamp after a clock move
+pub moved-roomy-lamp : (s : State) (t : ℕ) → sound s ≡ true → s .clock ≤ t → t ≤ lastStamp → Roomy (s .params) (clockMove s t .state .clock) (clockMove s t .state .phase)
+moved-roomy-lamp s t h later b =
+    rw (ap (λ (u : State). u .params) (move-keeps s t)) at (sound-roomy (clockMove s t .state) (move-is-sound s t h later b))

@@ -10,9 +10,7 @@ use native.Mathlib.Numerals.{add-one}
 use native.Mathlib.Omega.{arith}
 use Rattle.rules.specs.declared.parameters.Scene.{Scene}
 use Rattle.rules.specs.Scenes.{entryInRange, absent, scenesInRange}
-use Rattle.rules.specs.declared.state.State.{State}
-use Rattle.rules.specs.Answers.{sameScene, sameScenes, samePhase, sameFlags, sameButClock}
-use Rattle.rules.proofs.Answers.{scenes-same}
+use Rattle.rules.specs.Answers.{sameScene, sameScenes}
 use Rattle.orders.proofs.Tables.{past}
 
 pub same-step : (a b : List Scene) (i : ℕ) → i < length a → i < length b → sameScenes (drop i a) (drop i b) ≡ (sameScene (getD a i past) (getD b i past) && sameScenes (drop (suc i) a) (drop (suc i) b))
@@ -53,12 +51,3 @@ pub range-none : (k : List Scene) → length k ≡ 0 → scenesInRange k ≡ tru
 unfolding scenesInRange
 range-none [] h = refl
 range-none (e ∷ k) h = absurd (omega arith)
-
--- the same table tells nothing, so phase and flags decide
-pub standing-decides : (a b : State) → b .scenes ≡ a .scenes → (samePhase (a .phase) (b .phase) && sameFlags a b) ≡ sameButClock a b
-unfolding sameButClock
-standing-decides a b e = rw (e, scenes-same (a .scenes)) (and-true _)
-  where
-    and-true : (x : Bool) → x ≡ (x && true)
-    and-true true = refl
-    and-true false = refl

@@ -1,6 +1,11 @@
--- The step of the rules is what the code does after the clock move: take the input, or stop it.
-use Prim.Native.Nat.{ℕ}
-use mathlib.Core.Path.{_≡_, refl, sym}
+-- An input at the moved clock does what the rules say: it is taken, or stopped. A step is the clock move, and then that.
+use Prim.Native.Nat.{ℕ, _≤_}
+use mathlib.Core.Bool.{Bool, true, false, cond}
+use mathlib.Core.List.{List, [], _∷_, _++_}
+use mathlib.Core.Path.{_≡_, refl, ap, _∙_}
+use lib.ListN.{length}
+use native.Mathlib.Omega.{arith}
+use Rattle.rules.specs.declared.parameters.Scene.{Scene}
 use Rattle.rules.specs.declared.input.Input.{Input}
 use Rattle.rules.specs.declared.state.State.{State}
 use Rattle.rules.specs.declared.barrier.Barrier.{Barrier}
@@ -8,19 +13,35 @@ use Rattle.rules.specs.declared.barrier.Barrier.the-variants.{Open, NoPower, No
 use Rattle.rules.specs.Inputs.{kind}
 use Rattle.rules.specs.Orders.{order}
 use Rattle.rules.specs.Barriers.{barrier}
-use Rattle.rules.specs.Steps.{clockMove, taken, meet, act, step}
-use Rattle.rules.specs.Phases.{deadline}
-use Rattle.rules.proofs.Ticks.{Quiet}
-use Rattle.rules.proofs.Timers.{no-timer-due-no-move}
-use Rattle.rules.proofs.Records.{a-move-writes-at-most-two}
-use Rattle.actuator.specs.Notes.{clocked, passed, acted, takenBy, stoppedBy}
-use Rattle.actuator.proofs.Written.{added-written}
+use Rattle.rules.specs.Status.{sameStatus, recordOf, written}
+use Rattle.rules.specs.Steps.{Stepped, clockMove, taken, meet, act, step}
+use Rattle.rules.specs.Lists.{Played}
+use Rattle.rules.proofs.Orders.{order-keeps}
+use Rattle.rules.proofs.Soundness.{move-keeps}
+use Rattle.rules.proofs.Records.{a-move-writes-at-most-two, one-record-at-most}
+use Rattle.rules.proofs.Plays.{still, acts-after-the-move}
+use Rattle.orders.specs.Lamps.{lampOf, stateOf}
+use Rattle.actuator.specs.declared.clock.Ticked.{Ticked}
+use Rattle.actuator.specs.declared.step.Done.{Done}
+use Rattle.actuator.specs.declared.notes.Note.the-variants.{Silent, Wrote}
+use Rattle.actuator.specs.Notes.{noteOf, added, notes, ticked, firstOf, done, doneBy, stoppedBy, acted}
+use Rattle.actuator.proofs.Moves.{joined, move-joined}
+use Rattle.actuator.proofs.Written.{added-first}
 
-module _ (s : State) (i : Input) (t : ℕ) where
-  pub open-is-taken : barrier (clockMove s t .state) i ≡ Open → takenBy (clocked (clockMove s t)) i (order (clockMove s t .state) i) ≡ acted (step s i t)
-  unfolding takenBy clocked acted step act meet taken
-  open-is-taken free =
-      rw (free, added-written (clockMove s t .records) (kind i) (clockMove s t .state) (order (clockMove s t .state) i) (a-move-writes-at-most-two s t))
+-- ---- at the moved clock
+
+first-written : (cause : ℕ) (before after : State) → noteOf cause before after ≡ firstOf (written cause before after)
+unfolding noteOf written
+first-written cause before after = go (sameStatus before after)
+  where
+    go : (same : Bool) → cond same Silent (Wrote (recordOf cause after)) ≡ firstOf (cond same [] (recordOf cause after ∷ []))
+    go true = refl
+    go false = refl
+
+module _ (s : State) (i : Input) where
+  pub open-is-taken : barrier s i ≡ Open → doneBy s i (order s i) ≡ done (act (still s) i)
+  unfolding doneBy done act meet taken
+  open-is-taken free = rw (free, first-written (kind i) s (order s i)) refl
 
   -- a barrier that stops
   abbrev pub Stops : Barrier → Type 0
@@ -30,18 +51,71 @@ module _ (s : State) (i : Input) (t : ℕ) where
   Stops Locked = Unit
   Stops Forced = Unit
 
-  met : (b : Barrier) → Stops b → stoppedBy (clocked (clockMove s t)) b ≡ acted (meet b (clockMove s t) i)
-  unfolding stoppedBy clocked acted meet
+  met : (b : Barrier) → Stops b → stoppedBy s b ≡ done (meet b (still s) i)
+  unfolding stoppedBy done meet
   met NoPower stops = refl
   met NoBus stops = refl
   met Locked stops = refl
   met Forced stops = refl
 
-  pub barred-is-stopped : (b : Barrier) → Stops b → barrier (clockMove s t .state) i ≡ b → stoppedBy (clocked (clockMove s t)) b ≡ acted (step s i t)
-  unfolding step act
+  pub barred-is-stopped : (b : Barrier) → Stops b → barrier s i ≡ b → stoppedBy s b ≡ done (act (still s) i)
+  unfolding act
   barred-is-stopped b stops bars = rw bars (met b stops)
 
--- where no timer is due, only the clock moves
-pub quiet-passes : (s : State) (t : ℕ) → Quiet t (deadline (s .phase)) → passed s t ≡ clockMove s t
-unfolding passed
-quiet-passes s t quiet = sym (no-timer-due-no-move s t quiet)
+  -- the scene table is that of the order, or stays
+  pub open-teaches : barrier s i ≡ Open → order s i .scenes ≡ act (still s) i .state .scenes
+  unfolding act meet taken
+  open-teaches free = rw free refl
+
+  kept : (b : Barrier) → Stops b → s .scenes ≡ meet b (still s) i .state .scenes
+  unfolding meet
+  kept NoPower stops = refl
+  kept NoBus stops = refl
+  kept Locked stops = refl
+  kept Forced stops = refl
+
+  pub barred-keeps : (b : Barrier) → Stops b → barrier s i ≡ b → s .scenes ≡ act (still s) i .state .scenes
+  unfolding act
+  barred-keeps b stops bars = rw bars (kept b stops)
+
+  -- the parameters stay in any case, and one record is written at most
+  pub acting-keeps : (act (still s) i .state .params ≡ s .params) × (length (act (still s) i .records) ≤ 1)
+  unfolding act
+  acting-keeps = go (barrier s i)
+    where
+      go : (b : Barrier) → (meet b (still s) i .state .params ≡ s .params) × (length (meet b (still s) i .records) ≤ 1)
+      go Open = unfold meet taken in (order-keeps s i .params, one-record-at-most (kind i) s (order s i))
+      go NoPower = unfold meet in (refl, omega arith)
+      go NoBus = unfold meet in (refl, omega arith)
+      go Locked = unfold meet in (refl, omega arith)
+      go Forced = unfold meet in (refl, omega arith)
+
+-- ---- the whole step
+
+module _ (s : State) (i : Input) (t : ℕ) where
+  -- what acts after the move, as the code has it
+  abbrev later : Stepped
+  later = act (still (clockMove s t .state)) i
+
+  split : (step s i t .state ≡ later .state) × (step s i t .answer ≡ later .answer) × (step s i t .records ≡ clockMove s t .records ++ later .records)
+  unfolding step
+  split =
+      let e = acts-after-the-move (clockMove s t) i in
+      (ap (λ (x : Played). x .state) e, ap (λ (x : Played). head (x .answers)) e, ap (λ (x : Played). x .records) e)
+    where
+      head : List ℕ → ℕ
+      head [] = 0
+      head (a ∷ later) = a
+
+  whole : record { state = stateOf (s .params) (later .state .scenes) (lampOf (later .state)); answer = later .answer; notes = added (notes (clockMove s t .records)) (firstOf (later .records)) } ≡ acted (step s i t)
+  unfolding acted
+  whole =
+      let e = split in
+      let k = acting-keeps (clockMove s t .state) i in
+      rw (e .0, e .1, e .2, added-first (clockMove s t .records) (later .records) (a-move-writes-at-most-two s t) (k .1), joined (later .state) (s .params) (later .state .scenes) (k .0 ∙ ap (λ (u : State). u .params) (move-keeps s t)) refl) refl
+
+  pub step-by-parts : (m : Ticked) (d : Done) (table : List Scene) → m ≡ ticked (clockMove s t) → d ≡ done (act (still (stateOf (s .params) (s .scenes) (m .lamp))) i)
+      → table ≡ act (still (stateOf (s .params) (s .scenes) (m .lamp))) i .state .scenes
+      → record { state = stateOf (s .params) table (d .lamp); answer = d .answer; notes = added (m .notes) (d .note) } ≡ acted (step s i t)
+  unfolding ticked done
+  step-by-parts m d table e f g = rw (g, f, e, move-joined (s .params) (s .scenes) (lampOf s) t) whole

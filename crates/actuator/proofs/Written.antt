@@ -10,7 +10,7 @@ use Rattle.rules.specs.declared.record.Record.{Record}
 use Rattle.rules.specs.Status.{sameStatus, recordOf, written, byItself}
 use Rattle.rules.specs.Calls.{places}
 use Rattle.rules.proofs.Records.{one-record-at-most}
-use Rattle.actuator.specs.Notes.{notes, noNotes, noteOf, added}
+use Rattle.actuator.specs.Notes.{notes, noNotes, noteOf, added, firstOf}
 use Rattle.actuator.specs.declared.notes.Note.the-variants.{Silent, Wrote}
 
 wrote : (l : List Record) (r : Record) → length l ≤ 2 → added (notes l) (Wrote r) ≡ notes (l ++ (r ∷ []))
@@ -23,6 +23,12 @@ wrote (a ∷ b ∷ c ∷ l) r room = absurd (omega arith)
 silent : (l : List Record) → added (notes l) Silent ≡ notes (l ++ [])
 unfolding added
 silent l = rw (append-nil l)
+
+-- one record at most, at the end
+pub added-first : (l d : List Record) → length l ≤ 2 → length d ≤ 1 → added (notes l) (firstOf d) ≡ notes (l ++ d)
+added-first l [] room few = silent l
+added-first l (r ∷ []) room few = wrote l r room
+added-first l (r ∷ q ∷ d) room few = absurd (omega arith)
 
 pub added-written : (l : List Record) (cause : ℕ) (before after : State) → length l ≤ 2 → added (notes l) (noteOf cause before after) ≡ notes (l ++ written cause before after)
 unfolding noteOf written

@@ -3,7 +3,9 @@ ghost use mathlib.Core.Path.{_≡_};
 ghost use Prim.Native.Nat.{_≤_};
 ghost use Rattle.rules.specs.Inputs.{kind};
 ghost use Rattle.rules.specs.Barriers.{rowOf, powerDown, busDown, firstBarrier, barrier};
-use orders::state::stands;
+ghost use Rattle.orders.specs.Lamps.{alone};
+use orders::lamp::Lamp;
+use orders::lamp::stands;
 use phases::logic::both;
 use rules::barrier::Barrier;
 use rules::barrier::Row;
@@ -11,7 +13,6 @@ use rules::input::Event;
 use rules::input::Force;
 use rules::input::Input;
 use rules::state::Link;
-use rules::state::State;
 
 // What stops each kind, from 1 SwitchOnOff to 8 power: power down, bus down, lock, force.
 const ROWS: [Row; 8] = [
@@ -87,11 +88,11 @@ fn first_barrier(row: Row, link: Link, lock: bool, force: Force) -> Barrier
     Barrier::Open
 }
 
-// The first barrier that an input meets in a state.
-pub fn barrier_to(s: State, i: Input) -> Barrier
-    ensures { λ r. ⌜ r ≡ barrier s i ⌝ }
+// The first barrier that an input meets.
+pub fn barrier_to(l: Lamp, i: Input) -> Barrier
+    ensures { λ r. ⌜ r ≡ barrier (alone l) i ⌝ }
 {
-    let link = s.link;
-    let force = s.force;
-    first_barrier(row_of(kind_of(i)), link, s.lock, force)
+    let link = l.link;
+    let force = l.force;
+    first_barrier(row_of(kind_of(i)), link, l.lock, force)
 }

@@ -1,11 +1,12 @@
 // The records of one call, by value: at most three, the unused ones 0.
 ghost use mathlib.Core.Path.{_≡_};
 ghost use Prim.Native.Nat.{_≤_};
+ghost use Rattle.orders.specs.Lamps.{alone};
 ghost use Rattle.actuator.specs.Notes.{noteOf, added, noNotes};
 use crate::status::record_of;
 use crate::status::same_status;
+use orders::lamp::Lamp;
 use rules::record::Record;
-use rules::state::State;
 
 pub struct Notes {
     pub count: u8,
@@ -34,8 +35,8 @@ pub fn none() -> Notes
 }
 
 // The record of a change, where value or attributes changed.
-pub fn noted(cause: u8, before: State, after: State) -> Note
-    ensures { λ r. ⌜ r ≡ noteOf cause before after ⌝ }
+pub fn noted(cause: u8, before: Lamp, after: Lamp) -> Note
+    ensures { λ r. ⌜ r ≡ noteOf cause (alone before) (alone after) ⌝ }
 {
     if same_status(before, after) {
         Note::Silent

@@ -1,14 +1,15 @@
 // Whether anything but the clock differs between two states.
 ghost use mathlib.Core.Path.{_≡_};
 ghost use mathlib.Core.Bool.{_&&_};
-ghost use Rattle.rules.specs.Answers.{phaseNumber, due, samePhase, forceNumber, linkNumber, sameScene, sameScenes, sameFlags, sameButClock};
+ghost use Rattle.orders.specs.Lamps.{alone};
+ghost use Rattle.rules.specs.Answers.{phaseNumber, due, samePhase, forceNumber, linkNumber, sameScene, sameScenes, sameFlags};
+use orders::lamp::Lamp;
 use phases::logic::alike;
 use phases::logic::both;
 use rules::input::Force;
 use rules::parameters::Scene;
 use rules::phase::Phase;
 use rules::state::Link;
-use rules::state::State;
 
 fn phase_number(phase: Phase) -> u8
     ensures { λ r. ⌜ r ≡ phaseNumber phase ⌝ }
@@ -71,7 +72,7 @@ fn same_scene(a: Scene, b: Scene) -> bool
     both(both(n, alike(a.value, b.value)), alike(a.taught, b.taught))
 }
 
-fn same_scenes(a: [Scene; 8], b: [Scene; 8]) -> bool
+pub fn same_scenes(a: [Scene; 8], b: [Scene; 8]) -> bool
     ensures { λ r. ⌜ r ≡ sameScenes a b ⌝ }
 {
     let mut i: usize = 0;
@@ -87,8 +88,8 @@ fn same_scenes(a: [Scene; 8], b: [Scene; 8]) -> bool
     true
 }
 
-fn same_flags(a: State, b: State) -> bool
-    ensures { λ r. ⌜ r ≡ sameFlags a b ⌝ }
+fn same_flags(a: Lamp, b: Lamp) -> bool
+    ensures { λ r. ⌜ r ≡ sameFlags (alone a) (alone b) ⌝ }
 {
     let f = a.force;
     let g = b.force;
@@ -109,27 +110,11 @@ fn same_flags(a: State, b: State) -> bool
     )
 }
 
-// Phase and flags are the same: all that an input of another kind than a scene can change.
-fn same_standing(a: State, b: State) -> bool
-    ensures { λ r. ⌜ r ≡ (samePhase (a .phase) (b .phase) && sameFlags a b) ⌝ }
+// Nothing but the clock differs between two lamps.
+pub fn same_lamp(a: Lamp, b: Lamp) -> bool
+    ensures { λ r. ⌜ r ≡ (samePhase (a .phase) (b .phase) && sameFlags (alone a) (alone b)) ⌝ }
 {
     let p = a.phase;
     let q = b.phase;
     both(same_phase(p, q), same_flags(a, b))
-}
-
-// Nothing but the clock differs after an input of this kind. Only a scene input, kind 3, can write the scene table, so no
-// other kind pays for comparing it.
-pub fn same_but_clock(kind: u8, a: State, b: State) -> bool
-    requires { ⌜ ((kind ≡ 3 → ⊥) → b .scenes ≡ a .scenes) ⌝ }
-    ensures { λ r. ⌜ r ≡ sameButClock a b ⌝ }
-{
-    let standing = same_standing(a, b);
-    let k = a.scenes;
-    let j = b.scenes;
-    if kind == 3 {
-        both(standing, same_scenes(k, j))
-    } else {
-        standing
-    }
 }

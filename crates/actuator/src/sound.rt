@@ -8,7 +8,7 @@ ghost use mathlib.Core.Bool.{_&&_, _||_};
 ghost use lib.Dec.{eqb};
 ghost use lib.ListN.{drop};
 use crate::barrier::power_is_down;
-use orders::state::stands;
+use orders::lamp::stands;
 use phases::logic::both;
 use phases::logic::either;
 use phases::logic::negated;

@@ -1,9 +1,11 @@
 // The two status octets and the record that shows them.
 ghost use mathlib.Core.Path.{_≡_};
 ghost use Prim.Native.Nat.{_≤_};
+ghost use Rattle.orders.specs.Lamps.{alone};
 ghost use Rattle.rules.specs.Status.{value, bit, attributes, recordOf, sameStatus};
 use crate::barrier::power_is_down;
-use orders::state::stands;
+use orders::lamp::Lamp;
+use orders::lamp::stands;
 use phases::logic::both;
 use phases::logic::negated;
 use phases::phase::output_of;
@@ -12,12 +14,11 @@ use rules::input::Force;
 use rules::phase::Phase;
 use rules::record::Record;
 use rules::state::Link;
-use rules::state::State;
 
-pub fn value_of(s: State) -> u8
-    ensures { λ r. ⌜ r ≡ value s ⌝ }
+pub fn value_of(l: Lamp) -> u8
+    ensures { λ r. ⌜ r ≡ value (alone l) ⌝ }
 {
-    let ph = s.phase;
+    let ph = l.phase;
     if output_of(ph) { 255 } else { 0 }
 }
 
@@ -27,32 +28,32 @@ fn bit_of(set: bool, weight: u8) -> u8
     if set { weight } else { 0 }
 }
 
-pub fn attributes_of(s: State) -> u8
-    ensures { λ r. ⌜ r ≡ attributes s ⌝ }
+pub fn attributes_of(l: Lamp) -> u8
+    ensures { λ r. ⌜ r ≡ attributes (alone l) ⌝ }
 {
-    let link = s.link;
-    let force = s.force;
-    let ph = s.phase;
+    let link = l.link;
+    let force = l.force;
+    let ph = l.phase;
     bit_of(negated(power_is_down(link)), 1)
-        + bit_of(s.lock, 2)
+        + bit_of(l.lock, 2)
         + bit_of(stands(force), 4)
-        + bit_of(s.night, 8)
+        + bit_of(l.night, 8)
         + bit_of(staircase_of(ph), 16)
 }
 
-pub fn record_of(cause: u8, s: State) -> Record
-    ensures { λ r. ⌜ r ≡ recordOf cause s ⌝ }
+pub fn record_of(cause: u8, l: Lamp) -> Record
+    ensures { λ r. ⌜ r ≡ recordOf cause (alone l) ⌝ }
 {
     Record {
-        stamp: s.clock,
-        value: value_of(s),
-        attributes: attributes_of(s),
+        stamp: l.clock,
+        value: value_of(l),
+        attributes: attributes_of(l),
         cause,
     }
 }
 
-pub fn same_status(before: State, after: State) -> bool
-    ensures { λ r. ⌜ r ≡ sameStatus before after ⌝ }
+pub fn same_status(before: Lamp, after: Lamp) -> bool
+    ensures { λ r. ⌜ r ≡ sameStatus (alone before) (alone after) ⌝ }
 {
     let v = value_of(before) == value_of(after);
     let a = attributes_of(before) == attributes_of(after);

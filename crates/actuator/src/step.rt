@@ -2,27 +2,46 @@
 ghost use mathlib.Core.Path.{_≡_};
 ghost use mathlib.Core.Bool.{true};
 ghost use Prim.Native.Nat.{_≤_};
-ghost use Rattle.rules.specs.Answers.{answer};
+ghost use Rattle.rules.specs.Answers.{answer, sameScenes};
 ghost use Rattle.rules.specs.Orders.{order};
-ghost use Rattle.rules.specs.Steps.{step};
+ghost use Rattle.rules.specs.Steps.{act, step};
 ghost use Rattle.rules.specs.Soundness.{sound};
+ghost use Rattle.rules.proofs.Plays.{still};
 ghost use Rattle.phases.specs.Room.{Roomy};
-ghost use Rattle.actuator.specs.Notes.{acted, takenBy, stoppedBy};
+ghost use Rattle.orders.specs.Lamps.{stateOf, alone};
+ghost use Rattle.actuator.specs.Notes.{doneBy, stoppedBy, done, acted};
 use crate::barrier::barrier_to;
 use crate::barrier::kind_of;
-use crate::clock;
-use crate::clock::Clocked;
+use crate::clock::Ticked;
+use crate::clock::move_lamp;
 use crate::notes;
+use crate::notes::Note;
 use crate::notes::Notes;
-use crate::same::same_but_clock;
+use crate::same::same_lamp;
+use crate::same::same_scenes;
+use orders::lamp;
+use orders::lamp::Lamp;
 use orders::order::carry_out;
+use orders::order::is_lesson;
+use orders::order::table_after;
+use phases::logic::both;
 use rules::barrier::Barrier;
 use rules::input::Event;
 use rules::input::Force;
 use rules::input::Input;
+use rules::parameters::Params;
+use rules::parameters::Scene;
+use rules::record::Record;
 use rules::state::State;
 
-// What an input came to.
+// What an input does at the moved clock, but for the scene table.
+pub struct Done {
+    pub lamp: Lamp,
+    pub answer: u8,
+    pub note: Note,
+}
+
+// What an input came to, by value.
 pub struct Acted {
     pub state: State,
     pub answer: u8,
@@ -42,49 +61,89 @@ fn answer_number(b: Barrier, same: bool) -> u8
     }
 }
 
-// An input that nothing stops, at the moved clock.
-fn take(m: Clocked, i: Input) -> Acted
-    requires { ⌜ Roomy (m .state .params) (m .state .clock) (m .state .phase) × (m .notes .count ≤ 2) ⌝ }
-    ensures { λ r. ⌜ r ≡ takenBy m i (order (m .state) i) ⌝ }
+// Whether an input leaves the scene table as it is. Only a lesson can change it, so no other input pays for comparing it.
+fn same_table(p: Params, k: [Scene; 8], l: Lamp, i: Input) -> bool
+    ensures { λ r. ⌜ r ≡ sameScenes k (order (stateOf p k l) i .scenes) ⌝ }
 {
-    let s = m.state;
-    let n = m.notes;
-    let after = carry_out(s, i);
-    let kind = kind_of(i);
-    let same = same_but_clock(kind, s, after);
-    let written = notes::add(n, notes::noted(kind, s, after));
-    Acted {
-        state: after,
+    if is_lesson(i) {
+        same_scenes(k, table_after(p, k, l, i))
+    } else {
+        true
+    }
+}
+
+// An input that nothing stops.
+fn take(p: Params, k: [Scene; 8], l: Lamp, i: Input) -> Done
+    requires { ⌜ Roomy p (l .clock) (l .phase) ⌝ }
+    ensures { λ r. ⌜ r ≡ doneBy (stateOf p k l) i (order (stateOf p k l) i) ⌝ }
+{
+    let after = carry_out(p, k, l, i);
+    let same = both(same_lamp(l, after), same_table(p, k, l, i));
+    let note = notes::noted(kind_of(i), l, after);
+    Done {
+        lamp: after,
         answer: answer_number(Barrier::Open, same),
-        notes: written,
+        note,
     }
 }
 
 // An input that a barrier stops: it leaves what the clock move left.
-fn stop(m: Clocked, b: Barrier) -> Acted
-    ensures { λ r. ⌜ r ≡ stoppedBy m b ⌝ }
+fn stop(l: Lamp, b: Barrier) -> Done
+    ensures { λ r. ⌜ r ≡ stoppedBy (alone l) b ⌝ }
 {
-    let s = m.state;
-    let n = m.notes;
-    Acted {
-        state: s,
+    Done {
+        lamp: l,
         answer: answer_number(b, true),
-        notes: n,
+        note: Note::Silent,
     }
 }
 
+// An input at the moved clock.
+pub fn act_on(p: Params, k: [Scene; 8], l: Lamp, i: Input) -> Done
+    requires { ⌜ Roomy p (l .clock) (l .phase) ⌝ }
+    ensures { λ r. ⌜ r ≡ done (act (still (stateOf p k l)) i) ⌝ }
+{
+    let b = barrier_to(l, i);
+    match b {
+        Barrier::Open => take(p, k, l, i),
+        Barrier::NoPower => stop(l, b),
+        Barrier::NoBus => stop(l, b),
+        Barrier::Locked => stop(l, b),
+        Barrier::Forced => stop(l, b),
+    }
+}
+
+// The scene table that an input at the moved clock leaves.
+pub fn scenes_left(p: Params, k: [Scene; 8], l: Lamp, i: Input) -> [Scene; 8]
+    ensures { λ r. ⌜ r ≡ act (still (stateOf p k l)) i .state .scenes ⌝ }
+{
+    let b = barrier_to(l, i);
+    match b {
+        Barrier::Open => table_after(p, k, l, i),
+        Barrier::NoPower => k,
+        Barrier::NoBus => k,
+        Barrier::Locked => k,
+        Barrier::Forced => k,
+    }
+}
+
+// An input to a whole state, by value.
 pub fn step_input(s: State, i: Input, t: u32) -> Acted
     requires { ⌜ (sound s ≡ true) × (s .clock ≤ t) × (t ≤ 864000) ⌝ }
     ensures { λ r. ⌜ r ≡ acted (step s i t) ⌝ }
 {
-    let m = clock::move_clock(s, t);
-    let moved = m.state;
-    let b = barrier_to(moved, i);
-    match b {
-        Barrier::Open => take(m, i),
-        Barrier::NoPower => stop(m, b),
-        Barrier::NoBus => stop(m, b),
-        Barrier::Locked => stop(m, b),
-        Barrier::Forced => stop(m, b),
+    let p = s.params;
+    let k = s.scenes;
+    let m = move_lamp(p, lamp::lamp_of(s), t);
+    let moved = m.lamp;
+    let timers = m.notes;
+    let d = act_on(p, k, moved, i);
+    let after = d.lamp;
+    let note = d.note;
+    let table = scenes_left(p, k, moved, i);
+    Acted {
+        state: lamp::state_of(p, table, after),
+        answer: d.answer,
+        notes: notes::add(timers, note),
     }
 }

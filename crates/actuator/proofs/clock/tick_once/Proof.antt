@@ -1,36 +1,38 @@
-use mathlib.Core.Path.{sym, _∙_}
-use native.Mathlib.Omega.{arith}
-use borrow.Author.Needs.{needs}
-use Rattle.rules.proofs.Ticks.{tick-rests}
-use Rattle.rules.proofs.Timers.{each-timer-at-its-own-moment}
 use Rattle.actuator.proofs.Rooms.{due-room}
+use Rattle.rules.proofs.Timers.{each-timer-at-its-own-moment}
+use Rattle.rules.proofs.Ticks.{tick-rests}
+use Rattle.orders.specs.Lamps.{lampOf, stateOf}
+use Rattle.rules.specs.declared.state.State.{State}
+use native.Mathlib.Omega.{arith}
+use mathlib.Core.Path.{sym, _∙_, ap}
+use borrow.Author.Needs.{needs}
 use Rattle.actuator.proofs.clock.tick_once.Statement.{statement}
 use Rattle.actuator.proofs.clock.tick_once.Tie as tie
 
 at-deadline-requires : tie.Need-at-deadline-requires
 at-deadline-requires c κs =
-    let a = c .before .before .before .before .before .before in
+    let a = c .before .before .before .before .before in
     let due = sym (c .before .before .before .before .deadline-of .ensures) ∙ c .before .before .deadline .given .1 in
-    due-room (a .args .s .params) (a .args .s .phase) (a .args .t) _ due (omega (arith, c .if1 .taken)) (a .pre)
+    due-room (a .args .p) (a .args .l .phase) (a .args .t) _ due (omega (arith, c .if1 .taken)) (a .pre)
 
 returns : tie.Need-returns
-returns c =
-    let a = c .before .before .before .before .args in
+returns c = λ k.
+    let a = c .before .before .before .args in
     let never = sym (c .before .before .deadline-of .ensures) ∙ c .enum-told .given .1 in
-    sym (tick-rests (a .s) (a .t) (rw never tt))
+    ap (λ (u : State). lampOf u) (sym (tick-rests (stateOf (a .p) k (a .l)) (a .t) (rw never tt)))
 
 returns-2 : tie.Need-returns-2
-returns-2 c =
-    let a = c .before .before .before .before .before .before .before .before .args in
+returns-2 c = λ k.
+    let a = c .before .before .before .before .before .before .before .args in
     let due = sym (c .before .before .before .before .before .before .deadline-of .ensures) ∙ c .before .before .before .before .deadline .given .1 in
-    let fires = each-timer-at-its-own-moment (a .s) (a .t) _ due (omega (arith, c .before .before .if1 .taken)) in
-    simp (c .at-moment .ensures, c .before .at-deadline .ensures) (sym fires)
+    let fires = each-timer-at-its-own-moment (stateOf (a .p) k (a .l)) (a .t) _ due (omega (arith, c .before .before .if1 .taken)) in
+    simp (c .at-moment .ensures, c .before .at-deadline .ensures) (ap (λ (u : State). lampOf u) (sym fires))
 
 returns-3 : tie.Need-returns-3
-returns-3 c =
-    let a = c .before .before .before .before .before .before .args in
+returns-3 c = λ k.
+    let a = c .before .before .before .before .before .args in
     let due = sym (c .before .before .before .before .deadline-of .ensures) ∙ c .before .before .deadline .given .1 in
-    sym (tick-rests (a .s) (a .t) (rw due (omega (arith, c .if1 .left))))
+    ap (λ (u : State). lampOf u) (sym (tick-rests (stateOf (a .p) k (a .l)) (a .t) (rw due (omega (arith, c .if1 .left)))))
 
 pub tick-once-spec : {M : Type 1} → statement M
 tick-once-spec =
