@@ -3,6 +3,7 @@ ghost use mathlib.Core.Path.{_≡_};
 ghost use Prim.Native.Nat.{_+_, _≤_};
 ghost use lib.ListN.{length};
 ghost use Rattle.rules.specs.Inputs.{zeroOrOne, sceneMeant, forceMeant, decoded, stampAt, inputAt};
+ghost use Rattle.decode.specs.Meaning.{isMeant};
 use octets::read32;
 use phases::logic::both;
 use rules::input::Decoded;
@@ -118,5 +119,37 @@ pub fn input_at(octets: &[u8], at: usize) -> Decoded
         decode_input(octets[at + 4], octets[at + 5])
     } else {
         Decoded::Wrong
+    }
+}
+
+// Whether a kind and a value mean an input. Every kind takes 0 and 1; only a scene and a force take more.
+fn is_known(kind: u8, value: u8) -> bool
+    ensures { λ r. ⌜ r ≡ isMeant (decoded kind value) ⌝ }
+{
+    if value <= 1 {
+        match kind {
+            1..=8 => true,
+            _ => false,
+        }
+    } else {
+        match kind {
+            3 => value / 64 % 2 == 0,
+            4 => value <= 3,
+            _ => false,
+        }
+    }
+}
+
+// Whether an input starts at a place: what `input_at` would say, and nothing is built.
+pub fn is_input_at(octets: &[u8], at: usize) -> bool
+    requires { ⌜ at + 8 ≤ length (now octets) ⌝ }
+    ensures { λ r. ⌜ r ≡ isMeant (inputAt (now (octets .entry)) at) ⌝ }
+{
+    let first = octets[at + 6] == 0;
+    let second = octets[at + 7] == 0;
+    if both(first, second) {
+        is_known(octets[at + 4], octets[at + 5])
+    } else {
+        false
     }
 }
