@@ -25,16 +25,16 @@ above-none octets number left none = rw none
 
 -- ---- the flags of an entry whose number is in range
 
-some : (n : ℕ) → ltb 0 n ≡ not (eqb n 0)
-some zero = refl
-some (suc n) = lt-ltb 0 (suc n) (omega arith) ∙ sym (ap not (ne-eqb (suc n) 0 (λ e. omega arith)))
+above-zero : (n : ℕ) → ltb 0 n ≡ not (eqb n 0)
+above-zero zero = refl
+above-zero (suc n) = lt-ltb 0 (suc n) (omega arith) ∙ sym (ap not (ne-eqb (suc n) 0 (λ e. omega arith)))
 
 flags-of : (number flags : ℕ) (above : Bool) → cond (leb number 63) above (not (eqb number 255)) ≡ false → ltb (cond (leb number 63) 3 0) flags ≡ cond (eqb number 255) (not (eqb flags 0)) (ltb 3 flags)
 flags-of number flags above h = go (leb number 63) refl
   where
     go : (b : Bool) → leb number 63 ≡ b → ltb (cond (leb number 63) 3 0) flags ≡ cond (eqb number 255) (not (eqb flags 0)) (ltb 3 flags)
     go true used = simp (used, ne-eqb number 255 (λ e. omega (arith, leb-true number 63 used)))
-    go false other = simp (other, not-false (eqb number 255) (rw other at h), some flags)
+    go false other = simp (other, not-false (eqb number 255) (rw other at h), above-zero flags)
 
 pub flags-known : (octets : List ℕ) (entry : ℕ) → badNumber octets entry ≡ false → ltb (cond (leb (octet octets (16 + 2 * entry)) 63) 3 0) (octet octets (17 + 2 * entry)) ≡ badFlags octets entry
 unfolding badNumber badFlags

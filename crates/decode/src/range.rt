@@ -80,7 +80,7 @@ fn bad_at(at: usize) -> Check
 }
 
 // From octet 16 on: the eight scene entries, each its number and then its flags.
-fn lowest_bad_scene(octets: &[u8]) -> Check
+fn lowest_bad_from_scenes(octets: &[u8]) -> Check
     requires { ⌜ length (now octets) ≡ 32 ⌝ }
     ensures { λ r. ⌜ r ≡ lowestBad (now (octets .entry)) 16 16 ⌝ }
 {
@@ -98,7 +98,7 @@ fn lowest_bad_scene(octets: &[u8]) -> Check
 }
 
 // From octet 8 on: the modes against the table, then the scenes.
-fn lowest_bad_mode(octets: &[u8]) -> Check
+fn lowest_bad_from_modes(octets: &[u8]) -> Check
     requires { ⌜ length (now octets) ≡ 32 ⌝ }
     ensures { λ r. ⌜ r ≡ lowestBad (now (octets .entry)) 24 8 ⌝ }
 {
@@ -109,7 +109,7 @@ fn lowest_bad_mode(octets: &[u8]) -> Check
         }
         at += 1;
     }
-    lowest_bad_scene(octets)
+    lowest_bad_from_scenes(octets)
 }
 
 // The lowest octet that is out of range. Of the four delays only TimedOn must not be 0; it is then bad at its first octet.
@@ -120,6 +120,6 @@ pub(crate) fn lowest_bad(octets: &[u8]) -> Check
     if read16(octets, 4) == 0 {
         bad_at(4)
     } else {
-        lowest_bad_mode(octets)
+        lowest_bad_from_modes(octets)
     }
 }

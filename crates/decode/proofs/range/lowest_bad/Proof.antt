@@ -9,7 +9,7 @@ returns : tie.Need-returns
 returns c = c .bad-at .ensures ∙ sym (simp (← c .before .before .read16 .ensures .0, eq-eqb _ _ (c .before .if1 .taken)) at (timed-on-decides (c .before .before .before .before .args .octets .now)))
 
 returns-2 : tie.Need-returns-2
-returns-2 c = c .lowest-bad-mode .ensures ∙ sym (simp (← c .before .before .read16 .ensures .0, ne-eqb _ _ (c .before .if1 .left)) at (timed-on-decides (c .before .before .before .before .args .octets .now)))
+returns-2 c = c .lowest-bad-from-modes .ensures ∙ sym (simp (← c .before .before .read16 .ensures .0, ne-eqb _ _ (c .before .if1 .left)) at (timed-on-decides (c .before .before .before .before .args .octets .now)))
 
 pub lowest-bad-spec : {M : Type 1} → statement M
 lowest-bad-spec =

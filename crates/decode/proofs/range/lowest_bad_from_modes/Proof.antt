@@ -5,8 +5,8 @@ use borrow.Author.Tests.{lt-ltb, le-ltb}
 use borrow.Author.Needs.{needs}
 use Rattle.rules.specs.Refusals.{lowestBad}
 use Rattle.decode.proofs.Loops.{mode-step}
-use Rattle.decode.proofs.range.lowest_bad_mode.Statement.{statement}
-use Rattle.decode.proofs.range.lowest_bad_mode.Tie as tie
+use Rattle.decode.proofs.range.lowest_bad_from_modes.Statement.{statement}
+use Rattle.decode.proofs.range.lowest_bad_from_modes.Tie as tie
 
 -- no mode so far is out of range
 abbrev Inv-loop : tie.InvT-loop
@@ -32,10 +32,10 @@ returns-2 : tie.Need-returns-2 Inv-loop μ-loop
 returns-2 c =
     let l = c .before .before .loop in
     let end : l .at ≡ 16 = omega arith in
-    c .lowest-bad-scene .ensures ∙ sym (rw end at (l .inv .2))
+    c .lowest-bad-from-scenes .ensures ∙ sym (rw end at (l .inv .2))
 
-pub lowest-bad-mode-spec : {M : Type 1} → statement M
-lowest-bad-mode-spec =
+pub lowest-bad-from-modes-spec : {M : Type 1} → statement M
+lowest-bad-from-modes-spec =
     tie.close
     (tie.spec
     Inv-loop

@@ -4,8 +4,8 @@ use native.Mathlib.Omega.{arith}
 use borrow.Author.Needs.{needs}
 use Rattle.rules.specs.Refusals.{lowestBad}
 use Rattle.decode.proofs.Loops.{entry-step, entries-end}
-use Rattle.decode.proofs.range.lowest_bad_scene.Statement.{statement}
-use Rattle.decode.proofs.range.lowest_bad_scene.Tie as tie
+use Rattle.decode.proofs.range.lowest_bad_from_scenes.Statement.{statement}
+use Rattle.decode.proofs.range.lowest_bad_from_scenes.Tie as tie
 
 -- no entry so far is out of range
 abbrev Inv-loop : tie.InvT-loop
@@ -40,8 +40,8 @@ returns-3 c =
     let l = c .before .loop in
     sym (l .inv .1 ∙ entries-end _ (l .entry) (omega arith))
 
-pub lowest-bad-scene-spec : {M : Type 1} → statement M
-lowest-bad-scene-spec =
+pub lowest-bad-from-scenes-spec : {M : Type 1} → statement M
+lowest-bad-from-scenes-spec =
     tie.close
     (tie.spec
     Inv-loop
