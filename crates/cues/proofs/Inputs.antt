@@ -1,11 +1,10 @@
 -- One input of a file at a time: what the check's loop needs.
 use Prim.Native.Nat.{ℕ, suc, _+_, _-_, _≤_, _<_}
 use mathlib.Core.Bool.{Bool, true, false, cond, _&&_}
-use mathlib.Core.List.{List, []}
+use mathlib.Core.List.{List}
 use mathlib.Core.Path.{_≡_, refl}
 use native.Mathlib.Omega.{arith}
 use lib.Dec.{leb}
-use Rattle.rules.specs.declared.input.Input.{Input}
 use Rattle.rules.specs.declared.input.Decoded.{Decoded}
 use Rattle.rules.specs.declared.input.Decoded.the-variants.{Meant, Wrong}
 use Rattle.rules.specs.declared.refusal.Refusal.{Refusal}
@@ -15,6 +14,7 @@ use Rattle.rules.specs.declared.refusal.Check.the-variants.{Passed, Refused}
 use Rattle.rules.specs.Inputs.{inputAt, stampAt}
 use Rattle.rules.specs.Lists.{cue}
 use Rattle.rules.specs.Files.{Reading, cues, bad, before, inputPlace, readOne, readInputs}
+use Rattle.decode.specs.Meaning.{isMeant}
 use Rattle.cues.specs.Verdict.{verdict, checkOne}
 
 -- the first of two refusals
@@ -23,36 +23,27 @@ firstOf Passed later = later
 firstOf (Refused why place) later = Refused why place
 
 -- an input decides by itself, or leaves it to those after it
-one-decides : (meant : Decoded) (stamp last end i : ℕ) (later : Reading) → verdict (readOne meant stamp last end i later) ≡ firstOf (checkOne meant stamp last end i) (verdict later)
+one-decides : (meant : Decoded) (stamp last end i : ℕ) (later : Reading) → verdict (readOne meant stamp last end i later) ≡ firstOf (checkOne (isMeant meant) stamp last end i) (verdict later)
 unfolding checkOne readOne
 one-decides Wrong stamp last end i later = refl
 one-decides (Meant x) stamp last end i later = by (leb last stamp && leb stamp end) later
   where
-    by : (b : Bool) (later : Reading) → verdict (cond b (before (cue stamp x) later) (bad BadStamp i)) ≡ firstOf (verdict (cond b (before (cue stamp x) (cues [])) (bad BadStamp i))) (verdict later)
+    by : (b : Bool) (later : Reading) → verdict (cond b (before (cue stamp x) later) (bad BadStamp i)) ≡ firstOf (cond b Passed (Refused BadStamp i)) (verdict later)
     by true (cues list) = refl
     by true (bad why place) = refl
     by false later = refl
-
--- the stamp decides over an input that means something
-pub stamp-decides : (meant : Decoded) (x : Input) (stamp last end i : ℕ) (b : Bool) → meant ≡ Meant x → (leb last stamp && leb stamp end) ≡ b → cond b Passed (Refused BadStamp i) ≡ checkOne meant stamp last end i
-unfolding checkOne readOne
-stamp-decides meant x stamp last end i b m e = rw (m, ← e) (by (leb last stamp && leb stamp end))
-  where
-    by : (b : Bool) → cond b Passed (Refused BadStamp i) ≡ verdict (cond b (before (cue stamp x) (cues [])) (bad BadStamp i))
-    by true = refl
-    by false = refl
 
 pub none-left : (file : List ℕ) (n i last end : ℕ) → n ≤ i → verdict (readInputs file (n - i) i last end) ≡ Passed
 unfolding readInputs
 none-left file n i last end h = let e : n - i ≡ 0 = omega arith in rw e
 
 module _ (file : List ℕ) (n i last end : ℕ) (more : i < n) where
-  one-left : verdict (readInputs file (n - i) i last end) ≡ firstOf (checkOne (inputAt file (inputPlace i)) (stampAt file (inputPlace i)) last end i) (verdict (readInputs file (n - (i + 1)) (i + 1) (stampAt file (inputPlace i)) end))
+  one-left : verdict (readInputs file (n - i) i last end) ≡ firstOf (checkOne (isMeant (inputAt file (inputPlace i))) (stampAt file (inputPlace i)) last end i) (verdict (readInputs file (n - (i + 1)) (i + 1) (stampAt file (inputPlace i)) end))
   unfolding readInputs
   one-left = let e : n - i ≡ suc (n - (i + 1)) = omega arith in rw e (one-decides _ _ _ _ _ _)
 
-  pub good-goes-on : checkOne (inputAt file (inputPlace i)) (stampAt file (inputPlace i)) last end i ≡ Passed → verdict (readInputs file (n - i) i last end) ≡ verdict (readInputs file (n - (i + 1)) (i + 1) (stampAt file (inputPlace i)) end)
+  pub good-goes-on : checkOne (isMeant (inputAt file (inputPlace i))) (stampAt file (inputPlace i)) last end i ≡ Passed → verdict (readInputs file (n - i) i last end) ≡ verdict (readInputs file (n - (i + 1)) (i + 1) (stampAt file (inputPlace i)) end)
   good-goes-on h = simp h at one-left
 
-  pub bad-ends : (why : Refusal) (place : ℕ) → checkOne (inputAt file (inputPlace i)) (stampAt file (inputPlace i)) last end i ≡ Refused why place → verdict (readInputs file (n - i) i last end) ≡ Refused why place
+  pub bad-ends : (why : Refusal) (place : ℕ) → checkOne (isMeant (inputAt file (inputPlace i))) (stampAt file (inputPlace i)) last end i ≡ Refused why place → verdict (readInputs file (n - i) i last end) ≡ Refused why place
   bad-ends why place h = simp h at one-left

@@ -11,14 +11,10 @@ use crate::header::end_time;
 use crate::header::input_count;
 use crate::header::layout_is_right;
 use crate::header::version_of;
-use decode::input::input_at;
+use decode::input::is_input_at;
 use decode::input::stamp_at;
 use decode::parameters::check_parameters;
 use phases::logic::both;
-use rules::input::Decoded;
-use rules::input::Event;
-use rules::input::Force;
-use rules::input::Input;
 use rules::refusal::Check;
 use rules::refusal::Refusal;
 
@@ -30,27 +26,26 @@ fn check_parameters_in(file: &[u8]) -> Check
     check_parameters(&file[20..52])
 }
 
-// Input i alone: 6 before 7.
-fn check_one(meant: Decoded, stamp: u32, last: u32, end: u32, i: u32) -> Check
+// Input i alone, known to mean something or not: 6 before 7.
+fn check_one(known: bool, stamp: u32, last: u32, end: u32, i: u32) -> Check
     requires { ⌜ i ≤ 2048 ⌝ }
-    ensures { λ r. ⌜ r ≡ checkOne meant stamp last end i ⌝ }
+    ensures { λ r. ⌜ r ≡ checkOne known stamp last end i ⌝ }
 {
-    match meant {
-        Decoded::Wrong => Check::Refused {
+    if known {
+        let risen = last <= stamp;
+        let timely = stamp <= end;
+        if both(risen, timely) {
+            Check::Passed
+        } else {
+            Check::Refused {
+                why: Refusal::BadStamp,
+                place: i as u16,
+            }
+        }
+    } else {
+        Check::Refused {
             why: Refusal::BadInput,
             place: i as u16,
-        },
-        Decoded::Meant(_) => {
-            let risen = last <= stamp;
-            let timely = stamp <= end;
-            if both(risen, timely) {
-                Check::Passed
-            } else {
-                Check::Refused {
-                    why: Refusal::BadStamp,
-                    place: i as u16,
-                }
-            }
         }
     }
 }
@@ -65,7 +60,7 @@ fn check_inputs(file: &[u8], n: u32, end: u32) -> Check
     while i < n {
         let at = 52 + 8 * (i as usize);
         let stamp = stamp_at(file, at);
-        let one = check_one(input_at(file, at), stamp, last, end, i);
+        let one = check_one(is_input_at(file, at), stamp, last, end, i);
         match one {
             Check::Passed => {
                 last = stamp;

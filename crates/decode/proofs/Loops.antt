@@ -1,14 +1,16 @@
 -- The loops over the octets of the parameters, one turn at a time.
-use Prim.Native.Nat.{ℕ, zero, suc, _+_, _-_, _*_, _≤_, _<_}
-use mathlib.Core.Bool.{false, cond, _||_}
+use Prim.Native.Nat.{ℕ, zero, suc, _+_, _-_, _*_, _/_, _%_, _≤_, _<_}
+use mathlib.Core.Bool.{Bool, true, false, cond, not, _||_}
 use mathlib.Core.List.{List}
-use mathlib.Core.Path.{_≡_}
+use mathlib.Core.Path.{_≡_, refl, sym, ap, _∙_}
 use native.Mathlib.Omega.{arith}
-use lib.Dec.{eqb}
-use Rattle.octets.specs.BigEndian.{octet}
+use lib.ListN.{getD}
+use lib.Dec.{eqb, leb, ltb}
+use borrow.Author.Tests.{eq-eqb, ne-eqb, lt-ltb, le-ltb, leb-true, not-false}
+use Rattle.octets.specs.BigEndian.{octet, be16}
 use Rattle.rules.specs.declared.refusal.Refusal.the-variants.{BadParameter}
 use Rattle.rules.specs.declared.refusal.Check.the-variants.{Passed, Refused}
-use Rattle.rules.specs.Parameters.{numberAbove, badOctet}
+use Rattle.rules.specs.Parameters.{greatest, numberAbove, badNumber, badFlags, badOctet}
 use Rattle.rules.specs.Refusals.{lowestBad}
 
 -- from the last of the first entries up
@@ -21,11 +23,62 @@ pub above-none : (octets : List ℕ) (number left : ℕ) → left ≡ 0 → numb
 unfolding numberAbove
 above-none octets number left none = rw none
 
--- from a place to the next
-pub lowest-step : (octets : List ℕ) (at : ℕ) → at < 32 → lowestBad octets (32 - at) at ≡ cond (badOctet octets at) (Refused BadParameter at) (lowestBad octets (32 - (at + 1)) (at + 1))
-unfolding lowestBad
-lowest-step octets at within = let left : 32 - at ≡ suc (32 - (at + 1)) = omega arith in rw left
+-- ---- the flags of an entry whose number is in range
 
-pub lowest-none : (octets : List ℕ) (at : ℕ) → 32 ≤ at → lowestBad octets (32 - at) at ≡ Passed
+above-zero : (n : ℕ) → ltb 0 n ≡ not (eqb n 0)
+above-zero zero = refl
+above-zero (suc n) = lt-ltb 0 (suc n) (omega arith) ∙ sym (ap not (ne-eqb (suc n) 0 (λ e. omega arith)))
+
+flags-of : (number flags : ℕ) (above : Bool) → cond (leb number 63) above (not (eqb number 255)) ≡ false → ltb (cond (leb number 63) 3 0) flags ≡ cond (eqb number 255) (not (eqb flags 0)) (ltb 3 flags)
+flags-of number flags above h = go (leb number 63) refl
+  where
+    go : (b : Bool) → leb number 63 ≡ b → ltb (cond (leb number 63) 3 0) flags ≡ cond (eqb number 255) (not (eqb flags 0)) (ltb 3 flags)
+    go true used = simp (used, ne-eqb number 255 (λ e. omega (arith, leb-true number 63 used)))
+    go false other = simp (other, not-false (eqb number 255) (rw other at h), above-zero flags)
+
+pub flags-known : (octets : List ℕ) (entry : ℕ) → badNumber octets entry ≡ false → ltb (cond (leb (octet octets (16 + 2 * entry)) 63) 3 0) (octet octets (17 + 2 * entry)) ≡ badFlags octets entry
+unfolding badNumber badFlags
+flags-known octets entry right = flags-of (octet octets (16 + 2 * entry)) (octet octets (17 + 2 * entry)) _ right
+
+-- ---- from the lowest octet up
+
+-- of the delays only TimedOn can be bad
+pub timed-on-decides : (octets : List ℕ) → lowestBad octets 32 0 ≡ cond (eqb (be16 octets 4) 0) (Refused BadParameter 4) (lowestBad octets 24 8)
+unfolding lowestBad badOctet
+timed-on-decides octets = refl
+
+-- a mode against the table
+mode-octet : (octets : List ℕ) (at : ℕ) → 8 ≤ at → at < 16 → badOctet octets at ≡ ltb (getD greatest (at - 8) 0) (octet octets at)
+unfolding badOctet
+mode-octet octets at from to = simp (le-ltb at 8 from, lt-ltb at 16 to)
+
+pub mode-step : (octets : List ℕ) (at : ℕ) → 8 ≤ at → at < 16 → lowestBad octets (32 - at) at ≡ cond (ltb (getD greatest (at - 8) 0) (octet octets at)) (Refused BadParameter at) (lowestBad octets (32 - (at + 1)) (at + 1))
 unfolding lowestBad
-lowest-none octets at past = let left : 32 - at ≡ 0 = omega arith in rw left
+mode-step octets at from to =
+    let left : 32 - at ≡ suc (32 - (at + 1)) = omega arith in
+    rw (left, mode-octet octets at from to)
+
+-- a scene entry: its number, then its flags
+number-octet : (octets : List ℕ) (entry : ℕ) → badOctet octets (16 + 2 * entry) ≡ badNumber octets entry
+unfolding badOctet
+number-octet octets entry =
+    let half : (16 + 2 * entry - 16) / 2 ≡ entry = omega arith in
+    simp (le-ltb (16 + 2 * entry) 8 (omega arith), le-ltb (16 + 2 * entry) 16 (omega arith), eq-eqb ((16 + 2 * entry) % 2) 0 (omega arith), half)
+
+flags-octet : (octets : List ℕ) (entry : ℕ) → badOctet octets (17 + 2 * entry) ≡ badFlags octets entry
+unfolding badOctet
+flags-octet octets entry =
+    let half : (17 + 2 * entry - 16) / 2 ≡ entry = omega arith in
+    simp (le-ltb (17 + 2 * entry) 8 (omega arith), le-ltb (17 + 2 * entry) 16 (omega arith), ne-eqb ((17 + 2 * entry) % 2) 0 (λ e. omega arith), half)
+
+pub entry-step : (octets : List ℕ) (entry : ℕ) → entry < 8 → lowestBad octets (16 - 2 * entry) (16 + 2 * entry) ≡ cond (badNumber octets entry) (Refused BadParameter (16 + 2 * entry)) (cond (badFlags octets entry) (Refused BadParameter (17 + 2 * entry)) (lowestBad octets (16 - 2 * (entry + 1)) (16 + 2 * (entry + 1))))
+unfolding lowestBad
+entry-step octets entry within =
+    let left : 16 - 2 * entry ≡ suc (suc (16 - 2 * (entry + 1))) = omega arith in
+    let flags : 16 + 2 * entry + 1 ≡ 17 + 2 * entry = omega arith in
+    let next : 17 + 2 * entry + 1 ≡ 16 + 2 * (entry + 1) = omega arith in
+    rw (left, number-octet octets entry, flags, flags-octet octets entry, next)
+
+pub entries-end : (octets : List ℕ) (entry : ℕ) → 8 ≤ entry → lowestBad octets (16 - 2 * entry) (16 + 2 * entry) ≡ Passed
+unfolding lowestBad
+entries-end octets entry past = let left : 16 - 2 * entry ≡ 0 = omega arith in rw left

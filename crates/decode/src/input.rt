@@ -1,8 +1,12 @@
 // Inputs: eight octets, with a stamp, a kind and a value.
 ghost use mathlib.Core.Path.{_≡_};
 ghost use Prim.Native.Nat.{_+_, _≤_};
+ghost use mathlib.Core.Bool.{_&&_};
+ghost use lib.Dec.{eqb};
 ghost use lib.ListN.{length};
+ghost use Rattle.octets.specs.BigEndian.{octet};
 ghost use Rattle.rules.specs.Inputs.{zeroOrOne, sceneMeant, forceMeant, decoded, stampAt, inputAt};
+ghost use Rattle.decode.specs.Meaning.{isMeant};
 use octets::read32;
 use phases::logic::both;
 use rules::input::Decoded;
@@ -107,16 +111,54 @@ pub fn stamp_at(octets: &[u8], at: usize) -> u32
     read32(octets, at)
 }
 
-// What the input that starts at a place means; its last two octets must be zero.
+// The last two octets of an input must be zero.
+fn ends_in_zeros(octets: &[u8], at: usize) -> bool
+    requires { ⌜ at + 8 ≤ length (now octets) ⌝ }
+    ensures { λ r. ⌜ r ≡ (eqb (octet (now (octets .entry)) (at + 6)) 0 && eqb (octet (now (octets .entry)) (at + 7)) 0) ⌝ }
+{
+    let first = octets[at + 6] == 0;
+    let second = octets[at + 7] == 0;
+    both(first, second)
+}
+
+// What the input that starts at a place means.
 pub fn input_at(octets: &[u8], at: usize) -> Decoded
     requires { ⌜ at + 8 ≤ length (now octets) ⌝ }
     ensures { λ r. ⌜ r ≡ inputAt (now (octets .entry)) at ⌝ }
 {
-    let first = octets[at + 6] == 0;
-    let second = octets[at + 7] == 0;
-    if both(first, second) {
+    if ends_in_zeros(octets, at) {
         decode_input(octets[at + 4], octets[at + 5])
     } else {
         Decoded::Wrong
+    }
+}
+
+// Whether a kind and a value mean an input. Every kind takes 0 and 1; only a scene and a force take more.
+fn is_known(kind: u8, value: u8) -> bool
+    ensures { λ r. ⌜ r ≡ isMeant (decoded kind value) ⌝ }
+{
+    if value <= 1 {
+        match kind {
+            1..=8 => true,
+            _ => false,
+        }
+    } else {
+        match kind {
+            3 => value / 64 % 2 == 0,
+            4 => value <= 3,
+            _ => false,
+        }
+    }
+}
+
+// Whether an input starts at a place: what `input_at` would say, and nothing is built.
+pub fn is_input_at(octets: &[u8], at: usize) -> bool
+    requires { ⌜ at + 8 ≤ length (now octets) ⌝ }
+    ensures { λ r. ⌜ r ≡ isMeant (inputAt (now (octets .entry)) at) ⌝ }
+{
+    if ends_in_zeros(octets, at) {
+        is_known(octets[at + 4], octets[at + 5])
+    } else {
+        false
     }
 }

@@ -1,11 +1,12 @@
 // Which octets of the parameters are out of range. Their length is tested before: every slice here has 32 octets.
 ghost use mathlib.Core.Path.{_≡_};
 ghost use Prim.Native.Nat.{_≤_, _<_};
-ghost use mathlib.Core.Bool.{_&&_};
-ghost use lib.Dec.{eqb};
+ghost use mathlib.Core.Bool.{false, cond};
+ghost use lib.Dec.{leb};
 ghost use lib.ListN.{length, getD};
-ghost use Rattle.octets.specs.BigEndian.{be16};
-ghost use Rattle.rules.specs.Parameters.{greatest, numberAbove, badNumber, badFlags, badOctet};
+ghost use Rattle.rules.specs.declared.refusal.Refusal.the-variants.{BadParameter};
+ghost use Rattle.rules.specs.declared.refusal.Check.the-variants.{Refused};
+ghost use Rattle.rules.specs.Parameters.{greatest, numberAbove, badNumber, badFlags};
 ghost use Rattle.rules.specs.Refusals.{lowestBad};
 use octets::read16;
 use phases::logic::negated;
@@ -52,64 +53,73 @@ fn bad_number(octets: &[u8], entry: usize) -> bool
     }
 }
 
-// Flags of an unused entry that are not zero, or of a used one beyond its two bits.
+// The flags of a used entry have two bits, those of an unused one none.
+fn greatest_flags(number: u8) -> u8
+    ensures { λ r. ⌜ r ≡ cond (leb number 63) 3 0 ⌝ }
+{
+    if number <= 63 { 3 } else { 0 }
+}
+
+// The flags of an entry whose number is in range, so that a number beyond 63 is unused.
 fn bad_flags(octets: &[u8], entry: usize) -> bool
-    requires { ⌜ (length (now octets) ≡ 32) × (entry < 8) ⌝ }
+    requires { ⌜ (length (now octets) ≡ 32) × (entry < 8) × (badNumber (now octets) entry ≡ false) ⌝ }
     ensures { λ r. ⌜ r ≡ badFlags (now (octets .entry)) entry ⌝ }
 {
-    let flags = octets[17 + 2 * entry];
-    if octets[16 + 2 * entry] == 255 {
-        let clear = flags == 0;
-        negated(clear)
-    } else {
-        3 < flags
+    greatest_flags(octets[16 + 2 * entry]) < octets[17 + 2 * entry]
+}
+
+// The refusal of the octet at a place.
+fn bad_at(at: usize) -> Check
+    requires { ⌜ at < 32 ⌝ }
+    ensures { λ r. ⌜ r ≡ Refused BadParameter at ⌝ }
+{
+    Check::Refused {
+        why: Refusal::BadParameter,
+        place: at as u16,
     }
 }
 
-// Of the four delays only TimedOn must not be 0; it is then bad at its first octet.
-fn bad_delay(octets: &[u8], at: usize) -> bool
+// From octet 16 on: the eight scene entries, each its number and then its flags.
+fn lowest_bad_from_scenes(octets: &[u8]) -> Check
     requires { ⌜ length (now octets) ≡ 32 ⌝ }
-    ensures { λ r. ⌜ r ≡ (eqb at 4 && eqb (be16 (now (octets .entry)) 4) 0) ⌝ }
+    ensures { λ r. ⌜ r ≡ lowestBad (now (octets .entry)) 16 16 ⌝ }
 {
-    if at == 4 {
-        read16(octets, 4) == 0
-    } else {
-        false
-    }
-}
-
-// Whether the octet at a place is out of range.
-fn bad_octet(octets: &[u8], at: usize) -> bool
-    requires { ⌜ (length (now octets) ≡ 32) × (at < 32) ⌝ }
-    ensures { λ r. ⌜ r ≡ badOctet (now (octets .entry)) at ⌝ }
-{
-    match at {
-        0..=7 => bad_delay(octets, at),
-        8..=15 => greatest_at(at - 8) < octets[at],
-        _ => {
-            if at % 2 == 0 {
-                bad_number(octets, (at - 16) / 2)
-            } else {
-                bad_flags(octets, (at - 16) / 2)
-            }
+    let mut entry: usize = 0;
+    while entry < 8 {
+        if bad_number(octets, entry) {
+            return bad_at(16 + 2 * entry);
         }
+        if bad_flags(octets, entry) {
+            return bad_at(17 + 2 * entry);
+        }
+        entry += 1;
     }
+    Check::Passed
 }
 
-// The lowest octet that is out of range.
+// From octet 8 on: the modes against the table, then the scenes.
+fn lowest_bad_from_modes(octets: &[u8]) -> Check
+    requires { ⌜ length (now octets) ≡ 32 ⌝ }
+    ensures { λ r. ⌜ r ≡ lowestBad (now (octets .entry)) 24 8 ⌝ }
+{
+    let mut at: usize = 8;
+    while at < 16 {
+        if greatest_at(at - 8) < octets[at] {
+            return bad_at(at);
+        }
+        at += 1;
+    }
+    lowest_bad_from_scenes(octets)
+}
+
+// The lowest octet that is out of range. Of the four delays only TimedOn must not be 0; it is then bad at its first octet.
 pub(crate) fn lowest_bad(octets: &[u8]) -> Check
     requires { ⌜ length (now octets) ≡ 32 ⌝ }
     ensures { λ r. ⌜ r ≡ lowestBad (now (octets .entry)) 32 0 ⌝ }
 {
-    let mut at: usize = 0;
-    while at < 32 {
-        if bad_octet(octets, at) {
-            return Check::Refused {
-                why: Refusal::BadParameter,
-                place: at as u16,
-            };
-        }
-        at += 1;
+    if read16(octets, 4) == 0 {
+        bad_at(4)
+    } else {
+        lowest_bad_from_modes(octets)
     }
-    Check::Passed
 }

@@ -6,20 +6,16 @@ use Rattle.decode.proofs.input.input_at.Tie as tie
 
 returns : tie.Need-returns
 unfolding inputAt
-returns c = simp (c .decode-input .ensures, sym (c .before .before .before .before .both .ensures) ∙ c .before .before .before .if1 .taken)
+returns c = simp (c .decode-input .ensures, sym (c .before .before .before .before .ends-in-zeros .ensures) ∙ c .before .before .before .if1 .taken)
 
 returns-2 : tie.Need-returns-2
 unfolding inputAt
-returns-2 c = simp (sym (c .before .both .ensures) ∙ c .if1 .left)
+returns-2 c = simp (sym (c .before .ends-in-zeros .ensures) ∙ c .if1 .left)
 
 pub input-at-spec : {M : Type 1} → statement M
 input-at-spec =
     tie.close
     (tie.spec
-    (λ c. search needs)
-    (λ c. search needs)
-    (λ c. search needs)
-    (λ c. search needs)
     (λ c κs. search needs)
     (λ c. search needs)
     (λ c. search needs)
