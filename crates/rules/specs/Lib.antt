@@ -15,3 +15,4 @@ pub mod Files
 pub mod Runs
 pub mod Refusals
 pub mod Soundness
+pub mod Promises
