@@ -14,6 +14,7 @@ pub mod Records
 pub mod Answers
 pub mod Plays
 pub mod Rank
+pub mod Stamps
 pub mod Ties
 pub mod Delays
 pub mod Worked
