@@ -15,6 +15,7 @@ pub mod Answers
 pub mod Plays
 pub mod Rank
 pub mod Stamps
+pub mod Shown
 pub mod Ties
 pub mod Delays
 pub mod Worked

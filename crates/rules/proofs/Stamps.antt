@@ -1,6 +1,6 @@
 -- No record is stamped before its time: an order sets no deadline before the clock, a timer none before its own, so whatever is
 -- played from a state on is stamped at its clock or later.
-use Prim.Native.Nat.{ℕ, _≤_}
+use Prim.Native.Nat.{ℕ, _+_, _≤_}
 use mathlib.Core.Bool.{Bool, true, false, _&&_, _||_, not}
 use mathlib.Core.Path.{_≡_, refl, _∙_}
 use mathlib.Core.List.{List, [], _∷_, _++_, append-nil}
@@ -36,7 +36,7 @@ use Rattle.rules.specs.Lists.{Cue, cue, plays, playsTo}
 use Rattle.rules.specs.Promises.{Rises}
 use Rattle.rules.proofs.Tests.{cond-case, either-way}
 use Rattle.rules.proofs.Ticks.{Quiet, fired, three-are-enough}
-use Rattle.rules.proofs.Soundness.{step-clock}
+use Rattle.rules.proofs.Soundness.{move-clock, step-clock}
 use Rattle.rules.proofs.Timers.{Moves, rest, fire, alike-writes-nothing, clock-moves}
 use Rattle.rules.proofs.Plays.{plays-to-next}
 
@@ -51,7 +51,7 @@ due-from-earlier : (t u : ℕ) (x : Deadline) → t ≤ u → DueFrom u x → Du
 due-from-earlier t u Never earlier h = tt
 due-from-earlier t u (At d) earlier h = omega arith
 
-quiet-is-later : (t : ℕ) (x : Deadline) → Quiet t x → DueFrom t x
+quiet-is-later : (t : ℕ) (x : Deadline) → Quiet t x → DueFrom (t + 1) x
 quiet-is-later t Never h = tt
 quiet-is-later t (At d) h = omega arith
 
@@ -222,10 +222,18 @@ meet-on-time NoBus m i h = h
 meet-on-time Locked m i h = h
 meet-on-time Forced m i h = h
 
--- whatever state a step starts from: its clock move leaves nothing due, and its order sets nothing before the clock
-pub step-on-time : (s : State) (i : Input) (t : ℕ) → OnTime (step s i t .state)
-unfolding step act clockMove ticked
-step-on-time s i t = meet-on-time _ (clockMove s t) i (quiet-is-later t (deadline (clockMove s t .state .phase)) (three-are-enough s t))
+-- a clock move leaves nothing due
+pub moved-on-time : (s : State) (t : ℕ) → DueFrom (t + 1) (deadline (clockMove s t .state .phase))
+unfolding clockMove ticked
+moved-on-time s t = quiet-is-later t (deadline (clockMove s t .state .phase)) (three-are-enough s t)
+
+-- and an order sets nothing before the clock, so whatever state a step starts from, the state it leaves is on time
+pub step-on-time : (s : State) (i : Input) (t : ℕ) → DueFrom t (deadline (step s i t .state .phase))
+unfolding step act
+step-on-time s i t =
+    let met : State = clockMove s t .state in
+    let early = due-from-earlier (met .clock) (t + 1) (deadline (met .phase)) (rw (move-clock s t) (omega arith)) (moved-on-time s t) in
+    rw (step-clock s i t) at (meet-on-time (barrier met i) (clockMove s t) i early)
 
 -- ---- records
 
@@ -277,6 +285,6 @@ plays-to-from t last end [] s h r d = unfold playsTo plays in move-from t end s 
 plays-to-from t last end (cue u i ∷ later) s h r d =
     let next : State = step s i u .state in
     let early : t ≤ u = omega (arith, r .0) in
-    let due = due-from-earlier t u (deadline (next .phase)) early (rw (step-clock s i u) at (step-on-time s i u)) in
+    let due = due-from-earlier t u (deadline (next .phase)) early (step-on-time s i u) in
     rw (plays-to-next end u i later s)
     (stamped-append t (step s i u .records) (playsTo end later next .records) (step-from t u s i early d) (plays-to-from t u end later next early (r .1) due))
