@@ -4,7 +4,7 @@ use Prim.Native.Nat.{ℕ, _+_, _≤_, _<_}
 use mathlib.Core.Bool.{Bool, true, false, cond, _&&_}
 use mathlib.Core.Path.{_≡_, refl, sym, ap, _∙_}
 use mathlib.Core.Logic.{_⊎_, inl, inr}
-use mathlib.Core.List.{List, [], _∷_, _++_, append-assoc}
+use mathlib.Core.List.{List, [], _∷_, _++_, append-assoc, append-nil}
 use native.Mathlib.Omega.{arith}
 use lib.Dec.{eqb, leb}
 use borrow.Author.Tests.{leb-true, leb-false, le-leb, lt-leb, eqb-true}
@@ -24,7 +24,7 @@ use Rattle.rules.proofs.Soundness.{step-clock}
 use Rattle.rules.proofs.Timers.{Moves, rest, fire, clock-moves, moves-compose}
 use Rattle.rules.proofs.Ticks.{Quiet, fired, three-are-enough}
 use Rattle.rules.proofs.Plays.{plays-to-append, plays-to-next}
-use Rattle.rules.proofs.Stamps.{StampedFrom, stamped-append, written-from, move-from, step-records, moved-on-time, step-on-time, plays-to-from}
+use Rattle.rules.proofs.Stamps.{StampedFrom, stamped-append, stamped-first, written-from, move-from, step-records, moved-on-time, step-on-time, plays-to-from}
 
 -- ---- what records show
 
@@ -38,6 +38,10 @@ shown-later : (t u v : ℕ) (l : List Record) → t < u → StampedFrom u l → 
 unfolding shownAt
 shown-later t u v [] h f = refl
 shown-later t u v (r ∷ l) h f = simp (lt-leb (r .stamp) t (omega (arith, f .0))) (shown-later t u v l h (f .1))
+
+lit-is-255 : (s : State) → output (s .phase) ≡ true → value s ≡ 255
+unfolding value
+lit-is-255 s lit = rw lit
 
 -- a change is recorded when it shows, so that the value follows the state
 shown-written : (t cause : ℕ) (before after : State) → after .clock ≤ t → shownAt t (value before) (written cause before after) ≡ value after
@@ -116,3 +120,123 @@ the-last-record-shows-the-output p scenes list end t r h = shown-start t p scene
 pub dark-shown : (p : Params) (scenes : List Scene) (list : List Cue) (end : ℕ) → Rises 0 list end → DarkPromise p scenes list end → DarkShown p scenes list end (playList p scenes list end .records)
 unfolding value
 dark-shown p scenes list end r dark t due = the-last-record-shows-the-output p scenes list end t r (due .reached) ∙ rw (dark t due)
+
+-- ---- the records of a run on both sides of an input
+
+pub records-split : (p : Params) (scenes : List Scene) (before : List Cue) (a : ℕ) (i : Input) (later : List Cue) (end : ℕ) →
+    playList p scenes (before ++ (cue a i ∷ later)) end .records ≡ recordsBefore p scenes before a ++ recordsFrom end (turnAfter p scenes before a i) later
+unfolding playList recordsBefore recordsFrom
+records-split p scenes before a i later end =
+    let s : State = plays before (fresh p scenes) .state in
+    rw (plays-to-append end before (cue a i ∷ later) (fresh p scenes), plays-to-next end a i later s, step-records s i a) (simp append-assoc)
+
+-- stamps that never fall, up to an input and after it
+rises-split : (last end : ℕ) (before : List Cue) (a : ℕ) (i : Input) (later : List Cue) → Rises last (before ++ (cue a i ∷ later)) end → Rises last before a × Rises a later end
+rises-split last end [] a i later r = r
+rises-split last end (cue u j ∷ before) a i later r = let rest = rises-split u end before a i later (r .1) in ((r .0, rest .0), rest .1)
+
+-- up to the moment that playing has reached
+rises-reached : (last m end : ℕ) (acted next : List Cue) (s : State) → s .clock ≡ last → Rises last (acted ++ next) end → plays acted s .state .clock ≤ m → Rises last acted m
+unfolding plays
+rises-reached last m end [] next s there r h = omega arith
+rises-reached last m end (cue u i ∷ acted) next s there r h = (r .0, rises-reached u m end acted next (step s i u .state) (step-clock s i u) (r .1) h)
+
+rises-ends : (last end : ℕ) (list : List Cue) → Rises last list end → last ≤ end
+rises-ends last end [] r = r
+rises-ends last end (cue u i ∷ later) r = omega (arith, rises-ends u end later (r .1), r .0)
+
+-- what has been played by t
+shown-plays : (t last : ℕ) (list : List Cue) (s : State) → Rises last list t → shownAt t (value s) (plays list s .records) ≡ value (plays list s .state)
+unfolding plays
+shown-plays t last [] s r = unfold shownAt in refl
+shown-plays t last (cue u i ∷ later) s r =
+    let left : State = step s i u .state in
+    shown-then t (value s) (value left) _ (step s i u .records) (plays later left .records) (shown-step t u s i (rises-ends u t later (r .1))) (shown-plays t u later left (r .1))
+
+-- before an input acts, the records show the state that it meets
+pub shown-before : (p : Params) (scenes : List Scene) (before : List Cue) (a : ℕ) (i : Input) → Rises 0 before a → shownAt a 0 (recordsBefore p scenes before a) ≡ value (turnAfter p scenes before a i .met)
+unfolding recordsBefore
+shown-before p scenes before a i r =
+    let s : State = plays before (fresh p scenes) .state in
+    shown-start a p scenes _
+    ∙ shown-then a (value (fresh p scenes)) (value s) _ (plays before (fresh p scenes) .records) (clockMove s a .records) (shown-plays a 0 before (fresh p scenes) r) (shown-move a a s (omega arith))
+
+-- the input and all that follows it are stamped from then on
+pub records-from-then : (end a : ℕ) (p : Params) (scenes : List Scene) (before : List Cue) (i : Input) (later : List Cue) → Rises a later end → StampedFrom a (recordsFrom end (turnAfter p scenes before a i) later)
+unfolding recordsFrom
+records-from-then end a p scenes before i later r =
+    let x = turnAfter p scenes before a i in
+    let s : State = plays before (fresh p scenes) .state in
+    stamped-append a (written (kind i) (x .met) (x .left)) (playsTo end later (x .left) .records)
+    (written-from a (kind i) (x .met) (x .left) (rw (step-clock s i a) (omega arith)))
+    (plays-to-from a a end later (x .left) (omega arith) r (step-on-time s i a))
+
+-- what comes next first runs the timers due by m
+waiting-records : (m end : ℕ) (next : List Cue) (s : State) → NotBefore m next end → (rest : List Record) × (playsTo end next s .records ≡ clockMove s m .records ++ rest)
+waiting-records m end [] s h = (clockMove (clockMove s m .state) end .records, unfold playsTo plays in moves-compose s m end h .1)
+waiting-records m end (cue u i ∷ later) s h =
+    let left : State = step s i u .state in (
+      clockMove (clockMove s m .state) u .records ++ (written (kind i) (clockMove s u .state) left ++ playsTo end later left .records),
+      rw (plays-to-next end u i later s, step-records s i u, moves-compose s m u h .1) (simp append-assoc),
+    )
+
+-- ---- Light
+
+-- a lit record of some of the records is one of all
+lit-among : {a m z : ℕ} (early l late : List Record) → m ≤ z → LitRecord a m l → LitRecord a z (early ++ (l ++ late))
+lit-among early l late h x =
+    record {
+      earlier = early ++ x .earlier;
+      lit = x .lit;
+      later = x .later ++ late;
+      split = rw (← (x .split)) (simp append-assoc);
+      from = x .from;
+      until = omega (arith, x .until);
+      shines = x .shines;
+    }
+
+-- where 255 is shown at last, it was shown at first or a record brought it
+shown-or-lit : (a m v : ℕ) (l : List Record) → StampedFrom a l → shownAt m v l ≡ 255 → (v ≡ 255) ⊎ LitRecord a m l
+unfolding shownAt
+shown-or-lit a m v [] f e = inl e
+shown-or-lit a m v (r ∷ l) f e =
+    elim (shown-or-lit a m (cond (leb (r .stamp) m) (r .value) v) l (f .1) e) [
+      | inl first ↦
+          cond-case (λ (w : ℕ). w ≡ 255 → (v ≡ 255) ⊎ LitRecord a m (r ∷ l)) (leb (r .stamp) m) (r .value) v
+          (λ here shines. inr (record { earlier = []; lit = r; later = l; split = refl; from = f .0; until = leb-true _ _ here; shines = shines }))
+          (λ past was. inl was) first
+      | inr x ↦ inr (rw append-nil at (lit-among {z = m} (r ∷ []) l [] (omega arith) x))
+    ]
+
+-- the records up to a moment of light: those given first, then those of the cues that have acted and of the timers
+up-to-light : (a m v end : ℕ) (own : List Record) (acted next : List Cue) (s : State) → shownAt m v own ≡ value s → Rises a acted m → NotBefore m next end →
+    StampedFrom a (own ++ playsTo end (acted ++ next) s .records) → output (clockMove (plays acted s .state) m .state .phase) ≡ true →
+    (v ≡ 255) ⊎ LitRecord a m (own ++ playsTo end (acted ++ next) s .records)
+up-to-light a m v end own acted next s first r waiting stamped lit =
+    let reached : State = plays acted s .state in
+    let rest = waiting-records m end next reached waiting in
+    let shown : List Record = own ++ (plays acted s .records ++ clockMove reached m .records) in
+    let all : own ++ playsTo end (acted ++ next) s .records ≡ shown ++ rest .0 = rw (plays-to-append end acted next s, rest .1) (simp append-assoc) in
+    let light : shownAt m v shown ≡ 255 =
+    shown-then m v (value s) 255 own (plays acted s .records ++ clockMove reached m .records) first
+    (shown-then m (value s) (value reached) 255 (plays acted s .records) (clockMove reached m .records) (shown-plays m a acted s r)
+    (shown-move m m reached (omega arith) ∙ lit-is-255 (clockMove reached m .state) lit))
+    in
+    rw all
+    (elim (shown-or-lit a m v shown (stamped-first a shown (rest .0) (rw all at stamped)) light) [ inl was ↦ inl was | inr x ↦ inr (lit-among {z = m} [] shown (rest .0) (omega arith) x) ])
+
+pub light-shown : (p : Params) (scenes : List Scene) (list : List Cue) (end : ℕ) → Rises 0 list end → StrongLightPromise p scenes list end → LightShown p scenes list end
+unfolding recordsFrom
+light-shown p scenes list end r light before a i later split due =
+    let x = turnAfter p scenes before a i in
+    let show = light before a i later split due in
+    let m : ℕ = show .moment in
+    let own : List Record = written (kind i) (x .met) (x .left) in
+    let parts = rises-split 0 end before a i later (rw (← split) at r) in
+    let acted = rises-reached a m end (show .acted) (show .next) (x .left) (step-clock _ i a) (rw (← (show .split)) at (parts .1)) (show .reached) in
+    let first = shown-written m (kind i) (x .met) (x .left) (rw (step-clock _ i a) (show .from)) in
+    let stamped = records-from-then end a p scenes before i later (parts .1) in
+    elim (rw (show .split) at (up-to-light a m (value (x .met)) end own (show .acted) (show .next) (x .left) first acted (show .waiting) (rw (show .split) stamped) (show .lit))) [
+      | inl was ↦ inl (shown-before p scenes before a i (parts .0) ∙ was)
+      | inr lit ↦ inr (rw append-nil at (lit-among {z = a + p .ondelay} [] _ [] (show .until) lit))
+    ]

@@ -246,6 +246,10 @@ pub stamped-append : (t : ℕ) (k l : List Record) → StampedFrom t k → Stamp
 stamped-append t [] l f g = g
 stamped-append t (r ∷ k) l f g = (f .0, stamped-append t k l (f .1) g)
 
+pub stamped-first : (t : ℕ) (k l : List Record) → StampedFrom t (k ++ l) → StampedFrom t k
+stamped-first t [] l f = tt
+stamped-first t (r ∷ k) l f = (f .0, stamped-first t k l (f .1))
+
 pub written-from : (t cause : ℕ) (before after : State) → t ≤ after .clock → StampedFrom t (written cause before after)
 unfolding written recordOf
 written-from t cause before after h = either-way (StampedFrom t) (sameStatus before after) _ _ tt (h, tt)
