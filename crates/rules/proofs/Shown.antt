@@ -7,7 +7,7 @@ use mathlib.Core.Logic.{_⊎_, inl, inr}
 use mathlib.Core.List.{List, [], _∷_, _++_, append-assoc, append-nil}
 use native.Mathlib.Omega.{arith}
 use lib.Dec.{eqb, leb}
-use borrow.Author.Tests.{leb-true, leb-false, le-leb, lt-leb, eqb-true}
+use borrow.Author.Tests.{leb-true, leb-false, le-leb, lt-leb, eqb-true, eqb-false}
 use Rattle.rules.specs.declared.parameters.Params.{Params}
 use Rattle.rules.specs.declared.parameters.Scene.{Scene}
 use Rattle.rules.specs.declared.input.Input.{Input}
@@ -240,3 +240,51 @@ light-shown p scenes list end r light before a i later split due =
       | inl was ↦ inl (shown-before p scenes before a i (parts .0) ∙ was)
       | inr lit ↦ inr (rw append-nil at (lit-among {z = a + p .ondelay} [] _ [] (show .until) lit))
     ]
+
+-- ---- Light, by the stamps alone
+
+-- records from a on show nothing before it
+shown-before-later : (a v : ℕ) (l : List Record) → StampedFrom a l → shownBefore a v l ≡ v
+unfolding shownBefore
+shown-before-later a v [] f = refl
+shown-before-later a v (r ∷ l) f = simp (le-leb a (r .stamp) (f .0)) (shown-before-later a v l (f .1))
+
+shown-before-append : (a v : ℕ) (k l : List Record) → StampedFrom a l → shownBefore a v (k ++ l) ≡ shownBefore a v k
+unfolding shownBefore
+shown-before-append a v [] l f = shown-before-later a v l f
+shown-before-append a v (r ∷ k) l f = shown-before-append a (cond (leb a (r .stamp)) v (r .value)) k l f
+
+-- one record: where it makes 255 show at a, it made it show before a, or it brought it at a itself
+one-at-or-before : (a v w : ℕ) (r : Record) (l : List Record) → (v ≡ 255 → w ≡ 255) → (cond (leb (r .stamp) a) (r .value) v ≡ 255 → cond (leb a (r .stamp)) w (r .value) ≡ 255) ⊎ LitRecord a a (r ∷ l)
+one-at-or-before a v w r l f = by (leb (r .stamp) a) (leb a (r .stamp)) (eqb (r .value) 255) refl refl refl
+  where
+    by : (b c d : Bool) → leb (r .stamp) a ≡ b → leb a (r .stamp) ≡ c → eqb (r .value) 255 ≡ d → (cond b (r .value) v ≡ 255 → cond c w (r .value) ≡ 255) ⊎ LitRecord a a (r ∷ l)
+    by true false d e g h = inl (λ shines. shines)
+    by true true true e g h = inr (record { earlier = []; lit = r; later = l; split = refl; from = leb-true _ _ g; until = leb-true _ _ e; shines = eqb-true _ _ h })
+    by true true false e g h = inl (λ shines. absurd (eqb-false _ _ h shines))
+    by false true d e g h = inl f
+    by false false d e g h = absurd (omega (arith, leb-false (r .stamp) a e, leb-false a (r .stamp) g))
+
+at-or-before : (a v w : ℕ) (l : List Record) → (v ≡ 255 → w ≡ 255) → shownAt a v l ≡ 255 → (shownBefore a w l ≡ 255) ⊎ LitRecord a a l
+unfolding shownAt shownBefore
+at-or-before a v w [] f e = inl (f e)
+at-or-before a v w (r ∷ l) f e =
+    elim (one-at-or-before a v w r l f) [
+      | inr x ↦ inr x
+      | inl g ↦ elim (at-or-before a _ _ l g e) [ inl was ↦ inl was | inr x ↦ inr (rw append-nil at (lit-among {z = a} (r ∷ []) l [] (omega arith) x)) ]
+    ]
+
+pub light-stamped : (p : Params) (scenes : List Scene) (list : List Cue) (end : ℕ) → Rises 0 list end → StrongLightPromise p scenes list end → LightStamped p scenes list end (playList p scenes list end .records)
+light-stamped p scenes list end r light before a i later split due =
+    let early : List Record = recordsBefore p scenes before a in
+    let late : List Record = recordsFrom end (turnAfter p scenes before a i) later in
+    let stamped = records-from-then end a p scenes before i later (rises-split 0 end before a i later (rw (← split) at r) .1) in
+    let all : playList p scenes list end .records ≡ early ++ late = rw (← split) (records-split p scenes before a i later end) in
+    rw all
+    (elim (light-shown p scenes list end r light before a i later split due) [
+      | inr x ↦ inr (rw append-nil at (lit-among {z = a + p .ondelay} early late [] (omega arith) x))
+      | inl was ↦ elim (at-or-before a 0 0 early (λ e. e) was) [
+        | inl e ↦ inl (shown-before-append a 0 early late stamped ∙ e)
+        | inr x ↦ inr (lit-among {z = a + p .ondelay} [] early late (omega arith) x)
+      ]
+    ])
