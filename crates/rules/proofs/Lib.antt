@@ -14,8 +14,6 @@ pub mod Records
 pub mod Answers
 pub mod Plays
 pub mod Rank
-pub mod Stamps
-pub mod Shown
 pub mod Ties
 pub mod Delays
 pub mod Worked
@@ -27,3 +25,5 @@ pub mod Calls
 pub mod RunLaws
 pub mod Joined
 pub mod Unique
+pub mod Stamps
+pub mod Shown

@@ -19,11 +19,15 @@ use Rattle.rules.specs.Status.{value, attributes, recordOf, byItself, sa
 use Rattle.rules.specs.Steps.{fresh, clockMove, step}
 use Rattle.rules.specs.Lists.{Cue, cue, plays, playsTo, playList}
 use Rattle.rules.specs.Promises.{Rises, upTo, stateAt, DarkDue, DarkPromise, NotBefore, ShowsLight, turnAfter, LightDue, StrongLightPromise, shownAt, DarkShown, LitRecord, recordsBefore, recordsFrom, LightShown, shownBefore, LightStamped}
+use Rattle.rules.specs.Parameters.{paramsOf, scenesOf}
+use Rattle.rules.specs.Files.{cues, endTime, parametersIn, readFile}
+use Rattle.rules.specs.Runs.{playFile}
 use Rattle.rules.proofs.Tests.{both, cond-case, either-way}
 use Rattle.rules.proofs.Soundness.{step-clock}
 use Rattle.rules.proofs.Timers.{Moves, rest, fire, clock-moves, moves-compose}
 use Rattle.rules.proofs.Ticks.{Quiet, fired, three-are-enough}
 use Rattle.rules.proofs.Plays.{plays-to-append, plays-to-next}
+use Rattle.rules.proofs.Readings.{accepted-stamps-rise}
 use Rattle.rules.proofs.Stamps.{StampedFrom, stamped-append, stamped-first, written-from, move-from, step-records, moved-on-time, step-on-time, plays-to-from}
 
 -- ---- what records show
@@ -288,3 +292,27 @@ light-stamped p scenes list end r light before a i later split due =
         | inr x ↦ inr (lit-among {z = a + p .ondelay} [] early late (omega arith) x)
       ]
     ])
+
+-- ---- of every accepted file
+
+module _ (file : List ℕ) (list : List Cue) (read : readFile file ≡ cues list) where
+  abbrev p : Params
+  p = paramsOf (parametersIn file)
+
+  abbrev scenes : List Scene
+  scenes = scenesOf (parametersIn file)
+
+  pub the-last-record-of-an-accepted-file-shows-the-output : (t : ℕ) → t ≤ endTime file → shownAt t 0 (playFile file list .records) ≡ value (stateAt t list (fresh p scenes))
+  unfolding playFile
+  the-last-record-of-an-accepted-file-shows-the-output t h = the-last-record-shows-the-output p scenes list (endTime file) t (accepted-stamps-rise file list read) h
+
+  pub dark-shown-in-every-accepted-file : DarkPromise p scenes list (endTime file) → DarkShown p scenes list (endTime file) (playFile file list .records)
+  unfolding playFile
+  dark-shown-in-every-accepted-file dark = dark-shown p scenes list (endTime file) (accepted-stamps-rise file list read) dark
+
+  pub light-shown-in-every-accepted-file : StrongLightPromise p scenes list (endTime file) → LightShown p scenes list (endTime file)
+  light-shown-in-every-accepted-file light = light-shown p scenes list (endTime file) (accepted-stamps-rise file list read) light
+
+  pub light-stamped-in-every-accepted-file : StrongLightPromise p scenes list (endTime file) → LightStamped p scenes list (endTime file) (playFile file list .records)
+  unfolding playFile
+  light-stamped-in-every-accepted-file light = light-stamped p scenes list (endTime file) (accepted-stamps-rise file list read) light
