@@ -16,3 +16,4 @@ pub mod Runs
 pub mod Refusals
 pub mod Soundness
 pub mod Promises
+pub mod Demands
