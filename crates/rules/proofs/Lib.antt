@@ -27,3 +27,4 @@ pub mod Joined
 pub mod Unique
 pub mod Stamps
 pub mod Shown
+pub mod Demands

@@ -1,0 +1,125 @@
+-- Our model of the run meets every demand.
+use Prim.Native.Nat.{ℕ, _+_, _*_, _/_, _%_, _≤_}
+use mathlib.Core.Bool.{Bool, true, false}
+use mathlib.Core.Path.{_≡_, refl}
+use mathlib.Core.List.{List, [], _∷_, _++_}
+use native.Mathlib.Omega.{arith}
+use lib.ListN.{length, drop}
+use Rattle.rules.specs.declared.record.Record.{Record}
+use Rattle.rules.specs.declared.refusal.Refusal.{Refusal}
+use Rattle.rules.specs.declared.refusal.Refusal.the-variants.{WrongLength, WrongVersion, WrongActuators, WrongLayout, BadParameter, BadInput, BadStamp, ShortBuffer, UnsoundState}
+use Rattle.rules.specs.Parameters.{paramsOf, scenesOf}
+use Rattle.rules.specs.Lists.{Cue}
+use Rattle.rules.specs.Refusals.{number}
+use Rattle.rules.specs.Files.{Reading, cues, bad, parametersIn, endTime, readFile, roomy, ifRoomy, readCall}
+use Rattle.rules.specs.Runs.{recordOctets, recordsOctets, over, Whole, playFile, accepted, refused, runBy, runCall}
+use Rattle.rules.specs.Promises.{DarkPromise, StrongLightPromise}
+use Rattle.rules.specs.Demands.{AnswersAll, RefusesCleanly, Judges, PlaysAll, changes, CountsChanges, recordsIn, recordsOf, KeepsDark, KeepsLight, Meets, tableCode, tablePlace}
+use Rattle.rules.proofs.CueFiles.{GivenWhen, refused-exactly-when}
+use Rattle.rules.proofs.RunLaws.{RunFinds, at-fault, no-room, played, run-finds, a-good-file-is-played, a-refused-run-writes-nothing, record-count-is-one-plus-changes}
+use Rattle.rules.proofs.Shown.{dark-shown-in-every-accepted-file, light-stamped-in-every-accepted-file}
+
+-- ---- records out of their octets
+
+read-back : (l : List Record) (rest : List ℕ) → recordsIn (length l) (recordsOctets l ++ rest) ≡ l
+unfolding recordsIn recordsOctets recordOctets
+read-back [] rest = refl
+read-back (r ∷ l) rest =
+    let stamp : 65536 * (256 * (r .stamp / 16777216) + r .stamp / 65536 % 256) + (256 * (r .stamp / 256 % 256) + r .stamp % 256) ≡ r .stamp = omega arith in
+    rw (stamp, read-back l rest)
+
+pub records-read-back : (l : List Record) (buffer : List ℕ) → recordsIn (length l) (over (recordsOctets l) buffer) ≡ l
+unfolding over
+records-read-back l buffer = read-back l (drop (length (recordsOctets l)) buffer)
+
+-- ---- 1 and the judgement of 2: of every file
+
+-- a run has the numbers 1 to 8, and 9 is for a state that was handed in
+numbered : (file : List ℕ) (why : Refusal) (place : ℕ) → GivenWhen file why place → number why ≤ 8
+numbered file WrongLength place g = omega arith
+numbered file WrongVersion place g = omega arith
+numbered file WrongActuators place g = omega arith
+numbered file WrongLayout place g = omega arith
+numbered file BadParameter place g = omega arith
+numbered file BadInput place g = omega arith
+numbered file BadStamp place g = omega arith
+
+our-run-answers-all : AnswersAll runCall
+our-run-answers-all file records answers = by (run-finds file records answers)
+  where
+    by : {w : Whole} → RunFinds file records answers w → w .report .code ≤ 8
+    by (at-fault why place read) = unfold refused in numbered file why place (refused-exactly-when file why place .0 read)
+    by (no-room list read room) = unfold refused in omega arith
+    by (played list read room) = unfold accepted in omega arith
+
+our-run-refuses-cleanly : RefusesCleanly runCall
+our-run-refuses-cleanly file records answers refused =
+    rw (a-refused-run-writes-nothing file records answers refused) (record { records = refl; answers = refl; count = refl; state = refl })
+
+our-run-judges : Judges runCall
+unfolding runCall runBy accepted refused
+our-run-judges file records answers = by (readCall file records answers)
+  where
+    by : (x : Reading) → (runBy x file records answers .report .code ≡ tableCode x) × (runBy x file records answers .report .place ≡ tablePlace x)
+    by (cues list) = (refl, refl)
+    by (bad why place) = (refl, refl)
+
+-- ---- of every accepted run
+
+module _ (file records answers : List ℕ) (list : List Cue) (read : readCall file records answers ≡ cues list) where
+  -- the file is accepted, and there is room
+  pub call-accepted : (readFile file ≡ cues list) × (roomy file records answers ≡ true)
+  unfolding readCall
+  call-accepted = by (roomy file records answers) (readFile file) read
+    where
+      by : (b : Bool) (x : Reading) → ifRoomy b x ≡ cues list → (x ≡ cues list) × (b ≡ true)
+      by true x e = (e, refl)
+      by false (cues list) e = absurd (let z : _≡_ {A = ℕ} 0 1 = cc in omega arith)
+      by false (bad why place) e = absurd (let z : _≡_ {A = ℕ} 0 1 = cc in omega arith)
+
+  our-run-is-played : runCall file records answers ≡ accepted (playFile file list) records answers
+  our-run-is-played = a-good-file-is-played file records answers list (call-accepted .0) (call-accepted .1)
+
+  -- the records in its buffer are those of the list
+  our-records : recordsOf (runCall file records answers) ≡ playFile file list .records
+  unfolding accepted
+  our-records = rw our-run-is-played (records-read-back (playFile file list .records) records)
+
+our-run-plays-all : PlaysAll runCall
+unfolding accepted
+our-run-plays-all file records answers list read = rw (our-run-is-played file records answers list read) (record { state = refl; records = refl; answers = refl })
+
+our-run-counts-changes : CountsChanges runCall
+unfolding changes
+our-run-counts-changes file records answers list read =
+    let e = call-accepted file records answers list read in
+    record-count-is-one-plus-changes file records answers list (e .0) (e .1) .0
+
+-- the promises of every accepted file
+abbrev pub Dark : Type 0
+Dark = (file : List ℕ) (list : List Cue) → readFile file ≡ cues list → DarkPromise (paramsOf (parametersIn file)) (scenesOf (parametersIn file)) list (endTime file)
+
+abbrev pub Light : Type 0
+Light = (file : List ℕ) (list : List Cue) → readFile file ≡ cues list → StrongLightPromise (paramsOf (parametersIn file)) (scenesOf (parametersIn file)) list (endTime file)
+
+our-run-keeps-dark : Dark → KeepsDark runCall
+our-run-keeps-dark dark file records answers list read =
+    let e = call-accepted file records answers list read .0 in
+    rw (our-records file records answers list read) (dark-shown-in-every-accepted-file file list e (dark file list e))
+
+our-run-keeps-light : Light → KeepsLight runCall
+our-run-keeps-light light file records answers list read =
+    let e = call-accepted file records answers list read .0 in
+    rw (our-records file records answers list read) (light-stamped-in-every-accepted-file file list e (light file list e))
+
+pub our-model-meets-every-demand : Dark → Light → Meets runCall
+our-model-meets-every-demand dark light =
+    record {
+      answers-all = our-run-answers-all;
+      refuses-cleanly = our-run-refuses-cleanly;
+      judges = our-run-judges;
+      plays-all = our-run-plays-all;
+      counts-changes = our-run-counts-changes;
+      keeps-dark = our-run-keeps-dark dark;
+      keeps-light = our-run-keeps-light light;
+    }
