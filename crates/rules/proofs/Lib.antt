@@ -12,6 +12,10 @@ pub mod Soundness
 pub mod Timers
 pub mod Records
 pub mod Answers
+pub mod Lasting
+pub mod Prolonging
+pub mod Moments
+pub mod Dark
 pub mod Plays
 pub mod Rank
 pub mod Ties

@@ -136,6 +136,9 @@ pub move-clock : (s : State) (t : ℕ) → clockMove s t .state .clock ≡ t
 unfolding clockMove ticked
 move-clock s t = refl
 
+pub move-params : (s : State) (t : ℕ) → clockMove s t .state .params ≡ s .params
+move-params s t = ap (λ (u : State). u .params) (move-keeps s t)
+
 -- ---- an order and a step
 
 -- an order keeps clock and parameters, teaches a used entry at most, and sets a phase that fits
@@ -176,3 +179,8 @@ pub step-clock : (s : State) (i : Input) (t : ℕ) → step s i t .state .clock 
 step-clock s i t =
     let there = move-clock s t in
     step-case (λ (u : State). u .clock ≡ t) s i t (λ way. order-keeps (clockMove s t .state) i .clock ∙ there) there
+
+pub step-params : (s : State) (i : Input) (t : ℕ) → step s i t .state .params ≡ s .params
+step-params s i t =
+    let same = move-params s t in
+    step-case (λ (u : State). u .params ≡ s .params) s i t (λ way. order-keeps (clockMove s t .state) i .params ∙ same) same
