@@ -16,6 +16,7 @@ pub mod Lasting
 pub mod Prolonging
 pub mod Moments
 pub mod Dark
+pub mod Light
 pub mod Plays
 pub mod Rank
 pub mod Ties
@@ -25,6 +26,7 @@ pub mod Inputs
 pub mod Accepted
 pub mod CueFiles
 pub mod Readings
+pub mod EveryFile
 pub mod Calls
 pub mod RunLaws
 pub mod Joined

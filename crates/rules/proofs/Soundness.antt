@@ -170,6 +170,10 @@ pub step-case : (P : State → Type 0) (s : State) (i : Input) (t : ℕ) →
 unfolding step act
 step-case P s i t f g = meet-case P _ (clockMove s t) i f g
 
+pub taken-is-the-order : (s : State) (i : Input) (t : ℕ) → barrier (clockMove s t .state) i ≡ Open → step s i t .state ≡ order (clockMove s t .state) i
+unfolding step act meet taken
+taken-is-the-order s i t way = rw way
+
 pub step-is-sound : (s : State) (i : Input) (t : ℕ) → sceneNumber i ≤ 63 → sound s ≡ true → s .clock ≤ t → t ≤ 864_000 → sound (step s i t .state) ≡ true
 step-is-sound s i t small h later end =
     let safe = move-is-sound s t h later end in
