@@ -21,7 +21,8 @@ use Rattle.rules.specs.Barriers.{barrier}
 use Rattle.rules.specs.Steps.{atMoment, tickAt, tick, ticked, clockMove, taken, meet, act, step}
 use Rattle.rules.proofs.Tests.{either-way}
 use Rattle.rules.specs.Lists.{Cue, cue, plays, playsTo}
-use Rattle.rules.proofs.Rank.{LeavesNoTrace, NotBefore, unchanged-leaves-no-trace, no-trace-may-be-struck}
+use Rattle.rules.specs.Promises.{NotBefore}
+use Rattle.rules.proofs.Rank.{LeavesNoTrace, unchanged-leaves-no-trace, no-trace-may-be-struck}
 
 -- ---- Off, of a phase
 

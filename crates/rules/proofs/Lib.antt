@@ -12,6 +12,11 @@ pub mod Soundness
 pub mod Timers
 pub mod Records
 pub mod Answers
+pub mod Lasting
+pub mod Prolonging
+pub mod Moments
+pub mod Dark
+pub mod Light
 pub mod Plays
 pub mod Rank
 pub mod Ties
@@ -21,6 +26,7 @@ pub mod Inputs
 pub mod Accepted
 pub mod CueFiles
 pub mod Readings
+pub mod EveryFile
 pub mod Calls
 pub mod RunLaws
 pub mod Joined
