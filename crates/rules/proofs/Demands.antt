@@ -7,13 +7,11 @@ use native.Mathlib.Omega.{arith}
 use lib.ListN.{length, drop}
 use Rattle.rules.specs.declared.record.Record.{Record}
 use Rattle.rules.specs.declared.refusal.Refusal.{Refusal}
-use Rattle.rules.specs.declared.refusal.Refusal.the-variants.{WrongLength, WrongVersion, WrongActuators, WrongLayout, BadParameter, BadInput, BadStamp, ShortBuffer, UnsoundState}
-use Rattle.rules.specs.Parameters.{paramsOf, scenesOf}
+use Rattle.rules.specs.declared.refusal.Refusal.the-variants.{WrongLength, WrongVersion, WrongActuators, WrongLayout, BadParameter, BadInput, BadStamp}
 use Rattle.rules.specs.Lists.{Cue}
 use Rattle.rules.specs.Refusals.{number}
-use Rattle.rules.specs.Files.{Reading, cues, bad, parametersIn, endTime, readFile, roomy, ifRoomy, readCall}
+use Rattle.rules.specs.Files.{Reading, cues, bad, readFile, roomy, ifRoomy, readCall}
 use Rattle.rules.specs.Runs.{recordOctets, recordsOctets, over, Whole, playFile, accepted, refused, runBy, runCall}
-use Rattle.rules.specs.Promises.{DarkPromise, StrongLightPromise}
 use Rattle.rules.specs.Demands.{AnswersAll, RefusesCleanly, Judges, PlaysAll, changes, CountsChanges, recordsIn, recordsOf, KeepsDark, KeepsLight, Meets, tableCode, tablePlace}
 use Rattle.rules.proofs.CueFiles.{GivenWhen, refused-exactly-when}
 use Rattle.rules.proofs.RunLaws.{RunFinds, at-fault, no-room, played, run-finds, a-good-file-is-played, a-refused-run-writes-nothing, record-count-is-one-plus-changes}
@@ -95,31 +93,24 @@ our-run-counts-changes file records answers list read =
     let e = call-accepted file records answers list read in
     record-count-is-one-plus-changes file records answers list (e .0) (e .1) .0
 
--- the promises of every accepted file
-abbrev pub Dark : Type 0
-Dark = (file : List ℕ) (list : List Cue) → readFile file ≡ cues list → DarkPromise (paramsOf (parametersIn file)) (scenesOf (parametersIn file)) list (endTime file)
-
-abbrev pub Light : Type 0
-Light = (file : List ℕ) (list : List Cue) → readFile file ≡ cues list → StrongLightPromise (paramsOf (parametersIn file)) (scenesOf (parametersIn file)) list (endTime file)
-
-our-run-keeps-dark : Dark → KeepsDark runCall
-our-run-keeps-dark dark file records answers list read =
+our-run-keeps-dark : KeepsDark runCall
+our-run-keeps-dark file records answers list read =
     let e = call-accepted file records answers list read .0 in
-    rw (our-records file records answers list read) (dark-shown-in-every-accepted-file file list e (dark file list e))
+    rw (our-records file records answers list read) (dark-shown-in-every-accepted-file file list e)
 
-our-run-keeps-light : Light → KeepsLight runCall
-our-run-keeps-light light file records answers list read =
+our-run-keeps-light : KeepsLight runCall
+our-run-keeps-light file records answers list read =
     let e = call-accepted file records answers list read .0 in
-    rw (our-records file records answers list read) (light-stamped-in-every-accepted-file file list e (light file list e))
+    rw (our-records file records answers list read) (light-stamped-in-every-accepted-file file list e)
 
-pub our-model-meets-every-demand : Dark → Light → Meets runCall
-our-model-meets-every-demand dark light =
+pub our-model-meets-every-demand : Meets runCall
+our-model-meets-every-demand =
     record {
       answers-all = our-run-answers-all;
       refuses-cleanly = our-run-refuses-cleanly;
       judges = our-run-judges;
       plays-all = our-run-plays-all;
       counts-changes = our-run-counts-changes;
-      keeps-dark = our-run-keeps-dark dark;
-      keeps-light = our-run-keeps-light light;
+      keeps-dark = our-run-keeps-dark;
+      keeps-light = our-run-keeps-light;
     }

@@ -22,7 +22,7 @@ use Rattle.rules.specs.Inputs.{stampAt, inputAt}
 use Rattle.rules.specs.Status.{recordOf, byItself}
 use Rattle.rules.specs.Steps.{fresh, clockMove, step}
 use Rattle.rules.specs.Soundness.{sound}
-use Rattle.rules.specs.Lists.{Cue, cue, Played, andThen, moved, stepped, plays, playsTo, playList}
+use Rattle.rules.specs.Lists.{Cue, Played, andThen, moved, stepped, plays, playsTo, playList}
 use Rattle.rules.specs.Refusals.{checkParameters, stampInRange}
 use Rattle.rules.specs.Calls.{freshBy, freshCall, singleDone, singleCall, moveDone, moveCall}
 use Rattle.rules.specs.Files.{cues, inputCount, endTime, inputPlace, parametersIn, readInputs, readFile, roomy}

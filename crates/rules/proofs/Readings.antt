@@ -1,8 +1,8 @@
 -- A list of inputs that is read without fault, from its first on.
-use Prim.Native.Nat.{ℕ, zero, suc, _+_, _≤_}
+use Prim.Native.Nat.{ℕ, suc, _+_, _≤_}
 use mathlib.Core.Bool.{Bool, true, false, cond, _&&_}
-use mathlib.Core.List.{List, [], _∷_}
-use mathlib.Core.Path.{_≡_, refl, sym, _∙_}
+use mathlib.Core.List.{List, _∷_}
+use mathlib.Core.Path.{_≡_, refl}
 use native.Mathlib.Omega.{arith}
 use lib.Dec.{leb}
 use borrow.Author.Tests.{leb-true}
@@ -12,10 +12,8 @@ use Rattle.rules.specs.declared.input.Decoded.the-variants.{Meant, Wrong
 use Rattle.rules.specs.declared.refusal.Refusal.the-variants.{BadStamp}
 use Rattle.rules.specs.Inputs.{inputAt, stampAt}
 use Rattle.rules.specs.Lists.{Cue, cue}
-use Rattle.rules.specs.Files.{Reading, cues, bad, inputCount, endTime, inputPlace, before, readOne, readInputs, readFile}
-use Rattle.rules.specs.Promises.{Rises}
+use Rattle.rules.specs.Files.{Reading, cues, bad, inputPlace, before, readOne, readInputs}
 use Rattle.rules.proofs.Tests.{both}
-use Rattle.rules.proofs.CueFiles.{good-file, good-start}
 
 -- the list starts with the input at index i, whose stamp is in order; the rest of it is read from there on
 pub record First (file : List ℕ) (left i last end : ℕ) (list : List Cue) : Type 0 where
@@ -58,15 +56,3 @@ first-read file left i last end list e = by (inputAt file (inputPlace i)) refl e
     by : (d : Decoded) → inputAt file (inputPlace i) ≡ d → readOne d (stampAt file (inputPlace i)) last end i later ≡ cues list → First file left i last end list
     by Wrong m r = absurd (let z : _≡_ {A = ℕ} 0 1 = unfold readOne in cc in omega arith)
     by (Meant x) m r = unfold readOne in timed x _ m refl r
-
--- "Stamps never fall, and none passes the end time."
-read-rises : (file : List ℕ) (left i last end : ℕ) (list : List Cue) → last ≤ end → readInputs file left i last end ≡ cues list → Rises last list end
-read-rises file zero i last end list h read = let none : list ≡ [] = unfold readInputs in cc in rw none h
-read-rises file (suc left) i last end list h read =
-    let f = first-read file left i last end list read in
-    rw (f .starts) (f .risen, read-rises file left (i + 1) _ end (f .later) (f .timely) (f .reads))
-
-pub accepted-stamps-rise : (file : List ℕ) (list : List Cue) → readFile file ≡ cues list → Rises 0 list (endTime file)
-accepted-stamps-rise file list read =
-    let start = good-file file list read .start in
-    read-rises file (inputCount file) 0 0 (endTime file) list (omega arith) (sym (good-start file start) ∙ read)

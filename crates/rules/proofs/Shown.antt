@@ -2,7 +2,7 @@
 -- states, can be read off the records.
 use Prim.Native.Nat.{ℕ, _+_, _≤_, _<_}
 use mathlib.Core.Bool.{Bool, true, false, cond, _&&_}
-use mathlib.Core.Path.{_≡_, refl, sym, ap, _∙_}
+use mathlib.Core.Path.{_≡_, refl, ap, _∙_}
 use mathlib.Core.Logic.{_⊎_, inl, inr}
 use mathlib.Core.List.{List, [], _∷_, _++_, append-assoc, append-nil}
 use native.Mathlib.Omega.{arith}
@@ -18,16 +18,17 @@ use Rattle.rules.specs.Phases.{output}
 use Rattle.rules.specs.Status.{value, attributes, recordOf, byItself, sameStatus, written}
 use Rattle.rules.specs.Steps.{fresh, clockMove, step}
 use Rattle.rules.specs.Lists.{Cue, cue, plays, playsTo, playList}
-use Rattle.rules.specs.Promises.{Rises, upTo, stateAt, DarkDue, DarkPromise, NotBefore, ShowsLight, turnAfter, LightDue, StrongLightPromise, shownAt, DarkShown, LitRecord, recordsBefore, recordsFrom, LightShown, shownBefore, LightStamped}
+use Rattle.rules.specs.Promises.{Rises, stateAt, DarkPromise, NotBefore, turnAfter, StrongLightPromise, shownAt, DarkShown, LitRecord, recordsBefore, recordsFrom, LightShown, shownBefore, LightStamped}
 use Rattle.rules.specs.Parameters.{paramsOf, scenesOf}
 use Rattle.rules.specs.Files.{cues, endTime, parametersIn, readFile}
 use Rattle.rules.specs.Runs.{playFile}
 use Rattle.rules.proofs.Tests.{both, cond-case, either-way}
 use Rattle.rules.proofs.Soundness.{step-clock}
 use Rattle.rules.proofs.Timers.{Moves, rest, fire, clock-moves, moves-compose}
-use Rattle.rules.proofs.Ticks.{Quiet, fired, three-are-enough}
+use Rattle.rules.proofs.Ticks.{fired}
 use Rattle.rules.proofs.Plays.{plays-to-append, plays-to-next}
-use Rattle.rules.proofs.Readings.{accepted-stamps-rise}
+use Rattle.rules.proofs.Moments.{at-case, at-the-end}
+use Rattle.rules.proofs.EveryFile.{list-rises, dark-of-every-accepted-file, strong-light-of-every-accepted-file}
 use Rattle.rules.proofs.Stamps.{StampedFrom, stamped-append, stamped-first, written-from, move-from, step-records, moved-on-time, step-on-time, plays-to-from}
 
 -- ---- what records show
@@ -105,14 +106,13 @@ shown-waiting t u end i later s wait r =
 
 -- from any state on
 shown-plays-to : (t last end : ℕ) (list : List Cue) (s : State) → t ≤ end → Rises last list end → shownAt t (value s) (playsTo end list s .records) ≡ value (stateAt t list s)
-unfolding stateAt upTo plays
-shown-plays-to t last end [] s h r = unfold playsTo in shown-move-past t end s h
+shown-plays-to t last end [] s h r = rw (at-the-end t s) (unfold playsTo plays in shown-move-past t end s h)
 shown-plays-to t last end (cue u i ∷ later) s h r =
     let left : State = step s i u .state in
-    cond-case (λ (past : List Cue). shownAt t (value s) (playsTo end (cue u i ∷ later) s .records) ≡ value (clockMove (plays past s .state) t .state)) (leb u t) _ _
+    at-case (λ (x : State). shownAt t (value s) (playsTo end (cue u i ∷ later) s .records) ≡ value x) t u i later s
     (λ past. rw (plays-to-next end u i later s)
-    (shown-then t (value s) (value left) _ (step s i u .records) (playsTo end later left .records) (shown-step t u s i (leb-true u t past)) (shown-plays-to t u end later left h (r .1))))
-    (λ wait. shown-waiting t u end i later s (leb-false u t wait) (r .1))
+    (shown-then t (value s) (value left) _ (step s i u .records) (playsTo end later left .records) (shown-step t u s i past) (shown-plays-to t u end later left h (r .1))))
+    (λ wait. shown-waiting t u end i later s wait (r .1))
 
 pub the-last-record-shows-the-output : (p : Params) (scenes : List Scene) (list : List Cue) (end t : ℕ) → Rises 0 list end → t ≤ end →
     shownAt t 0 (playList p scenes list end .records) ≡ value (stateAt t list (fresh p scenes))
@@ -302,17 +302,17 @@ module _ (file : List ℕ) (list : List Cue) (read : readFile file ≡ cues list
   abbrev scenes : List Scene
   scenes = scenesOf (parametersIn file)
 
-  pub the-last-record-of-an-accepted-file-shows-the-output : (t : ℕ) → t ≤ endTime file → shownAt t 0 (playFile file list .records) ≡ value (stateAt t list (fresh p scenes))
+  pub the-last-record-of-every-accepted-file-shows-the-output : (t : ℕ) → t ≤ endTime file → shownAt t 0 (playFile file list .records) ≡ value (stateAt t list (fresh p scenes))
   unfolding playFile
-  the-last-record-of-an-accepted-file-shows-the-output t h = the-last-record-shows-the-output p scenes list (endTime file) t (accepted-stamps-rise file list read) h
+  the-last-record-of-every-accepted-file-shows-the-output t h = the-last-record-shows-the-output p scenes list (endTime file) t (list-rises file list read) h
 
-  pub dark-shown-in-every-accepted-file : DarkPromise p scenes list (endTime file) → DarkShown p scenes list (endTime file) (playFile file list .records)
+  pub dark-shown-in-every-accepted-file : DarkShown p scenes list (endTime file) (playFile file list .records)
   unfolding playFile
-  dark-shown-in-every-accepted-file dark = dark-shown p scenes list (endTime file) (accepted-stamps-rise file list read) dark
+  dark-shown-in-every-accepted-file = dark-shown p scenes list (endTime file) (list-rises file list read) (dark-of-every-accepted-file file list read)
 
-  pub light-shown-in-every-accepted-file : StrongLightPromise p scenes list (endTime file) → LightShown p scenes list (endTime file)
-  light-shown-in-every-accepted-file light = light-shown p scenes list (endTime file) (accepted-stamps-rise file list read) light
+  pub light-shown-in-every-accepted-file : LightShown p scenes list (endTime file)
+  light-shown-in-every-accepted-file = light-shown p scenes list (endTime file) (list-rises file list read) (strong-light-of-every-accepted-file file list read)
 
-  pub light-stamped-in-every-accepted-file : StrongLightPromise p scenes list (endTime file) → LightStamped p scenes list (endTime file) (playFile file list .records)
+  pub light-stamped-in-every-accepted-file : LightStamped p scenes list (endTime file) (playFile file list .records)
   unfolding playFile
-  light-stamped-in-every-accepted-file light = light-stamped p scenes list (endTime file) (accepted-stamps-rise file list read) light
+  light-stamped-in-every-accepted-file = light-stamped p scenes list (endTime file) (list-rises file list read) (strong-light-of-every-accepted-file file list read)

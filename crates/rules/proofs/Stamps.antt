@@ -2,7 +2,7 @@
 -- played from a state on is stamped at its clock or later.
 use Prim.Native.Nat.{ℕ, _+_, _≤_}
 use mathlib.Core.Bool.{Bool, true, false, _&&_, _||_, not}
-use mathlib.Core.Path.{_≡_, refl, _∙_}
+use mathlib.Core.Path.{_≡_, refl}
 use mathlib.Core.List.{List, [], _∷_, _++_, append-nil}
 use native.Mathlib.Omega.{arith}
 use lib.Dec.{eqb}
@@ -29,14 +29,13 @@ use Rattle.rules.specs.Inputs.{kind}
 use Rattle.rules.specs.Scenes.{recalled}
 use Rattle.rules.specs.Phases.{output, deadline, litAt, atDeadline, setOn}
 use Rattle.rules.specs.Orders.{on, timedStart, offAfterDelay, off, timedStop, nightFalls, plain, withForce, withLink, withLock, standing, held, settle, byMode, switch, timed, recall, learn, scene, nightMode, forced, locked, unlocked, lockDevice, busMode, bus, powerFails, powerReturns, power, order}
-use Rattle.rules.specs.Barriers.{barrier}
 use Rattle.rules.specs.Status.{recordOf, byItself, sameStatus, written}
 use Rattle.rules.specs.Steps.{Moved, ticked, clockMove, taken, meet, act, step}
 use Rattle.rules.specs.Lists.{Cue, cue, plays, playsTo}
 use Rattle.rules.specs.Promises.{Rises}
-use Rattle.rules.proofs.Tests.{cond-case, either-way}
+use Rattle.rules.proofs.Tests.{either-way}
 use Rattle.rules.proofs.Ticks.{Quiet, fired, three-are-enough}
-use Rattle.rules.proofs.Soundness.{move-clock, step-clock}
+use Rattle.rules.proofs.Soundness.{move-clock, step-case, step-clock}
 use Rattle.rules.proofs.Timers.{Moves, rest, fire, alike-writes-nothing, clock-moves}
 use Rattle.rules.proofs.Plays.{plays-to-next}
 
@@ -214,26 +213,17 @@ module _ (s : State) (h : OnTime s) where
   order-on-time (Bus event) = bus-on-time (s .link) event
   order-on-time (Power event) = power-on-time (s .link) event
 
-meet-on-time : (b : Barrier) (m : Moved) (i : Input) → OnTime (m .state) → OnTime (meet b m i .state)
-unfolding meet taken
-meet-on-time Open m i h = order-on-time (m .state) h i
-meet-on-time NoPower m i h = h
-meet-on-time NoBus m i h = h
-meet-on-time Locked m i h = h
-meet-on-time Forced m i h = h
-
 -- a clock move leaves nothing due
 pub moved-on-time : (s : State) (t : ℕ) → DueFrom (t + 1) (deadline (clockMove s t .state .phase))
 unfolding clockMove ticked
 moved-on-time s t = quiet-is-later t (deadline (clockMove s t .state .phase)) (three-are-enough s t)
 
--- and an order sets nothing before the clock, so whatever state a step starts from, the state it leaves is on time
+-- and an order sets nothing before the clock, so whatever state a step starts from, nothing is due before its stamp
 pub step-on-time : (s : State) (i : Input) (t : ℕ) → DueFrom t (deadline (step s i t .state .phase))
-unfolding step act
 step-on-time s i t =
     let met : State = clockMove s t .state in
-    let early = due-from-earlier (met .clock) (t + 1) (deadline (met .phase)) (rw (move-clock s t) (omega arith)) (moved-on-time s t) in
-    rw (step-clock s i t) at (meet-on-time (barrier met i) (clockMove s t) i early)
+    let early = due-from-earlier t (t + 1) (deadline (met .phase)) (omega arith) (moved-on-time s t) in
+    rw (step-clock s i t) at (step-case OnTime s i t (λ way. order-on-time met (rw (move-clock s t) early) i) (rw (move-clock s t) early))
 
 -- ---- records
 
