@@ -86,10 +86,10 @@ shown-step t u s i h =
 
 -- ---- the last record shows the output
 
--- the start record shows off
-shown-start : (t : ℕ) (p : Params) (scenes : List Scene) (l : List Record) → shownAt t 0 (recordOf byItself (fresh p scenes) ∷ l) ≡ shownAt t (value (fresh p scenes)) l
-unfolding shownAt recordOf fresh value
-shown-start t p scenes l = ap (λ (v : ℕ). shownAt t v l) (either-way (λ (v : ℕ). v ≡ 0) (leb 0 t) 0 0 refl refl)
+-- the start record shows, whatever stood before it
+shown-start : (t v : ℕ) (p : Params) (scenes : List Scene) (l : List Record) → shownAt t v (recordOf byItself (fresh p scenes) ∷ l) ≡ shownAt t (value (fresh p scenes)) l
+unfolding shownAt recordOf fresh
+shown-start t v p scenes l = simp (le-leb 0 t (omega arith))
 
 -- before the next input the timers alone have shown
 shown-waiting : (t u end : ℕ) (i : Input) (later : List Cue) (s : State) → t < u → Rises u later end → shownAt t (value s) (playsTo end (cue u i ∷ later) s .records) ≡ value (clockMove s t .state)
@@ -114,16 +114,16 @@ shown-plays-to t last end (cue u i ∷ later) s h r =
     (shown-then t (value s) (value left) _ (step s i u .records) (playsTo end later left .records) (shown-step t u s i past) (shown-plays-to t u end later left h (r .1))))
     (λ wait. shown-waiting t u end i later s wait (r .1))
 
-pub the-last-record-shows-the-output : (p : Params) (scenes : List Scene) (list : List Cue) (end t : ℕ) → Rises 0 list end → t ≤ end →
-    shownAt t 0 (playList p scenes list end .records) ≡ value (stateAt t list (fresh p scenes))
+pub the-last-record-shows-the-output : (p : Params) (scenes : List Scene) (list : List Cue) (end t v : ℕ) → Rises 0 list end → t ≤ end →
+    shownAt t v (playList p scenes list end .records) ≡ value (stateAt t list (fresh p scenes))
 unfolding playList
-the-last-record-shows-the-output p scenes list end t r h = shown-start t p scenes _ ∙ shown-plays-to t 0 end list (fresh p scenes) h r
+the-last-record-shows-the-output p scenes list end t v r h = shown-start t v p scenes _ ∙ shown-plays-to t 0 end list (fresh p scenes) h r
 
 -- ---- Dark
 
 pub dark-shown : (p : Params) (scenes : List Scene) (list : List Cue) (end : ℕ) → Rises 0 list end → DarkPromise p scenes list end → DarkShown p scenes list end (playList p scenes list end .records)
 unfolding value
-dark-shown p scenes list end r dark t due = the-last-record-shows-the-output p scenes list end t r (due .reached) ∙ rw (dark t due)
+dark-shown p scenes list end r dark t due = the-last-record-shows-the-output p scenes list end t 255 r (due .reached) ∙ rw (dark t due)
 
 -- ---- the records of a run on both sides of an input
 
@@ -162,7 +162,7 @@ pub shown-before : (p : Params) (scenes : List Scene) (before : List Cue) (a : �
 unfolding recordsBefore
 shown-before p scenes before a i r =
     let s : State = plays before (fresh p scenes) .state in
-    shown-start a p scenes _
+    shown-start a 0 p scenes _
     ∙ shown-then a (value (fresh p scenes)) (value s) _ (plays before (fresh p scenes) .records) (clockMove s a .records) (shown-plays a 0 before (fresh p scenes) r) (shown-move a a s (omega arith))
 
 -- the input and all that follows it are stamped from then on
@@ -302,9 +302,9 @@ module _ (file : List ℕ) (list : List Cue) (read : readFile file ≡ cues list
   abbrev scenes : List Scene
   scenes = scenesOf (parametersIn file)
 
-  pub the-last-record-of-every-accepted-file-shows-the-output : (t : ℕ) → t ≤ endTime file → shownAt t 0 (playFile file list .records) ≡ value (stateAt t list (fresh p scenes))
+  pub the-last-record-of-every-accepted-file-shows-the-output : (t v : ℕ) → t ≤ endTime file → shownAt t v (playFile file list .records) ≡ value (stateAt t list (fresh p scenes))
   unfolding playFile
-  the-last-record-of-every-accepted-file-shows-the-output t h = the-last-record-shows-the-output p scenes list (endTime file) t (list-rises file list read) h
+  the-last-record-of-every-accepted-file-shows-the-output t v h = the-last-record-shows-the-output p scenes list (endTime file) t v (list-rises file list read) h
 
   pub dark-shown-in-every-accepted-file : DarkShown p scenes list (endTime file) (playFile file list .records)
   unfolding playFile

@@ -195,9 +195,9 @@ unfoldable pub shownAt : ℕ → ℕ → List Record → ℕ
 shownAt t before [] = before
 shownAt t before (r ∷ later) = shownAt t (cond (leb (r .stamp) t) (r .value) before) later
 
--- Dark: "the last record stamped at most t has value 0" (the start record is stamped 0, so there is one)
+-- Dark: "the last record stamped at most t has value 0" (and there is one: before it, 255 stands for what has not been shown)
 abbrev pub DarkShown : Params → List Scene → List Cue → ℕ → List Record → Type 0
-DarkShown p scenes cues end records = (t : ℕ) → DarkDue p scenes cues end t → shownAt t 0 records ≡ 0
+DarkShown p scenes cues end records = (t : ℕ) → DarkDue p scenes cues end t → shownAt t 255 records ≡ 0
 
 -- Light: some record from a to z has value 255
 pub record LitRecord (a z : ℕ) (records : List Record) : Type 0 where
