@@ -1,14 +1,14 @@
 -- Our model of the run meets every demand.
 use Prim.Native.Nat.{ℕ, _+_, _*_, _/_, _%_, _≤_}
 use mathlib.Core.Bool.{Bool, true, false}
-use mathlib.Core.Path.{_≡_, refl}
+use mathlib.Core.Path.{_≡_, refl, ap, _∙_}
 use mathlib.Core.List.{List, [], _∷_, _++_}
 use native.Mathlib.Omega.{arith}
 use lib.ListN.{length, drop}
 use Rattle.rules.specs.declared.record.Record.{Record}
 use Rattle.rules.specs.declared.refusal.Refusal.{Refusal}
 use Rattle.rules.specs.declared.refusal.Refusal.the-variants.{WrongLength, WrongVersion, WrongActuators, WrongLayout, BadParameter, BadInput, BadStamp}
-use Rattle.rules.specs.Lists.{Cue}
+use Rattle.rules.specs.Lists.{Cue, Played}
 use Rattle.rules.specs.Refusals.{number}
 use Rattle.rules.specs.Files.{Reading, cues, bad, readFile, roomy, ifRoomy, readCall}
 use Rattle.rules.specs.Runs.{recordOctets, recordsOctets, over, Whole, playFile, accepted, refused, runBy, runCall}
@@ -26,9 +26,13 @@ read-back (r ∷ l) rest =
     let stamp : 65536 * (256 * (r .stamp / 16777216) + r .stamp / 65536 % 256) + (256 * (r .stamp / 256 % 256) + r .stamp % 256) ≡ r .stamp = omega arith in
     rw (stamp, read-back l rest)
 
-pub records-read-back : (l : List Record) (buffer : List ℕ) → recordsIn (length l) (over (recordsOctets l) buffer) ≡ l
+records-read-back : (l : List Record) (buffer : List ℕ) → recordsIn (length l) (over (recordsOctets l) buffer) ≡ l
 unfolding over
 records-read-back l buffer = read-back l (drop (length (recordsOctets l)) buffer)
+
+pub accepted-records : (p : Played) (records answers : List ℕ) → recordsOf (accepted p records answers) ≡ p .records
+unfolding accepted
+accepted-records p records answers = records-read-back (p .records) records
 
 -- ---- 1 and the judgement of 2: of every file
 
@@ -80,14 +84,13 @@ module _ (file records answers : List ℕ) (list : List Cue) (read : readCall fi
 
   -- the records in its buffer are those of the list
   our-records : recordsOf (runCall file records answers) ≡ playFile file list .records
-  unfolding accepted
-  our-records = rw our-run-is-played (records-read-back (playFile file list .records) records)
+  our-records = ap recordsOf our-run-is-played ∙ accepted-records (playFile file list) records answers
 
 our-run-plays-all : PlaysAll runCall
 unfolding accepted
 our-run-plays-all file records answers list read = rw (our-run-is-played file records answers list read) (record { state = refl; records = refl; answers = refl })
 
-our-run-counts-changes : CountsChanges runCall
+pub our-run-counts-changes : CountsChanges runCall
 unfolding changes
 our-run-counts-changes file records answers list read =
     let e = call-accepted file records answers list read in

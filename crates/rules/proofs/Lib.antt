@@ -34,3 +34,4 @@ pub mod Unique
 pub mod Stamps
 pub mod Shown
 pub mod Demands
+pub mod WrongModels

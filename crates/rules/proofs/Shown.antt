@@ -22,7 +22,7 @@ use Rattle.rules.specs.Promises.{Rises, stateAt, DarkPromise, NotBefore,
 use Rattle.rules.specs.Parameters.{paramsOf, scenesOf}
 use Rattle.rules.specs.Files.{cues, endTime, parametersIn, readFile}
 use Rattle.rules.specs.Runs.{playFile}
-use Rattle.rules.proofs.Tests.{both, cond-case, either-way}
+use Rattle.rules.proofs.Tests.{both, cond-case}
 use Rattle.rules.proofs.Soundness.{step-clock}
 use Rattle.rules.proofs.Timers.{Moves, rest, fire, clock-moves, moves-compose}
 use Rattle.rules.proofs.Ticks.{fired}
