@@ -1,20 +1,29 @@
 -- Our model of the run meets every demand.
 use Prim.Native.Nat.{ℕ, _+_, _*_, _/_, _%_, _≤_}
-use mathlib.Core.Bool.{Bool, true, false}
+use mathlib.Core.Bool.{Bool, true, false, cond}
 use mathlib.Core.Path.{_≡_, refl, ap, _∙_}
-use mathlib.Core.List.{List, [], _∷_, _++_}
+use mathlib.Core.List.{List, [], _∷_, _++_, append-assoc}
 use native.Mathlib.Omega.{arith}
-use lib.ListN.{length, drop}
+use lib.ListN.{length, drop, length-append, length-drop}
+use lib.Dec.{leb}
+use borrow.Author.Tests.{leb-true}
+use Rattle.rules.specs.declared.state.State.{State}
 use Rattle.rules.specs.declared.record.Record.{Record}
 use Rattle.rules.specs.declared.refusal.Refusal.{Refusal}
 use Rattle.rules.specs.declared.refusal.Refusal.the-variants.{WrongLength, WrongVersion, WrongActuators, WrongLayout, BadParameter, BadInput, BadStamp}
-use Rattle.rules.specs.Lists.{Cue, Played}
+use Rattle.rules.specs.Parameters.{paramsOf, scenesOf}
+use Rattle.rules.specs.Status.{recordOf, sameStatus, written}
+use Rattle.rules.specs.Steps.{fresh, ticked, clockMove, step}
+use Rattle.rules.specs.Lists.{Cue, cue, Played, plays, playsTo}
 use Rattle.rules.specs.Refusals.{number}
-use Rattle.rules.specs.Files.{Reading, cues, bad, readFile, roomy, ifRoomy, readCall}
+use Rattle.rules.specs.Files.{Reading, cues, bad, inputCount, endTime, parametersIn, readFile, roomy, ifRoomy, readCall}
 use Rattle.rules.specs.Runs.{recordOctets, recordsOctets, over, Whole, playFile, accepted, refused, runBy, runCall}
-use Rattle.rules.specs.Demands.{AnswersAll, RefusesCleanly, Judges, PlaysAll, changes, CountsChanges, recordsIn, recordsOf, KeepsDark, KeepsLight, Meets, tableCode, tablePlace}
+use Rattle.rules.specs.Demands.{AnswersAll, RefusesCleanly, StaysWithin, Judges, PlaysAll, changed, changedByTimers, changes, CountsChanges, recordsIn, recordsOf, KeepsDark, KeepsLight, Meets, tableCode, tablePlace}
+use Rattle.rules.proofs.Tests.{both}
 use Rattle.rules.proofs.CueFiles.{GivenWhen, refused-exactly-when}
-use Rattle.rules.proofs.RunLaws.{RunFinds, at-fault, no-room, played, run-finds, a-good-file-is-played, a-refused-run-writes-nothing, record-count-is-one-plus-changes}
+use Rattle.rules.proofs.RunLaws.{RunFinds, at-fault, no-room, played, run-finds, a-good-file-is-played, a-refused-run-writes-nothing, records-length, record-count-is-one-plus-changes, answers-are-n}
+use Rattle.rules.proofs.Plays.{plays-to-next}
+use Rattle.rules.proofs.Stamps.{step-records}
 use Rattle.rules.proofs.Shown.{dark-shown-in-every-accepted-file, light-stamped-in-every-accepted-file}
 
 -- ---- records out of their octets
@@ -86,15 +95,57 @@ module _ (file records answers : List ℕ) (list : List Cue) (read : readCall fi
   our-records : recordsOf (runCall file records answers) ≡ playFile file list .records
   our-records = ap recordsOf our-run-is-played ∙ accepted-records (playFile file list) records answers
 
+  -- three records for each input and three more fit into the buffer that is asked for, and so does an answer for each
+  our-run-fits : (length (recordsOctets (playFile file list .records)) ≤ length records) × (length (playFile file list .answers) ≤ length answers)
+  unfolding roomy accepted
+  our-run-fits =
+      let e = call-accepted in
+      let room = both (leb (8 * (3 * inputCount file + 3)) (length records)) (leb (inputCount file) (length answers)) (e .1) in
+      let few = rw our-run-is-played at (record-count-is-one-plus-changes file records answers list (e .0) (e .1) .1) in (
+        omega (arith, records-length (playFile file list .records), few, leb-true (8 * (3 * inputCount file + 3)) (length records) (room .0)),
+        omega (arith, answers-are-n file records answers list (e .0) (e .1) .0, leb-true (inputCount file) (length answers) (room .1)),
+      )
+
+over-length : (octets buffer : List ℕ) → length octets ≤ length buffer → length (over octets buffer) ≡ length buffer
+unfolding over
+over-length octets buffer fits = rw (length-append, length-drop (length octets) buffer) (omega arith)
+
+our-run-stays-within : StaysWithin runCall
+unfolding runCall runBy accepted refused
+our-run-stays-within file records answers = by (readCall file records answers) refl
+  where
+    by : (x : Reading) → readCall file records answers ≡ x → (length (runBy x file records answers .records) ≡ length records) × (length (runBy x file records answers .answers) ≡ length answers)
+    by (bad why place) e = (refl, refl)
+    by (cues list) e = let fits = our-run-fits file records answers list e in (over-length _ records (fits .0), over-length _ answers (fits .1))
+
 our-run-plays-all : PlaysAll runCall
 unfolding accepted
 our-run-plays-all file records answers list read = rw (our-run-is-played file records answers list read) (record { state = refl; records = refl; answers = refl })
 
-pub our-run-counts-changes : CountsChanges runCall
+-- a record for each change
+written-count : (cause : ℕ) (before after : State) → length (written cause before after) ≡ changed before after
+unfolding written changed
+written-count cause before after = by (sameStatus before after)
+  where
+    by : (b : Bool) → length (cond b [] (recordOf cause after ∷ [])) ≡ cond b 0 1
+    by true = refl
+    by false = refl
+
+move-count : (s : State) (t : ℕ) → length (clockMove s t .records) ≡ changedByTimers s t
+unfolding clockMove ticked changedByTimers
+move-count s t = simp (length-append, written-count)
+
+plays-to-count : (end : ℕ) (list : List Cue) (s : State) → length (playsTo end list s .records) ≡ changes end list s
 unfolding changes
+plays-to-count end [] s = unfold playsTo plays in move-count s end
+plays-to-count end (cue t i ∷ later) s =
+    rw (plays-to-next end t i later s, step-records s i t, append-assoc, length-append, length-append, move-count, written-count, plays-to-count end later (step s i t .state))
+
+pub our-run-counts-changes : CountsChanges runCall
 our-run-counts-changes file records answers list read =
     let e = call-accepted file records answers list read in
-    record-count-is-one-plus-changes file records answers list (e .0) (e .1) .0
+    rw (← (plays-to-count (endTime file) list (fresh (paramsOf (parametersIn file)) (scenesOf (parametersIn file)))))
+    (record-count-is-one-plus-changes file records answers list (e .0) (e .1) .0)
 
 our-run-keeps-dark : KeepsDark runCall
 our-run-keeps-dark file records answers list read =
@@ -111,6 +162,7 @@ our-model-meets-every-demand =
     record {
       answers-all = our-run-answers-all;
       refuses-cleanly = our-run-refuses-cleanly;
+      stays-within = our-run-stays-within;
       judges = our-run-judges;
       plays-all = our-run-plays-all;
       counts-changes = our-run-counts-changes;

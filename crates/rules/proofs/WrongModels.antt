@@ -5,7 +5,7 @@ use mathlib.Core.Path.{_≡_, refl, sym, ap, _∙_}
 use mathlib.Core.Logic.{_⊎_, inl, inr}
 use mathlib.Core.List.{List, [], _∷_, _++_}
 use native.Mathlib.Omega.{arith}
-use lib.ListN.{length, replicate}
+use lib.ListN.{length, replicate, length-append, length-drop}
 use lib.Dec.{leb, ltb}
 use borrow.Author.Tests.{le-leb, leb-true, leb-false, ltb-true, ltb-false, lt-ltb, le-ltb}
 use Rattle.rules.specs.declared.input.Input.the-variants.{SwitchOnOff, NightMode}
@@ -23,10 +23,11 @@ use Rattle.rules.specs.Lists.{Cue, cue, Played, plays, playsTo, playList
 use Rattle.rules.specs.Refusals.{lowestBad, checkParameters}
 use Rattle.rules.specs.Calls.{leastParams, unused, noScenes}
 use Rattle.rules.specs.Files.{Reading, cues, bad, endTime, parametersIn, layoutRight, readOne, readInputs, readFile, roomy, readCall}
-use Rattle.rules.specs.Runs.{Whole, playFile, accepted, refused, runCall}
+use Rattle.rules.specs.Runs.{recordsOctets, over, Whole, playFile, accepted, refused, runCall}
 use Rattle.rules.specs.Promises.{turns, upTo, stateAt, Taken, NightRules, DarkDue, LightDue, shownAt, LitRecord, shownBefore}
-use Rattle.rules.specs.Demands.{Model, Judges, PlaysAll, CountsChanges, recordsOf, KeepsDark, KeepsLight}
+use Rattle.rules.specs.Demands.{Model, StaysWithin, Judges, PlaysAll, CountsChanges, recordsOf, KeepsDark, KeepsLight}
 use Rattle.rules.proofs.Tests.{either-way}
+use Rattle.rules.proofs.RunLaws.{records-length}
 use Rattle.rules.proofs.Demands.{accepted-records, our-run-counts-changes}
 
 -- ---- models that judge a file as the table does, and play it in a way of their own
@@ -96,6 +97,10 @@ night-at t = cue t (NightMode true)
 no-inputs : readCall (fileOf 0 []) room room ≡ cues []
 unfolding reading
 no-inputs = refl
+
+least-room : readCall (fileOf 0 []) (replicate 24 0) [] ≡ cues []
+unfolding reading
+least-room = refl
 
 one-on : (a : ℕ) → a ≤ 20 → readCall (fileOf 1 (octetsOf a 1 1)) room room ≡ cues (on-at a ∷ [])
 unfolding reading
@@ -245,9 +250,19 @@ fixed-trace-grows trace dark light (suc k) h =
       | inr more ↦ rw next (omega arith)
     ]
 
--- a file without inputs is lent 24 octets at least, so the trace has at most three records
-pub the-model-of-one-fixed-trace-breaks-dark-or-light : (trace : Played) → length (trace .records) ≤ 3 → KeepsDark (fixed-trace trace) → KeepsLight (fixed-trace trace) → ⊥
-the-model-of-one-fixed-trace-breaks-dark-or-light trace few dark light = omega (arith, fixed-trace-grows trace dark light 4 (omega arith), at-most-all 15 (trace .records))
+pub one-short-fixed-trace-breaks-dark-or-light : (trace : Played) → length (trace .records) ≤ 3 → KeepsDark (fixed-trace trace) → KeepsLight (fixed-trace trace) → ⊥
+one-short-fixed-trace-breaks-dark-or-light trace few dark light = omega (arith, fixed-trace-grows trace dark light 4 (omega arith), at-most-all 15 (trace .records))
+
+-- a file without inputs may be lent 24 octets, which three records fill
+three-records-fill : (trace : Played) → StaysWithin (fixed-trace trace) → length (trace .records) ≤ 3
+unfolding fixed-trace accepted over
+three-records-fill trace within =
+    let lent : List ℕ = replicate 24 0 in
+    let kept = rw (is-played (λ file list. trace) (fileOf 0 []) lent [] [] least-room) at (within (fileOf 0 []) lent [] .0) in
+    omega (arith, rw (length-append, length-drop (length (recordsOctets (trace .records))) lent, records-length (trace .records)) at kept)
+
+pub one-fixed-trace-breaks-dark-or-light : (trace : Played) → StaysWithin (fixed-trace trace) → KeepsDark (fixed-trace trace) → KeepsLight (fixed-trace trace) → ⊥
+one-fixed-trace-breaks-dark-or-light trace within = one-short-fixed-trace-breaks-dark-or-light trace (three-records-fill trace within)
 
 -- ---- "One that plays the first input and ignores the rest falls to demand 2 over the whole list"
 

@@ -1,14 +1,17 @@
 -- What the customer demands of a run, said of any model of it: of ours, and of every wrong one. Ours meets all of it
 -- (proofs/Demands.antt), and each wrong model that document 01 names breaks what it is to break (proofs/WrongModels.antt).
 use Prim.Native.Nat.{ℕ, zero, suc, _+_, _≤_}
+use mathlib.Core.Bool.{cond}
 use mathlib.Core.Path.{_≡_}
 use mathlib.Core.List.{List, [], _∷_}
 use lib.ListN.{length, drop}
 use Rattle.octets.specs.BigEndian.{octet, be32}
+use Rattle.rules.specs.declared.state.State.{State}
 use Rattle.rules.specs.declared.record.Record.{Record}
 use Rattle.rules.specs.Parameters.{paramsOf, scenesOf}
-use Rattle.rules.specs.Steps.{fresh}
-use Rattle.rules.specs.Lists.{Cue, Played, playsTo}
+use Rattle.rules.specs.Status.{sameStatus}
+use Rattle.rules.specs.Steps.{fresh, tick, clockMove, step}
+use Rattle.rules.specs.Lists.{Cue, cue, Played}
 use Rattle.rules.specs.Refusals.{number}
 use Rattle.rules.specs.Calls.{ownState}
 use Rattle.rules.specs.Files.{Reading, cues, bad, parametersIn, endTime, readCall}
@@ -36,6 +39,10 @@ pub record Untouched (lentRecords lentAnswers : List ℕ) (w : Whole) : Type 0 w
 -- "A refused call writes nothing to the lent memory and hands back the state it was given."
 abbrev pub RefusesCleanly : Model → Type 0
 RefusesCleanly m = (file records answers : List ℕ) → (m file records answers .report .code ≡ 0 → ⊥) → Untouched records answers (m file records answers)
+
+-- 01: "two lent octet buffers": what is lent keeps its length, so that nothing is written past its end
+abbrev pub StaysWithin : Model → Type 0
+StaysWithin m = (file records answers : List ℕ) → (length (m file records answers .records) ≡ length records) × (length (m file records answers .answers) ≡ length answers)
 
 -- ---- 2: "Records, answers and end state are those of KNX 7/20/2 Supplement 1 .. and of document 01's rules where it is silent,
 -- input by input and timer by timer."
@@ -68,13 +75,27 @@ pub record Holds (lentRecords lentAnswers : List ℕ) (p : Played) (w : Whole) :
 abbrev pub PlaysAll : Model → Type 0
 PlaysAll m = OfEveryAccepted (λ file records answers list. Holds records answers (playFile file list) (m file records answers))
 
--- 01: "that count is the number of changes the phase rules give": one after each timer or input that changed value or attributes
-unfoldable pub changes : List ℕ → List Cue → ℕ
-changes file list = length (playsTo (endTime file) list (fresh (paramsOf (parametersIn file)) (scenesOf (parametersIn file))) .records)
+-- 1 where value or attributes changed
+unfoldable pub changed : State → State → ℕ
+changed before after = cond (sameStatus before after) 0 1
 
--- "One record is written at the start, then one after each .."
+-- the timers due up to t that changed them, "at most three"
+unfoldable pub changedByTimers : State → ℕ → ℕ
+changedByTimers s t =
+    let a : State = tick s t in
+    let b : State = tick a t in
+    changed s a + (changed a b + changed b (tick b t))
+
+-- the timers and inputs of a list that changed them, from a state to the end
+unfoldable pub changes : ℕ → List Cue → State → ℕ
+changes end [] s = changedByTimers s end
+changes end (cue t i ∷ later) s = changedByTimers s t + (changed (clockMove s t .state) (step s i t .state) + changes end later (step s i t .state))
+
+-- 01: "that count is the number of changes the phase rules give"; "One record is written at the start, then one after each timer or
+-- input that changed value or attributes."
 abbrev pub CountsChanges : Model → Type 0
-CountsChanges m = OfEveryAccepted (λ file records answers list. m file records answers .report .count ≡ 1 + changes file list)
+CountsChanges m =
+    OfEveryAccepted (λ file records answers list. m file records answers .report .count ≡ 1 + changes (endTime file) list (fresh (paramsOf (parametersIn file)) (scenesOf (parametersIn file))))
 
 -- ---- 3: "Nobody waits for ever, for any accepted list."
 
@@ -102,6 +123,7 @@ KeepsLight m = OfEveryAccepted (λ file records answers list. LightStamped (para
 pub record Meets (m : Model) : Type 0 where
   pub answers-all : AnswersAll m
   pub refuses-cleanly : RefusesCleanly m
+  pub stays-within : StaysWithin m
   pub judges : Judges m
   pub plays-all : PlaysAll m
   pub counts-changes : CountsChanges m
