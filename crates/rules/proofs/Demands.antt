@@ -7,6 +7,8 @@ use native.Mathlib.Omega.{arith}
 use lib.ListN.{length, drop, length-append, length-drop}
 use lib.Dec.{leb}
 use borrow.Author.Tests.{leb-true}
+use Rattle.rules.specs.declared.parameters.Params.{Params}
+use Rattle.rules.specs.declared.parameters.Scene.{Scene}
 use Rattle.rules.specs.declared.state.State.{State}
 use Rattle.rules.specs.declared.record.Record.{Record}
 use Rattle.rules.specs.declared.refusal.Refusal.{Refusal}
@@ -18,7 +20,8 @@ use Rattle.rules.specs.Lists.{Cue, cue, Played, plays, playsTo}
 use Rattle.rules.specs.Refusals.{number}
 use Rattle.rules.specs.Files.{Reading, cues, bad, inputCount, endTime, parametersIn, readFile, roomy, ifRoomy, readCall}
 use Rattle.rules.specs.Runs.{recordOctets, recordsOctets, over, Whole, playFile, accepted, refused, runBy, runCall}
-use Rattle.rules.specs.Demands.{AnswersAll, RefusesCleanly, StaysWithin, Judges, PlaysAll, changed, changedByTimers, changes, CountsChanges, recordsIn, recordsOf, KeepsDark, KeepsLight, Meets, tableCode, tablePlace}
+use Rattle.rules.specs.Promises.{DarkShown, LightStamped}
+use Rattle.rules.specs.Demands.{AnswersAll, RefusesCleanly, StaysWithin, Judges, PlaysAll, changed, changedByTimers, changes, CountsChanges, recordsIn, recordsOf, Keeps, Meets, tableCode, tablePlace}
 use Rattle.rules.proofs.Tests.{both}
 use Rattle.rules.proofs.CueFiles.{GivenWhen, refused-exactly-when}
 use Rattle.rules.proofs.RunLaws.{RunFinds, at-fault, no-room, played, run-finds, a-good-file-is-played, a-refused-run-writes-nothing, records-length, record-count-is-one-plus-changes, answers-are-n}
@@ -79,7 +82,7 @@ our-run-judges file records answers = by (readCall file records answers)
 
 module _ (file records answers : List ℕ) (list : List Cue) (read : readCall file records answers ≡ cues list) where
   -- the file is accepted, and there is room
-  pub call-accepted : (readFile file ≡ cues list) × (roomy file records answers ≡ true)
+  call-accepted : (readFile file ≡ cues list) × (roomy file records answers ≡ true)
   unfolding readCall
   call-accepted = by (roomy file records answers) (readFile file) read
     where
@@ -147,15 +150,11 @@ our-run-counts-changes file records answers list read =
     rw (← (plays-to-count (endTime file) list (fresh (paramsOf (parametersIn file)) (scenesOf (parametersIn file)))))
     (record-count-is-one-plus-changes file records answers list (e .0) (e .1) .0)
 
-our-run-keeps-dark : KeepsDark runCall
-our-run-keeps-dark file records answers list read =
-    let e = call-accepted file records answers list read .0 in
-    rw (our-records file records answers list read) (dark-shown-in-every-accepted-file file list e)
-
-our-run-keeps-light : KeepsLight runCall
-our-run-keeps-light file records answers list read =
-    let e = call-accepted file records answers list read .0 in
-    rw (our-records file records answers list read) (light-stamped-in-every-accepted-file file list e)
+-- what the records of every accepted file keep
+our-run-keeps : (Promise : Params → List Scene → List Cue → ℕ → List Record → Type 0) →
+    ((file : List ℕ) (list : List Cue) → readFile file ≡ cues list → Promise (paramsOf (parametersIn file)) (scenesOf (parametersIn file)) list (endTime file) (playFile file list .records)) →
+    Keeps Promise runCall
+our-run-keeps Promise kept file records answers list read = rw (our-records file records answers list read) (kept file list (call-accepted file records answers list read .0))
 
 pub our-model-meets-every-demand : Meets runCall
 our-model-meets-every-demand =
@@ -166,6 +165,6 @@ our-model-meets-every-demand =
       judges = our-run-judges;
       plays-all = our-run-plays-all;
       counts-changes = our-run-counts-changes;
-      keeps-dark = our-run-keeps-dark;
-      keeps-light = our-run-keeps-light;
+      keeps-dark = our-run-keeps DarkShown dark-shown-in-every-accepted-file;
+      keeps-light = our-run-keeps LightStamped light-stamped-in-every-accepted-file;
     }

@@ -29,7 +29,7 @@ use Rattle.rules.proofs.Ticks.{fired}
 use Rattle.rules.proofs.Plays.{plays-to-append, plays-to-next}
 use Rattle.rules.proofs.Moments.{at-case, at-the-end}
 use Rattle.rules.proofs.EveryFile.{list-rises, dark-of-every-accepted-file, strong-light-of-every-accepted-file}
-use Rattle.rules.proofs.Stamps.{StampedFrom, stamped-append, stamped-first, written-from, move-from, step-records, moved-on-time, step-on-time, plays-to-from}
+use Rattle.rules.proofs.Stamps.{StampedFrom, stamped-first, move-from, step-records, moved-on-time, from-an-input-on}
 
 -- ---- what records show
 
@@ -101,8 +101,7 @@ shown-waiting t u end i later s wait r =
     let rest : List Record = playsTo end later left .records in
     rw (plays-to-next end u i later s, step-records s i u, append-assoc)
     (shown-then t (value s) v v (clockMove s u .records) (own ++ rest) (shown-move-past t u s (omega arith))
-    (shown-later t u v (own ++ rest) wait
-    (stamped-append u own rest (written-from u (kind i) met left (rw (step-clock s i u) (omega arith))) (plays-to-from u u end later left (omega arith) r (step-on-time s i u)))))
+    (shown-later t u v (own ++ rest) wait (from-an-input-on u end i later s r)))
 
 -- from any state on
 shown-plays-to : (t last end : ℕ) (list : List Cue) (s : State) → t ≤ end → Rises last list end → shownAt t (value s) (playsTo end list s .records) ≡ value (stateAt t list s)
@@ -158,7 +157,7 @@ shown-plays t last (cue u i ∷ later) s r =
     shown-then t (value s) (value left) _ (step s i u .records) (plays later left .records) (shown-step t u s i (rises-ends u t later (r .1))) (shown-plays t u later left (r .1))
 
 -- before an input acts, the records show the state that it meets
-pub shown-before : (p : Params) (scenes : List Scene) (before : List Cue) (a : ℕ) (i : Input) → Rises 0 before a → shownAt a 0 (recordsBefore p scenes before a) ≡ value (turnAfter p scenes before a i .met)
+shown-before : (p : Params) (scenes : List Scene) (before : List Cue) (a : ℕ) (i : Input) → Rises 0 before a → shownAt a 0 (recordsBefore p scenes before a) ≡ value (turnAfter p scenes before a i .met)
 unfolding recordsBefore
 shown-before p scenes before a i r =
     let s : State = plays before (fresh p scenes) .state in
@@ -166,14 +165,9 @@ shown-before p scenes before a i r =
     ∙ shown-then a (value (fresh p scenes)) (value s) _ (plays before (fresh p scenes) .records) (clockMove s a .records) (shown-plays a 0 before (fresh p scenes) r) (shown-move a a s (omega arith))
 
 -- the input and all that follows it are stamped from then on
-pub records-from-then : (end a : ℕ) (p : Params) (scenes : List Scene) (before : List Cue) (i : Input) (later : List Cue) → Rises a later end → StampedFrom a (recordsFrom end (turnAfter p scenes before a i) later)
+records-from-then : (end a : ℕ) (p : Params) (scenes : List Scene) (before : List Cue) (i : Input) (later : List Cue) → Rises a later end → StampedFrom a (recordsFrom end (turnAfter p scenes before a i) later)
 unfolding recordsFrom
-records-from-then end a p scenes before i later r =
-    let x = turnAfter p scenes before a i in
-    let s : State = plays before (fresh p scenes) .state in
-    stamped-append a (written (kind i) (x .met) (x .left)) (playsTo end later (x .left) .records)
-    (written-from a (kind i) (x .met) (x .left) (rw (step-clock s i a) (omega arith)))
-    (plays-to-from a a end later (x .left) (omega arith) r (step-on-time s i a))
+records-from-then end a p scenes before i later r = from-an-input-on a end i later (plays before (fresh p scenes) .state) r
 
 -- what comes next first runs the timers due by m
 waiting-records : (m end : ℕ) (next : List Cue) (s : State) → NotBefore m next end → (rest : List Record) × (playsTo end next s .records ≡ clockMove s m .records ++ rest)

@@ -134,7 +134,7 @@ plain-ahead t false = tt
 -- ---- states
 
 -- no timer of the state is due before its clock
-abbrev pub OnTime : State → Type 0
+abbrev OnTime : State → Type 0
 OnTime s = DueFrom (s .clock) (deadline (s .phase))
 
 settle-on-time : (s : State) (output : Bool) → OnTime (settle s output)
@@ -219,7 +219,7 @@ unfolding clockMove ticked
 moved-on-time s t = quiet-is-later t (deadline (clockMove s t .state .phase)) (three-are-enough s t)
 
 -- and an order sets nothing before the clock, so whatever state a step starts from, nothing is due before its stamp
-pub step-on-time : (s : State) (i : Input) (t : ℕ) → DueFrom t (deadline (step s i t .state .phase))
+step-on-time : (s : State) (i : Input) (t : ℕ) → DueFrom t (deadline (step s i t .state .phase))
 step-on-time s i t =
     let met : State = clockMove s t .state in
     let early = due-from-earlier t (t + 1) (deadline (met .phase)) (omega arith) (moved-on-time s t) in
@@ -232,7 +232,7 @@ abbrev pub StampedFrom : ℕ → List Record → Type 0
 StampedFrom t [] = Unit {0}
 StampedFrom t (r ∷ later) = (t ≤ r .stamp) × StampedFrom t later
 
-pub stamped-append : (t : ℕ) (k l : List Record) → StampedFrom t k → StampedFrom t l → StampedFrom t (k ++ l)
+stamped-append : (t : ℕ) (k l : List Record) → StampedFrom t k → StampedFrom t l → StampedFrom t (k ++ l)
 stamped-append t [] l f g = g
 stamped-append t (r ∷ k) l f g = (f .0, stamped-append t k l (f .1) g)
 
@@ -240,7 +240,7 @@ pub stamped-first : (t : ℕ) (k l : List Record) → StampedFrom t (k ++ l) →
 stamped-first t [] l f = tt
 stamped-first t (r ∷ k) l f = (f .0, stamped-first t k l (f .1))
 
-pub written-from : (t cause : ℕ) (before after : State) → t ≤ after .clock → StampedFrom t (written cause before after)
+written-from : (t cause : ℕ) (before after : State) → t ≤ after .clock → StampedFrom t (written cause before after)
 unfolding written recordOf
 written-from t cause before after h = either-way (StampedFrom t) (sameStatus before after) _ _ tt (h, tt)
 
@@ -253,14 +253,18 @@ moves-from t {s = s} (fire {l = l} d e past m) h =
 pub move-from : (t u : ℕ) (s : State) → DueFrom t (deadline (s .phase)) → StampedFrom t (clockMove s u .records)
 move-from t u s h = moves-from t (clock-moves s u) h
 
+-- a stopped input writes nothing of its own
+none-of-its-own : (m : Moved) (i : Input) → m .records ≡ m .records ++ written (kind i) (m .state) (m .state)
+none-of-its-own m i = simp (alike-writes-nothing (kind i) (m .state) (m .state) refl refl, append-nil)
+
 -- the records of a step: those of its clock move, then its own
 meet-records : (b : Barrier) (m : Moved) (i : Input) → meet b m i .records ≡ m .records ++ written (kind i) (m .state) (meet b m i .state)
 unfolding meet taken
 meet-records Open m i = refl
-meet-records NoPower m i = simp (alike-writes-nothing (kind i) (m .state) (m .state) refl refl, append-nil)
-meet-records NoBus m i = simp (alike-writes-nothing (kind i) (m .state) (m .state) refl refl, append-nil)
-meet-records Locked m i = simp (alike-writes-nothing (kind i) (m .state) (m .state) refl refl, append-nil)
-meet-records Forced m i = simp (alike-writes-nothing (kind i) (m .state) (m .state) refl refl, append-nil)
+meet-records NoPower m i = none-of-its-own m i
+meet-records NoBus m i = none-of-its-own m i
+meet-records Locked m i = none-of-its-own m i
+meet-records Forced m i = none-of-its-own m i
 
 pub step-records : (s : State) (i : Input) (t : ℕ) → step s i t .records ≡ clockMove s t .records ++ written (kind i) (clockMove s t .state) (step s i t .state)
 unfolding step act
@@ -274,7 +278,7 @@ step-from t u s i h d =
     (stamped-append t (clockMove s u .records) (written (kind i) met left) (move-from t u s d) (written-from t (kind i) met left (rw (step-clock s i u) h)))
 
 -- whatever is played from a moment on, in stamps that never fall, is stamped then or later
-pub plays-to-from : (t last end : ℕ) (list : List Cue) (s : State) → t ≤ last → Rises last list end → DueFrom t (deadline (s .phase)) → StampedFrom t (playsTo end list s .records)
+plays-to-from : (t last end : ℕ) (list : List Cue) (s : State) → t ≤ last → Rises last list end → DueFrom t (deadline (s .phase)) → StampedFrom t (playsTo end list s .records)
 plays-to-from t last end [] s h r d = unfold playsTo plays in move-from t end s d
 plays-to-from t last end (cue u i ∷ later) s h r d =
     let next : State = step s i u .state in
@@ -282,3 +286,13 @@ plays-to-from t last end (cue u i ∷ later) s h r d =
     let due = due-from-earlier t u (deadline (next .phase)) early (step-on-time s i u) in
     rw (plays-to-next end u i later s)
     (stamped-append t (step s i u .records) (playsTo end later next .records) (step-from t u s i early d) (plays-to-from t u end later next early (r .1) due))
+
+-- so are an input's own records, and those of all that is played after it
+pub from-an-input-on : (u end : ℕ) (i : Input) (later : List Cue) (s : State) → Rises u later end →
+    let left : State = step s i u .state in
+    StampedFrom u (written (kind i) (clockMove s u .state) left ++ playsTo end later left .records)
+from-an-input-on u end i later s r =
+    let met : State = clockMove s u .state in
+    let left : State = step s i u .state in
+    stamped-append u (written (kind i) met left) (playsTo end later left .records)
+    (written-from u (kind i) met left (rw (step-clock s i u) (omega arith))) (plays-to-from u u end later left (omega arith) r (step-on-time s i u))

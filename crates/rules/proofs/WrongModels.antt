@@ -8,6 +8,8 @@ use native.Mathlib.Omega.{arith}
 use lib.ListN.{length, replicate, length-append, length-drop}
 use lib.Dec.{leb, ltb}
 use borrow.Author.Tests.{le-leb, leb-true, leb-false, ltb-true, ltb-false, lt-ltb, le-ltb}
+use Rattle.rules.specs.declared.parameters.Params.{Params}
+use Rattle.rules.specs.declared.parameters.Scene.{Scene}
 use Rattle.rules.specs.declared.input.Input.the-variants.{SwitchOnOff, NightMode}
 use Rattle.rules.specs.declared.state.State.{State}
 use Rattle.rules.specs.declared.record.Record.{Record}
@@ -24,8 +26,8 @@ use Rattle.rules.specs.Refusals.{lowestBad, checkParameters}
 use Rattle.rules.specs.Calls.{leastParams, unused, noScenes}
 use Rattle.rules.specs.Files.{Reading, cues, bad, endTime, parametersIn, layoutRight, readOne, readInputs, readFile, roomy, readCall}
 use Rattle.rules.specs.Runs.{recordsOctets, over, Whole, playFile, accepted, refused, runCall}
-use Rattle.rules.specs.Promises.{turns, upTo, stateAt, Taken, NightRules, DarkDue, LightDue, shownAt, LitRecord, shownBefore}
-use Rattle.rules.specs.Demands.{Model, StaysWithin, Judges, PlaysAll, CountsChanges, recordsOf, KeepsDark, KeepsLight}
+use Rattle.rules.specs.Promises.{turns, upTo, stateAt, Taken, NightRules, DarkDue, LightDue, shownAt, DarkShown, LitRecord, shownBefore, LightStamped}
+use Rattle.rules.specs.Demands.{Model, StaysWithin, Judges, PlaysAll, CountsChanges, recordsOf, Keeps, KeepsDark, KeepsLight}
 use Rattle.rules.proofs.Tests.{either-way}
 use Rattle.rules.proofs.RunLaws.{records-length}
 use Rattle.rules.proofs.Demands.{accepted-records, our-run-counts-changes}
@@ -116,6 +118,13 @@ on-and-off : readCall (fileOf 2 (octetsOf 0 1 1 ++ octetsOf 0 1 0)) room room �
 unfolding reading
 on-and-off = refl
 
+-- what a model that plays in its own way keeps, it keeps of them
+kept : (Promise : Params → List Scene → List Cue → ℕ → List Record → Type 0) (play : List ℕ → List Cue → Played) → Keeps Promise (modelBy play) →
+    (n : ℕ) (inputs : List ℕ) (list : List Cue) → readCall (fileOf n inputs) room room ≡ cues list → Promise leastParams noScenes list 20 (play (fileOf n inputs) list .records)
+kept Promise play keeps n inputs list read =
+    let file : List ℕ = fileOf n inputs in
+    rw (its-records play file room room list read, least-params n inputs, no-scenes n inputs, ends-at-20 n inputs) at (keeps file room room list read)
+
 -- ---- lit records at their stamps
 
 -- how many records are stamped before n
@@ -173,11 +182,10 @@ on-shows : (play : List ℕ → List Cue → Played) → KeepsLight (modelBy pla
     (shownBefore a 0 records ≡ 255) ⊎ (stampedBefore a records + 1 ≤ stampedBefore (suc a) records)
 unfolding leastParams
 on-shows play light a h =
-    let inputs : List ℕ = octetsOf a 1 1 in
-    let file : List ℕ = fileOf 1 inputs in
-    let list : List Cue = on-at a ∷ [] in
-    let asked = rw (its-records play file room room list (one-on a h), least-params 1 inputs, no-scenes 1 inputs, ends-at-20 1 inputs) at (light file room room list (one-on a h)) in
-    elim (asked [] a (SwitchOnOff true) [] refl (on-is-due a h)) [ inl was ↦ inl was | inr lit ↦ inr (lit-counts a (a + 0) (play file list .records) (omega arith) lit) ]
+    elim (kept LightStamped play light 1 (octetsOf a 1 1) (on-at a ∷ []) (one-on a h) [] a (SwitchOnOff true) [] refl (on-is-due a h)) [
+      | inl was ↦ inl was
+      | inr lit ↦ inr (lit-counts a (a + 0) (play (fileOf 1 (octetsOf a 1 1)) (on-at a ∷ []) .records) (omega arith) lit)
+    ]
 
 -- night at 0 leaves all dark from 10 on
 night-stands : (t : ℕ) → NightRules (stateAt t (night-at 0 ∷ []) (fresh leastParams noScenes))
@@ -189,11 +197,7 @@ unfolding leastParams turns
 night-is-due t late h = record { late = omega arith; reached = h; from = night-stands _; through = (λ after upto. absurd (omega arith), tt) }
 
 night-shows : (play : List ℕ → List Cue → Played) → KeepsDark (modelBy play) → (t : ℕ) → 10 ≤ t → t ≤ 20 → shownAt t 255 (play (fileOf 1 (octetsOf 0 6 1)) (night-at 0 ∷ []) .records) ≡ 0
-night-shows play dark t late h =
-    let inputs : List ℕ = octetsOf 0 6 1 in
-    let file : List ℕ = fileOf 1 inputs in
-    let list : List Cue = night-at 0 ∷ [] in
-    (rw (its-records play file room room list one-night, least-params 1 inputs, no-scenes 1 inputs, ends-at-20 1 inputs) at (dark file room room list one-night)) t (night-is-due t late h)
+night-shows play dark t late h = kept DarkShown play dark 1 (octetsOf 0 6 1) (night-at 0 ∷ []) one-night t (night-is-due t late h)
 
 -- ---- "A model that refuses all files is shut out by demand 2, which accepts each file outside the table."
 

@@ -6,6 +6,8 @@ use mathlib.Core.Path.{_≡_}
 use mathlib.Core.List.{List, [], _∷_}
 use lib.ListN.{length, drop}
 use Rattle.octets.specs.BigEndian.{octet, be32}
+use Rattle.rules.specs.declared.parameters.Params.{Params}
+use Rattle.rules.specs.declared.parameters.Scene.{Scene}
 use Rattle.rules.specs.declared.state.State.{State}
 use Rattle.rules.specs.declared.record.Record.{Record}
 use Rattle.rules.specs.Parameters.{paramsOf, scenesOf}
@@ -109,14 +111,17 @@ recordsIn (suc n) buffer =
 abbrev pub recordsOf : Whole → List Record
 recordsOf w = recordsIn (w .report .count) (w .records)
 
--- "Dark: .. the output is off at t.", as the model's own records show it
-abbrev pub KeepsDark : Model → Type 0
-KeepsDark m = OfEveryAccepted (λ file records answers list. DarkShown (paramsOf (parametersIn file)) (scenesOf (parametersIn file)) list (endTime file) (recordsOf (m file records answers)))
+-- what is promised of a list, with its parameters, scenes and end time, is kept by the records that the model has written for it
+abbrev pub Keeps : (Params → List Scene → List Cue → ℕ → List Record → Type 0) → Model → Type 0
+Keeps Promise m = OfEveryAccepted (λ file records answers list. Promise (paramsOf (parametersIn file)) (scenesOf (parametersIn file)) list (endTime file) (recordsOf (m file records answers)))
 
--- "Light: an On, timed start or scene-on taken at a shows the output on at some moment from a to a plus on delay ..", as the
--- model's own records show it
+-- "Dark: .. the output is off at t."
+abbrev pub KeepsDark : Model → Type 0
+KeepsDark = Keeps DarkShown
+
+-- "Light: an On, timed start or scene-on taken at a shows the output on at some moment from a to a plus on delay .."
 abbrev pub KeepsLight : Model → Type 0
-KeepsLight m = OfEveryAccepted (λ file records answers list. LightStamped (paramsOf (parametersIn file)) (scenesOf (parametersIn file)) list (endTime file) (recordsOf (m file records answers)))
+KeepsLight = Keeps LightStamped
 
 -- ---- "So the model has to meet three things."
 
