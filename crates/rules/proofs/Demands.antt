@@ -1,7 +1,7 @@
--- Our model of the run meets every demand.
+-- Our model of the run meets every demand, and no other model does.
 use Prim.Native.Nat.{ℕ, _+_, _*_, _/_, _%_, _≤_}
 use mathlib.Core.Bool.{Bool, true, false, cond}
-use mathlib.Core.Path.{_≡_, refl, ap, _∙_}
+use mathlib.Core.Path.{_≡_, refl, sym, ap, _∙_}
 use mathlib.Core.List.{List, [], _∷_, _++_, append-assoc}
 use native.Mathlib.Omega.{arith}
 use lib.ListN.{length, drop, length-append, length-drop}
@@ -21,10 +21,10 @@ use Rattle.rules.specs.Refusals.{number}
 use Rattle.rules.specs.Files.{Reading, cues, bad, inputCount, endTime, parametersIn, readFile, roomy, ifRoomy, readCall}
 use Rattle.rules.specs.Runs.{recordOctets, recordsOctets, over, Whole, playFile, accepted, refused, runBy, runCall}
 use Rattle.rules.specs.Promises.{DarkShown, LightStamped}
-use Rattle.rules.specs.Demands.{AnswersAll, RefusesCleanly, StaysWithin, Judges, PlaysAll, changed, changedByTimers, changes, CountsChanges, recordsIn, recordsOf, Keeps, Meets, tableCode, tablePlace}
+use Rattle.rules.specs.Demands.{Model, AnswersAll, RefusesCleanly, StaysWithin, Judges, PlaysAll, changed, changedByTimers, changes, CountsChanges, recordsIn, recordsOf, Keeps, Meets, tableCode, tablePlace}
 use Rattle.rules.proofs.Tests.{both}
 use Rattle.rules.proofs.CueFiles.{GivenWhen, refused-exactly-when}
-use Rattle.rules.proofs.RunLaws.{RunFinds, at-fault, no-room, played, run-finds, a-good-file-is-played, a-refused-run-writes-nothing, records-length, record-count-is-one-plus-changes, answers-are-n}
+use Rattle.rules.proofs.RunLaws.{RunFinds, at-fault, no-room, played, run-finds, a-good-file-is-played, some-number, a-refused-run-writes-nothing, records-length, record-count-is-one-plus-changes, answers-are-n}
 use Rattle.rules.proofs.Plays.{plays-to-next}
 use Rattle.rules.proofs.Stamps.{step-records}
 use Rattle.rules.proofs.Shown.{dark-shown-in-every-accepted-file, light-stamped-in-every-accepted-file}
@@ -168,3 +168,37 @@ our-model-meets-every-demand =
       keeps-dark = our-run-keeps DarkShown dark-shown-in-every-accepted-file;
       keeps-light = our-run-keeps LightStamped light-stamped-in-every-accepted-file;
     }
+
+-- ---- and no other model does
+
+-- results that agree in every part are one
+same-whole : (w x : Whole) → w .report .state ≡ x .report .state → w .report .code ≡ x .report .code → w .report .place ≡ x .report .place → w .report .count ≡ x .report .count →
+    w .records ≡ x .records → w .answers ≡ x .answers → w ≡ x
+same-whole w x state code place count records answers =
+    λ i. record { report = record { state = state i; code = code i; place = place i; count = count i }; records = records i; answers = answers i }
+
+-- Demands 1 and 2 leave no part of a result open: the table gives code and place; a refused call leaves the rest as it was, and an
+-- accepted one is played.
+two-models-agree : (m n : Model) → Meets m → Meets n → (file records answers : List ℕ) → m file records answers ≡ n file records answers
+two-models-agree m n f g file records answers = by (readCall file records answers) refl
+  where
+    code : m file records answers .report .code ≡ n file records answers .report .code
+    code = f .judges file records answers .0 ∙ sym (g .judges file records answers .0)
+
+    place : m file records answers .report .place ≡ n file records answers .report .place
+    place = f .judges file records answers .1 ∙ sym (g .judges file records answers .1)
+
+    by : (x : Reading) → readCall file records answers ≡ x → m file records answers ≡ n file records answers
+    by (cues list) read =
+        let a = f .plays-all file records answers list read in
+        let b = g .plays-all file records answers list read in
+        let count = f .counts-changes file records answers list read ∙ sym (g .counts-changes file records answers list read) in
+        same-whole (m file records answers) (n file records answers) (a .state ∙ sym (b .state)) code place count (a .records ∙ sym (b .records)) (a .answers ∙ sym (b .answers))
+    by (bad why x) read =
+        let table : tableCode (readCall file records answers) ≡ number why = ap tableCode read in
+        let a = f .refuses-cleanly file records answers (λ zero. omega (arith, f .judges file records answers .0, table, zero, some-number why)) in
+        let b = g .refuses-cleanly file records answers (λ zero. omega (arith, g .judges file records answers .0, table, zero, some-number why)) in
+        same-whole (m file records answers) (n file records answers) (a .state ∙ sym (b .state)) code place (a .count ∙ sym (b .count)) (a .records ∙ sym (b .records)) (a .answers ∙ sym (b .answers))
+
+pub no-other-model-meets-every-demand : (m : Model) → Meets m → (file records answers : List ℕ) → m file records answers ≡ runCall file records answers
+no-other-model-meets-every-demand m meets = two-models-agree m runCall meets our-model-meets-every-demand
