@@ -22,6 +22,7 @@ pub mod Prolonging
 pub mod Dark
 pub mod Light
 pub mod Worked
+pub mod Used
 pub mod Inputs
 pub mod Accepted
 pub mod CueFiles
