@@ -2,10 +2,9 @@
 -- that dims disturbs the wait.
 use Prim.Native.Nat.{ℕ, _+_, _≤_, _<_}
 use mathlib.Core.Bool.{Bool, true, false, not, _&&_, _||_}
-use mathlib.Core.Path.{_≡_, refl, sym, ap, subst, _∙_}
+use mathlib.Core.Path.{_≡_, refl, sym, ap, _∙_}
 use mathlib.Core.List.{List, [], _∷_, _++_}
 use native.Mathlib.Omega.{arith}
-use lib.Dec.{eqb}
 use Rattle.rules.specs.declared.parameters.Params.{Params}
 use Rattle.rules.specs.declared.parameters.Scene.{Scene}
 use Rattle.rules.specs.declared.parameters.Recalled.{Recalled}
@@ -16,11 +15,9 @@ use Rattle.rules.specs.declared.phase.Deadline.the-variants.{At}
 use Rattle.rules.specs.declared.input.Input.{Input}
 use Rattle.rules.specs.declared.input.Input.the-variants.{SwitchOnOff, TimedStartStop, NumberedSceneControl, SwitchOnOffForced, LockDevice, NightMode, Bus, Power}
 use Rattle.rules.specs.declared.state.State.{State}
-use Rattle.rules.specs.declared.barrier.Barrier.the-variants.{Open}
 use Rattle.rules.specs.Scenes.{recalled}
 use Rattle.rules.specs.Phases.{output, deadline, litAt, atDeadline, setOn}
 use Rattle.rules.specs.Orders.{on, timedStart, nightFalls, held, switch, timed, recall, learn, scene, nightMode, order}
-use Rattle.rules.specs.Barriers.{barrier}
 use Rattle.rules.specs.Steps.{fresh, ticked, clockMove, step}
 use Rattle.rules.specs.Lists.{Cue, cue, plays}
 use Rattle.rules.specs.Promises.{Rises, Turn, turn, turns, Each, Taken, recallsOn, recallsOff, lights, dims, longestLight, NotBefore, ShowsLight, turnAfter, LightPromise, StrongLightPromise}
