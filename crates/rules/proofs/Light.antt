@@ -2,10 +2,9 @@
 -- that dims disturbs the wait.
 use Prim.Native.Nat.{ℕ, _+_, _≤_, _<_}
 use mathlib.Core.Bool.{Bool, true, false, not, _&&_, _||_}
-use mathlib.Core.Path.{_≡_, refl, sym, ap, subst, _∙_}
+use mathlib.Core.Path.{_≡_, refl, sym, ap, _∙_}
 use mathlib.Core.List.{List, [], _∷_, _++_}
 use native.Mathlib.Omega.{arith}
-use lib.Dec.{eqb}
 use Rattle.rules.specs.declared.parameters.Params.{Params}
 use Rattle.rules.specs.declared.parameters.Scene.{Scene}
 use Rattle.rules.specs.declared.parameters.Recalled.{Recalled}
@@ -16,11 +15,9 @@ use Rattle.rules.specs.declared.phase.Deadline.the-variants.{At}
 use Rattle.rules.specs.declared.input.Input.{Input}
 use Rattle.rules.specs.declared.input.Input.the-variants.{SwitchOnOff, TimedStartStop, NumberedSceneControl, SwitchOnOffForced, LockDevice, NightMode, Bus, Power}
 use Rattle.rules.specs.declared.state.State.{State}
-use Rattle.rules.specs.declared.barrier.Barrier.the-variants.{Open}
 use Rattle.rules.specs.Scenes.{recalled}
 use Rattle.rules.specs.Phases.{output, deadline, litAt, atDeadline, setOn}
 use Rattle.rules.specs.Orders.{on, timedStart, nightFalls, held, switch, timed, recall, learn, scene, nightMode, order}
-use Rattle.rules.specs.Barriers.{barrier}
 use Rattle.rules.specs.Steps.{fresh, ticked, clockMove, step}
 use Rattle.rules.specs.Lists.{Cue, cue, plays}
 use Rattle.rules.specs.Promises.{Rises, Turn, turn, turns, Each, Taken, recallsOn, recallsOff, lights, dims, longestLight, NotBefore, ShowsLight, turnAfter, LightPromise, StrongLightPromise}
@@ -30,7 +27,7 @@ use Rattle.rules.proofs.Ticks.{Quiet, fired, three-are-enough}
 use Rattle.rules.proofs.Soundness.{move-clock, move-params, step-case, taken-is-the-order, step-clock, step-params}
 use Rattle.rules.proofs.Timers.{the-first-timer-first, no-timer-due-no-move}
 use Rattle.rules.proofs.Prolonging.{Over, move-over, step-over}
-use Rattle.rules.proofs.Moments.{rises-to}
+use Rattle.rules.proofs.Moments.{next-is-later, rises-to, rises-from}
 
 -- ---- what an order that lights leaves
 
@@ -192,10 +189,6 @@ comes-on s d some waits =
 abbrev Undimmed : (Turn → Type 0) → ℕ → List Turn → Type 0
 Undimmed Counts z = Each (λ x. x .stamp < z → Counts x → dims (x .met) (x .input) ≡ false)
 
-next-is-later : (a end : ℕ) (later : List Cue) → Rises a later end → NotBefore a later end
-next-is-later a end [] r = r
-next-is-later a end (cue t i ∷ later) r = r .0
-
 module _ (a z end : ℕ) where
   -- before the next input acts
   shows-here : (cues : List Cue) (s : State) (m : ℕ) → a ≤ m → m ≤ z → s .clock ≤ m → NotBefore m cues end → output (clockMove s m .state .phase) ≡ true → ShowsLight a z end cues s
@@ -235,33 +228,33 @@ module _ (a z end : ℕ) where
 shines-shows : (p : Params) (a end : ℕ) (phase : Phase) (later : List Cue) (s : State) → s .phase ≡ phase → s .params ≡ p → s .clock ≡ a → 1 ≤ p .timedon → a + p .ondelay ≤ end → Rises a later end → Shines p a phase →
     Undimmed Taken (a + p .ondelay) (turns later s) → ShowsLight a (a + p .ondelay) end later s
 shines-shows p a end Lit later s e params clock some end-reached r h undimmed =
-    shows-here a _ end later s a (omega arith) (omega arith) (omega arith) (next-is-later a end later r) (lit-now s a (rw e (refl, tt)))
+    shows-here a _ end later s a (omega arith) (omega arith) (omega arith) (next-is-later a later end r) (lit-now s a (rw e (refl, tt)))
 shines-shows p a end (Timed d) later s e params clock some end-reached r h undimmed =
-    shows-here a _ end later s a (omega arith) (omega arith) (omega arith) (next-is-later a end later r) (lit-now s a (rw e (refl, h)))
+    shows-here a _ end later s a (omega arith) (omega arith) (omega arith) (next-is-later a later end r) (lit-now s a (rw e (refl, h)))
 shines-shows p a end (Starting timed d) later s e params clock some end-reached r h undimmed =
     wait-shows a _ end d (omega (arith, h .0)) (h .1) end-reached later s (rw params some) (omega (arith, h .0)) (rw e refl) undimmed
 
 -- every order before a has room for the longest light by a plus that
 reached : (p : Params) (before : List Cue) (a : ℕ) (i : Input) (later : List Cue) (end : ℕ) (s : State) (last : ℕ) → Rises last (before ++ (cue a i ∷ later)) end → s .params ≡ p → Over (a + longestLight p) s →
-    let met : State = plays before s .state in
-    (met .params ≡ p) × Over (a + longestLight p) met × Rises a later end
+    (plays before s .state .params ≡ p) × Over (a + longestLight p) (plays before s .state)
 unfolding plays
-reached p [] a i later end s last r e over = (e, over, r .1)
+reached p [] a i later end s last r e over = (e, over)
 reached p (cue u j ∷ before) a i later end s last r e over =
-    let early = rises-to before u a i later end (r .1) in
+    let early = rises-to a i later end before u (r .1) in
     reached p before a i later end (step s j u .state) u (r .1) (step-params s j u ∙ e) (step-over s j u (a + longestLight p) over (λ way prolongs. rw e (omega arith)))
 
 -- A lamp that is timed for no time at all would not come on: accepted parameters have 1 second or more.
 pub strong-light : (p : Params) (scenes : List Scene) (cues : List Cue) (end : ℕ) → Rises 0 cues end → 1 ≤ p .timedon → StrongLightPromise p scenes cues end
 unfolding fresh
 strong-light p scenes cues end rises some before a i later whole due =
-    let w = reached p before a i later end (fresh p scenes) 0 (rw whole rises) refl tt in
+    let r = rw (← whole) at rises in
+    let w = reached p before a i later end (fresh p scenes) 0 r refl tt in
     let s : State = plays before (fresh p scenes) .state in
     let met : State = clockMove s a .state in
     let same : met .params ≡ p = move-params s a ∙ w .0 in
     let clock = move-clock s a in
     let shines = order-shines met (rw same some) (rw (clock, same) (rw same at (move-over s a (a + longestLight p) (w .1)))) (unfold clockMove ticked in three-are-enough s a) i (due .lights) in
-    shines-shows p a end (step s i a .state .phase) later (step s i a .state) refl (step-params s i a ∙ w .0) (step-clock s i a) some (due .reached) (w .2)
+    shines-shows p a end (step s i a .state .phase) later (step s i a .state) refl (step-params s i a ∙ w .0) (step-clock s i a) some (due .reached) (rises-from a i later end before 0 r)
     (rw (taken-is-the-order s i a (due .taken)) (rw (same, clock) at shines)) (due .undimmed)
 
 counted-or-not : (z : ℕ) (list : List Turn) → Undimmed (λ x. Unit) z list → Undimmed Taken z list
