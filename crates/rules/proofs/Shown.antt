@@ -27,7 +27,7 @@ use Rattle.rules.proofs.Soundness.{step-clock}
 use Rattle.rules.proofs.Timers.{Moves, rest, fire, clock-moves, moves-compose}
 use Rattle.rules.proofs.Ticks.{fired}
 use Rattle.rules.proofs.Plays.{plays-to-append, plays-to-next}
-use Rattle.rules.proofs.Moments.{at-case, at-the-end}
+use Rattle.rules.proofs.Moments.{at-case, at-the-end, rises-from}
 use Rattle.rules.proofs.EveryFile.{list-rises, dark-of-every-accepted-file, strong-light-of-every-accepted-file}
 use Rattle.rules.proofs.Stamps.{StampedFrom, stamped-first, move-from, step-records, moved-on-time, from-an-input-on}
 
@@ -133,10 +133,10 @@ records-split p scenes before a i later end =
     let s : State = plays before (fresh p scenes) .state in
     rw (plays-to-append end before (cue a i ∷ later) (fresh p scenes), plays-to-next end a i later s, step-records s i a) (simp append-assoc)
 
--- stamps that never fall, up to an input and after it
-rises-split : (last end : ℕ) (before : List Cue) (a : ℕ) (i : Input) (later : List Cue) → Rises last (before ++ (cue a i ∷ later)) end → Rises last before a × Rises a later end
-rises-split last end [] a i later r = r
-rises-split last end (cue u j ∷ before) a i later r = let rest = rises-split u end before a i later (r .1) in ((r .0, rest .0), rest .1)
+-- a list that rises does so up to any of its inputs
+rises-before : (last end : ℕ) (before : List Cue) (a : ℕ) (i : Input) (later : List Cue) → Rises last (before ++ (cue a i ∷ later)) end → Rises last before a
+rises-before last end [] a i later r = r .0
+rises-before last end (cue u j ∷ before) a i later r = (r .0, rises-before u end before a i later (r .1))
 
 -- up to the moment that playing has reached
 rises-reached : (last m end : ℕ) (acted next : List Cue) (s : State) → s .clock ≡ last → Rises last (acted ++ next) end → plays acted s .state .clock ≤ m → Rises last acted m
@@ -180,9 +180,9 @@ waiting-records m end (cue u i ∷ later) s h =
 
 -- ---- Light
 
--- a lit record of some of the records is one of all
-lit-among : {a m z : ℕ} (early l late : List Record) → m ≤ z → LitRecord a m l → LitRecord a z (early ++ (l ++ late))
-lit-among early l late h x =
+-- a lit record of some of the records is one of all, and one by m is one by any later moment
+lit-among : (a m z : ℕ) (early l late : List Record) → m ≤ z → LitRecord a m l → LitRecord a z (early ++ (l ++ late))
+lit-among a m z early l late h x =
     record {
       earlier = early ++ x .earlier;
       lit = x .lit;
@@ -192,6 +192,9 @@ lit-among early l late h x =
       until = omega (arith, x .until);
       shines = x .shines;
     }
+
+lit-later : (a m z : ℕ) (early l : List Record) → m ≤ z → LitRecord a m l → LitRecord a z (early ++ l)
+lit-later a m z early l h x = rw append-nil at (lit-among a m z early l [] h x)
 
 -- where 255 is shown at last, it was shown at first or a record brought it
 shown-or-lit : (a m v : ℕ) (l : List Record) → StampedFrom a l → shownAt m v l ≡ 255 → (v ≡ 255) ⊎ LitRecord a m l
@@ -203,7 +206,7 @@ shown-or-lit a m v (r ∷ l) f e =
           cond-case (λ (w : ℕ). w ≡ 255 → (v ≡ 255) ⊎ LitRecord a m (r ∷ l)) (leb (r .stamp) m) (r .value) v
           (λ here shines. inr (record { earlier = []; lit = r; later = l; split = refl; from = f .0; until = leb-true _ _ here; shines = shines }))
           (λ past was. inl was) first
-      | inr x ↦ inr (rw append-nil at (lit-among {z = m} (r ∷ []) l [] (omega arith) x))
+      | inr x ↦ inr (lit-later a m m (r ∷ []) l (omega arith) x)
     ]
 
 -- the records up to a moment of light: those given first, then those of the cues that have acted and of the timers
@@ -221,7 +224,7 @@ up-to-light a m v end own acted next s first r waiting stamped lit =
     (shown-move m m reached (omega arith) ∙ lit-is-255 (clockMove reached m .state) lit))
     in
     rw all
-    (elim (shown-or-lit a m v shown (stamped-first a shown (rest .0) (rw all at stamped)) light) [ inl was ↦ inl was | inr x ↦ inr (lit-among {z = m} [] shown (rest .0) (omega arith) x) ])
+    (elim (shown-or-lit a m v shown (stamped-first a shown (rest .0) (rw all at stamped)) light) [ inl was ↦ inl was | inr x ↦ inr (lit-among a m m [] shown (rest .0) (omega arith) x) ])
 
 pub light-shown : (p : Params) (scenes : List Scene) (list : List Cue) (end : ℕ) → Rises 0 list end → StrongLightPromise p scenes list end → LightShown p scenes list end
 unfolding recordsFrom
@@ -230,13 +233,14 @@ light-shown p scenes list end r light before a i later split due =
     let show = light before a i later split due in
     let m : ℕ = show .moment in
     let own : List Record = written (kind i) (x .met) (x .left) in
-    let parts = rises-split 0 end before a i later (rw (← split) at r) in
-    let acted = rises-reached a m end (show .acted) (show .next) (x .left) (step-clock _ i a) (rw (← (show .split)) at (parts .1)) (show .reached) in
+    let whole = rw (← split) at r in
+    let rest = rises-from a i later end before 0 whole in
+    let acted = rises-reached a m end (show .acted) (show .next) (x .left) (step-clock _ i a) (rw (← (show .split)) at rest) (show .reached) in
     let first = shown-written m (kind i) (x .met) (x .left) (rw (step-clock _ i a) (show .from)) in
-    let stamped = records-from-then end a p scenes before i later (parts .1) in
+    let stamped = records-from-then end a p scenes before i later rest in
     elim (rw (show .split) at (up-to-light a m (value (x .met)) end own (show .acted) (show .next) (x .left) first acted (show .waiting) (rw (show .split) stamped) (show .lit))) [
-      | inl was ↦ inl (shown-before p scenes before a i (parts .0) ∙ was)
-      | inr lit ↦ inr (rw append-nil at (lit-among {z = a + p .ondelay} [] _ [] (show .until) lit))
+      | inl was ↦ inl (shown-before p scenes before a i (rises-before 0 end before a i later whole) ∙ was)
+      | inr lit ↦ inr (lit-later a m (a + p .ondelay) [] _ (show .until) lit)
     ]
 
 -- ---- Light, by the stamps alone
@@ -269,21 +273,21 @@ at-or-before a v w [] f e = inl (f e)
 at-or-before a v w (r ∷ l) f e =
     elim (one-at-or-before a v w r l f) [
       | inr x ↦ inr x
-      | inl g ↦ elim (at-or-before a _ _ l g e) [ inl was ↦ inl was | inr x ↦ inr (rw append-nil at (lit-among {z = a} (r ∷ []) l [] (omega arith) x)) ]
+      | inl g ↦ elim (at-or-before a _ _ l g e) [ inl was ↦ inl was | inr x ↦ inr (lit-later a a a (r ∷ []) l (omega arith) x) ]
     ]
 
 pub light-stamped : (p : Params) (scenes : List Scene) (list : List Cue) (end : ℕ) → Rises 0 list end → StrongLightPromise p scenes list end → LightStamped p scenes list end (playList p scenes list end .records)
 light-stamped p scenes list end r light before a i later split due =
     let early : List Record = recordsBefore p scenes before a in
     let late : List Record = recordsFrom end (turnAfter p scenes before a i) later in
-    let stamped = records-from-then end a p scenes before i later (rises-split 0 end before a i later (rw (← split) at r) .1) in
+    let stamped = records-from-then end a p scenes before i later (rises-from a i later end before 0 (rw (← split) at r)) in
     let all : playList p scenes list end .records ≡ early ++ late = rw (← split) (records-split p scenes before a i later end) in
     rw all
     (elim (light-shown p scenes list end r light before a i later split due) [
-      | inr x ↦ inr (rw append-nil at (lit-among {z = a + p .ondelay} early late [] (omega arith) x))
+      | inr x ↦ inr (lit-later a (a + p .ondelay) (a + p .ondelay) early late (omega arith) x)
       | inl was ↦ elim (at-or-before a 0 0 early (λ e. e) was) [
         | inl e ↦ inl (shown-before-append a 0 early late stamped ∙ e)
-        | inr x ↦ inr (lit-among {z = a + p .ondelay} [] early late (omega arith) x)
+        | inr x ↦ inr (lit-among a a (a + p .ondelay) [] early late (omega arith) x)
       ]
     ])
 

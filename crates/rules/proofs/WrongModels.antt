@@ -10,7 +10,7 @@ use lib.Dec.{leb, ltb}
 use borrow.Author.Tests.{le-leb, leb-true, leb-false, ltb-true, ltb-false, lt-ltb, le-ltb}
 use Rattle.rules.specs.declared.parameters.Params.{Params}
 use Rattle.rules.specs.declared.parameters.Scene.{Scene}
-use Rattle.rules.specs.declared.input.Input.the-variants.{SwitchOnOff, NightMode}
+use Rattle.rules.specs.declared.input.Input.the-variants.{SwitchOnOff}
 use Rattle.rules.specs.declared.state.State.{State}
 use Rattle.rules.specs.declared.record.Record.{Record}
 use Rattle.rules.specs.declared.refusal.Refusal.the-variants.{WrongLayout}
@@ -21,7 +21,7 @@ use Rattle.rules.specs.Orders.{on, off, nightFalls, switch, nightMode, o
 use Rattle.rules.specs.Barriers.{rows, rowOf, firstBarrier, barrier}
 use Rattle.rules.specs.Status.{value, recordOf, byItself}
 use Rattle.rules.specs.Steps.{fresh, tickAt, tick, ticked, clockMove, taken, meet, act, step}
-use Rattle.rules.specs.Lists.{Cue, cue, Played, plays, playsTo, playList}
+use Rattle.rules.specs.Lists.{Cue, Played, plays, playsTo, playList}
 use Rattle.rules.specs.Refusals.{lowestBad, checkParameters}
 use Rattle.rules.specs.Calls.{leastParams, unused, noScenes}
 use Rattle.rules.specs.Files.{Reading, cues, bad, endTime, parametersIn, layoutRight, readOne, readInputs, readFile, roomy, readCall}
@@ -29,6 +29,7 @@ use Rattle.rules.specs.Runs.{recordsOctets, over, Whole, playFile, accep
 use Rattle.rules.specs.Promises.{turns, upTo, stateAt, Taken, NightRules, DarkDue, LightDue, shownAt, DarkShown, LitRecord, shownBefore, LightStamped}
 use Rattle.rules.specs.Demands.{Model, StaysWithin, Judges, PlaysAll, CountsChanges, recordsOf, Keeps, KeepsDark, KeepsLight}
 use Rattle.rules.proofs.Tests.{either-way}
+use Rattle.rules.proofs.Worked.{on-at, off-at, night-at}
 use Rattle.rules.proofs.RunLaws.{records-length}
 use Rattle.rules.proofs.Demands.{accepted-records, our-run-counts-changes}
 
@@ -86,15 +87,6 @@ ends-at-20 n inputs = refl
 reading : Unit {0}
 unfolding fileOf readCall roomy readFile layoutRight parametersIn checkParameters lowestBad badOctet greatest badNumber badFlags numberAbove readInputs readOne inputAt stampAt decoded zeroOrOne
 reading = tt
-
-abbrev on-at : ℕ → Cue
-on-at t = cue t (SwitchOnOff true)
-
-abbrev off-at : ℕ → Cue
-off-at t = cue t (SwitchOnOff false)
-
-abbrev night-at : ℕ → Cue
-night-at t = cue t (NightMode true)
 
 no-inputs : readCall (fileOf 0 []) room room ≡ cues []
 unfolding reading
