@@ -80,7 +80,7 @@ module _ (p : Params) where
     pub on-over : (night held : Bool) (phase : Phase) → OverBy (night && not held) m phase → OverBy (night && not held) m (on p night held t phase)
     unfolding on
     on-over night held Dark h = either-way (OverBy (night && not held) m) (eqb (p .ondelay) 0) (litAt p night t) (Starting false (t + p .ondelay)) (lit-over (night && not held) night t m (λ day. rw day) (omega arith)) (omega arith)
-    on-over night held (Starting timed d) h = h
+    on-over night held (Starting timed d) h = omega arith
     on-over night held Lit h = h
     on-over night held (Timed d) h = set-on-over night held
     on-over night held (Warning d) h = set-on-over night held
@@ -100,6 +100,6 @@ module _ (p : Params) where
     night-falls-over ruled after Dark h = tt
     night-falls-over ruled after Lit h = omega arith
     night-falls-over ruled after (Starting timed d) h = h
-    night-falls-over ruled after (Timed d) h = h
+    night-falls-over ruled after (Timed d) h = omega arith
     night-falls-over ruled after (Warning d) h = h
     night-falls-over ruled after (Ending d) h = λ night. omega arith

@@ -49,8 +49,8 @@ module _ (p : Params) (some : 1 ≤ p .timedon) (a : ℕ) where
   -- a wait that an earlier order began is still within that order's own delay
   on-shines : (night held ruled : Bool) (phase : Phase) → OverBy p ruled (a + longestLight p) phase → Quiet a (deadline phase) → Shines p a (on p night held a phase)
   unfolding on setOn
-  on-shines night held ruled Dark over quiet = cond-zero (Shines p a) (p .ondelay) _ _ (lit-shines night) (λ waits. (omega arith, omega arith))
-  on-shines night held ruled (Starting timed d) over quiet = (quiet, omega arith)
+  on-shines night held ruled Dark over quiet = cond-zero (Shines p a) (p .ondelay) _ _ (lit-shines night) (λ waits. omega arith)
+  on-shines night held ruled (Starting timed d) over quiet = omega arith
   on-shines night held ruled Lit over quiet = tt
   on-shines night held ruled (Timed d) over quiet = lit-shines (night && not held)
   on-shines night held ruled (Warning d) over quiet = lit-shines (night && not held)
@@ -58,8 +58,8 @@ module _ (p : Params) (some : 1 ≤ p .timedon) (a : ℕ) where
 
   timed-start-shines : (ruled : Bool) (phase : Phase) → OverBy p ruled (a + longestLight p) phase → Quiet a (deadline phase) → Shines p a (timedStart p a phase)
   unfolding timedStart
-  timed-start-shines ruled Dark over quiet = cond-zero (Shines p a) (p .ondelay) _ _ (omega arith) (λ waits. (omega arith, omega arith))
-  timed-start-shines ruled (Starting timed d) over quiet = (quiet, omega arith)
+  timed-start-shines ruled Dark over quiet = cond-zero (Shines p a) (p .ondelay) _ _ (omega arith) (λ waits. omega arith)
+  timed-start-shines ruled (Starting timed d) over quiet = omega arith
   timed-start-shines ruled Lit over quiet = omega arith
   timed-start-shines ruled (Timed d) over quiet = omega arith
   timed-start-shines ruled (Warning d) over quiet = omega arith
