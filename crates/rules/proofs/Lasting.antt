@@ -1,5 +1,5 @@
 -- How long the light of a phase lasts: where night rules it is over by m, the timers hand that moment on, and only orders that
--- light or that end the rule of day need room for more.
+-- light, and nightfall, need room for more.
 use Prim.Native.Nat.{ℕ, _+_, _≤_}
 use mathlib.Core.Bool.{Bool, true, false, not, _&&_}
 use mathlib.Core.Path.{_≡_, refl, sym, _∙_}
