@@ -19,9 +19,9 @@ use Rattle.rules.specs.Phases.{output, deadline, litAt, atDeadline, setO
 use Rattle.rules.specs.Orders.{on, timedStart, offAfterDelay, off, withPhase, switch, order}
 use Rattle.rules.specs.Barriers.{barrier}
 use Rattle.rules.specs.Steps.{atMoment, tickAt, tick, ticked, clockMove, step}
-use Rattle.rules.proofs.Tests.{either-way}
 use Rattle.rules.specs.Lists.{Cue, cue, plays, playsTo}
 use Rattle.rules.specs.Promises.{Rises, stateAt}
+use Rattle.rules.proofs.Tests.{either-way}
 use Rattle.rules.proofs.Moments.{at-case, at-the-end, next-is-later, rises-from, at-after}
 use Rattle.rules.proofs.Soundness.{move-clock, move-params, taken-is-the-order}
 use Rattle.rules.proofs.Timers.{moves-compose}
@@ -228,7 +228,7 @@ pub asking-again-changes-nothing : (s : State) (t : ℕ) (us : List ℕ) (end : 
     (playsTo end (offs us) first .state ≡ clockMove first end .state) × (playsTo end (offs us) first .records ≡ clockMove first end .records)
 asking-again-changes-nothing s t us end free h = asked-again us _ t end (taken-off-asks s t t (omega arith) free) h
 
--- the same at every moment of a whole run: from t on the house is as the first Off alone leaves it, neither lit longer nor dark sooner
+-- each of them leaves what the clock move alone leaves, and two moves are one
 asked-at : (us : List ℕ) (s : State) (t end u : ℕ) → Asked t s → Rises t (offs us) end → stateAt u (offs us) s ≡ clockMove s u .state
 asked-at [] s t end u e r = at-the-end u s
 asked-at (v ∷ us) s t end u e r =
@@ -237,6 +237,8 @@ asked-at (v ∷ us) s t end u e r =
     (λ past. ap (stateAt u (offs us)) (asked-leaves-no-trace s v asked .0) ∙ (asked-at us (clockMove s v .state) v end u (move-keeps-asked s v v asked) (r .1) ∙ moves-compose s v u past .0))
     (λ ahead. refl)
 
+-- The same at every moment u of a whole run: from t on the house is as the first Off alone leaves it, neither lit longer nor dark
+-- sooner.
 pub asking-again-is-never-later : (s : State) (before : List Cue) (t : ℕ) (us : List ℕ) (last end u : ℕ) → barrier (clockMove (plays before s .state) t .state) (SwitchOnOff false) ≡ Open →
     Rises last (before ++ (cue t (SwitchOnOff false) ∷ offs us)) end → t ≤ u →
     stateAt u (before ++ (cue t (SwitchOnOff false) ∷ offs us)) s ≡ stateAt u (before ++ (cue t (SwitchOnOff false) ∷ [])) s
@@ -247,7 +249,7 @@ asking-again-is-never-later s before t us last end u free r past =
     ∙ asked-at us first t end u (taken-off-asks (plays before s .state) t t (omega arith) free) (rises-from t (SwitchOnOff false) (offs us) end before last r)
     ∙ sym (then [] s ∙ at-the-end u first)
 
--- however often it is asked for again: the output is off once the delay of the first Off has passed
+-- However often it is asked for again, the output is off once the delay of the first Off has passed.
 pub an-off-is-heard : (s : State) (t : ℕ) (us : List ℕ) (end : ℕ) → barrier (clockMove s t .state) (SwitchOnOff false) ≡ Open → Rises t (offs us) end → t + s .params .offdelay ≤ end →
     output (playsTo end (offs us) (step s (SwitchOnOff false) t .state) .state .phase) ≡ false
 an-off-is-heard s t us end free r passed =

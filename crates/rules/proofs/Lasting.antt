@@ -1,5 +1,5 @@
 -- How long the light of a phase lasts: where night rules it is over by m, the timers hand that moment on, and only orders that
--- light or that end the rule of day need room for more.
+-- light, and nightfall, need room for more.
 use Prim.Native.Nat.{ℕ, _+_, _≤_}
 use mathlib.Core.Bool.{Bool, true, false, not, _&&_}
 use mathlib.Core.Path.{_≡_, refl, sym, _∙_}
@@ -80,7 +80,7 @@ module _ (p : Params) where
     pub on-over : (night held : Bool) (phase : Phase) → OverBy (night && not held) m phase → OverBy (night && not held) m (on p night held t phase)
     unfolding on
     on-over night held Dark h = either-way (OverBy (night && not held) m) (eqb (p .ondelay) 0) (litAt p night t) (Starting false (t + p .ondelay)) (lit-over (night && not held) night t m (λ day. rw day) (omega arith)) (omega arith)
-    on-over night held (Starting timed d) h = h
+    on-over night held (Starting timed d) h = omega arith
     on-over night held Lit h = h
     on-over night held (Timed d) h = set-on-over night held
     on-over night held (Warning d) h = set-on-over night held
@@ -100,6 +100,6 @@ module _ (p : Params) where
     night-falls-over ruled after Dark h = tt
     night-falls-over ruled after Lit h = omega arith
     night-falls-over ruled after (Starting timed d) h = h
-    night-falls-over ruled after (Timed d) h = h
+    night-falls-over ruled after (Timed d) h = omega arith
     night-falls-over ruled after (Warning d) h = h
     night-falls-over ruled after (Ending d) h = λ night. omega arith

@@ -6,7 +6,7 @@ use mathlib.Core.List.{List, [], _∷_}
 use native.Mathlib.Omega.{arith}
 use Rattle.rules.specs.declared.input.Event.the-variants.{Failure}
 use Rattle.rules.specs.declared.input.Input.the-variants.{SwitchOnOff, Bus}
-use Rattle.rules.specs.Phases.{output, litAt, atDeadline, setOn}
+use Rattle.rules.specs.Phases.{output, litAt, atDeadline}
 use Rattle.rules.specs.Orders.{on, nightFalls, held, switch, nightMode, busMode, bus, order}
 use Rattle.rules.specs.Barriers.{rows, rowOf, firstBarrier, barrier}
 use Rattle.rules.specs.Steps.{fresh, tickAt, tick, ticked, clockMove, taken, meet, act, step}

@@ -1,5 +1,6 @@
 -- Demand 3: "Nobody waits for ever, for any accepted list." The two promises, Dark and Light, in the customer's words, and what a
--- reader of the records sees of them. They are proved in proofs/Dark.antt, proofs/Light.antt and proofs/Shown.antt.
+-- reader of the records sees of them. They are proved in proofs/Dark.antt, proofs/Light.antt and proofs/Shown.antt, and for every
+-- accepted cue file in proofs/EveryFile.antt.
 use Prim.Native.Nat.{ℕ, _+_, _-_, _≤_, _<_}
 use mathlib.Core.Bool.{Bool, true, false, cond, not}
 use mathlib.Core.Path.{_≡_}
@@ -184,7 +185,8 @@ LightBy Counts p scenes cues end =
 abbrev pub LightPromise : Params → List Scene → List Cue → ℕ → Type 0
 LightPromise = LightBy (λ x. Unit)
 
--- and more than was asked: a dropped Off does no harm, so only those that are taken count
+-- and on less: only those that are taken count. (No list tells the two apart: where an order was taken that lights, only a taken
+-- input that dims raises a barrier, so that none is dropped before it.)
 abbrev pub StrongLightPromise : Params → List Scene → List Cue → ℕ → Type 0
 StrongLightPromise = LightBy Taken
 
