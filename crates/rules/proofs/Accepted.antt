@@ -106,6 +106,10 @@ some-time : (octets : List ℕ) → badOctet octets 4 ≡ false → tenths 1 ≤
 unfolding badOctet delay
 some-time octets good = omega (arith, eqb-false (be16 octets 4) 0 good)
 
+pub passed-has-some-time : (octets : List ℕ) → checkParameters octets ≡ Passed → 1 ≤ paramsOf octets .timedon
+unfolding paramsOf
+passed-has-some-time octets passed = omega (arith, some-time octets (lowest-bad-octet octets Passed .0 passed .good 4 (omega arith)))
+
 -- a mode that is not refused is at most the greatest of its octet
 modes-in-range : (octets : List ℕ) → Accepted octets → (octet octets 8 ≤ 2) × (octet octets 9 ≤ 3) × (octet octets 10 ≤ 2) × (octet octets 11 ≤ 2) × (octet octets 12 ≤ 2)
 unfolding badOctet greatest

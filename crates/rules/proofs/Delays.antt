@@ -2,8 +2,8 @@
 -- A repeated Off leaves the phase, deadline and all, as the first left it; a repeated On leaves the moment of light.
 use Prim.Native.Nat.{ℕ, _+_, _≤_}
 use mathlib.Core.Bool.{Bool, true, false, cond, not, _&&_}
-use mathlib.Core.Path.{_≡_, refl, ap, _∙_}
-use mathlib.Core.List.{List, [], _∷_}
+use mathlib.Core.Path.{_≡_, refl, sym, ap, _∙_}
+use mathlib.Core.List.{List, [], _∷_, _++_}
 use native.Mathlib.Omega.{arith}
 use lib.Dec.{eqb, leb}
 use borrow.Author.Tests.{le-leb}
@@ -15,13 +15,17 @@ use Rattle.rules.specs.declared.phase.Deadline.the-variants.{Never, At}
 use Rattle.rules.specs.declared.input.Input.the-variants.{SwitchOnOff}
 use Rattle.rules.specs.declared.state.State.{State}
 use Rattle.rules.specs.declared.barrier.Barrier.the-variants.{Open}
-use Rattle.rules.specs.Phases.{deadline, litAt, atDeadline, setOn}
+use Rattle.rules.specs.Phases.{output, deadline, litAt, atDeadline, setOn}
 use Rattle.rules.specs.Orders.{on, timedStart, offAfterDelay, off, withPhase, switch, order}
 use Rattle.rules.specs.Barriers.{barrier}
-use Rattle.rules.specs.Steps.{atMoment, tickAt, tick, ticked, clockMove, taken, meet, act, step}
-use Rattle.rules.proofs.Tests.{either-way}
+use Rattle.rules.specs.Steps.{atMoment, tickAt, tick, ticked, clockMove, step}
 use Rattle.rules.specs.Lists.{Cue, cue, plays, playsTo}
-use Rattle.rules.proofs.Rank.{LeavesNoTrace, NotBefore, unchanged-leaves-no-trace, no-trace-may-be-struck}
+use Rattle.rules.specs.Promises.{Rises, stateAt}
+use Rattle.rules.proofs.Tests.{either-way}
+use Rattle.rules.proofs.Moments.{at-case, at-the-end, next-is-later, rises-from, at-after}
+use Rattle.rules.proofs.Soundness.{move-clock, move-params, taken-is-the-order}
+use Rattle.rules.proofs.Timers.{moves-compose}
+use Rattle.rules.proofs.Rank.{LeavesNoTrace, unchanged-leaves-no-trace, no-trace-may-be-struck}
 
 -- ---- Off, of a phase
 
@@ -45,6 +49,19 @@ by-the-timers s c m (Ending d) none e h = rw (le-leb d m h)
 
 pub dark-by-the-timers : (s : State) (m : ℕ) → DarkBy (s .params) m (s .phase) → clockMove s m .state .phase ≡ Dark
 dark-by-the-timers s m h = by-the-timers s (s .clock) m (s .phase) (eqb (s .params .prewarning) 0) refl h
+
+-- an Off is heard within its delay
+off-within-its-delay : (p : Params) (t m : ℕ) (phase : Phase) → t + p .offdelay ≤ m → DarkBy p m (off p t phase)
+unfolding off
+off-within-its-delay p t m phase h = either-way (DarkBy p m) (eqb (p .offdelay) 0) Dark (offAfterDelay p t phase) tt (delayed phase)
+  where
+    delayed : (phase : Phase) → DarkBy p m (offAfterDelay p t phase)
+    delayed Dark = unfold offAfterDelay in tt
+    delayed Lit = unfold offAfterDelay in h
+    delayed (Starting timed d) = unfold offAfterDelay in tt
+    delayed (Timed d) = unfold offAfterDelay in omega arith
+    delayed (Warning d) = unfold offAfterDelay in omega arith
+    delayed (Ending d) = unfold offAfterDelay in omega arith
 
 -- an Off takes the earlier of two moments, and the moment of dark is one of them
 after-delay-is-never-later : (p : Params) (t m : ℕ) (phase : Phase) → DarkBy p m phase → DarkBy p m (offAfterDelay p t phase)
@@ -172,8 +189,15 @@ asked-leaves-no-trace s u e = unchanged-leaves-no-trace s (SwitchOnOff false) u 
 
 -- an Off that is taken at t is asked for from then on
 taken-off-asks : (s : State) (t u : ℕ) → t ≤ u → barrier (clockMove s t .state) (SwitchOnOff false) ≡ Open → Asked u (step s (SwitchOnOff false) t .state)
-unfolding step act meet taken order
-taken-off-asks s t u h free = rw free (off-asks (clockMove s t .state) u (unfold clockMove ticked in h))
+unfolding order
+taken-off-asks s t u h free = rw (taken-is-the-order s (SwitchOnOff false) t free) (off-asks (clockMove s t .state) u (rw (move-clock s t) h))
+
+-- and the phase it leaves is dark within the delay
+taken-off-is-dark-by : (s : State) (t m : ℕ) → barrier (clockMove s t .state) (SwitchOnOff false) ≡ Open → t + s .params .offdelay ≤ m →
+    DarkBy (step s (SwitchOnOff false) t .state .params) m (step s (SwitchOnOff false) t .state .phase)
+unfolding order switch
+taken-off-is-dark-by s t m free h =
+    rw (taken-is-the-order s (SwitchOnOff false) t free) (off-within-its-delay (clockMove s t .state .params) _ m _ (rw (move-params s t, move-clock s t) h))
 
 -- whatever the second Off's barriers are: the state after it, deadline and all, and the records are those without it
 pub repeated-off-leaves-no-trace : (s : State) (t u : ℕ) → t ≤ u → barrier (clockMove s t .state) (SwitchOnOff false) ≡ Open →
@@ -187,28 +211,46 @@ abbrev pub offs : List ℕ → List Cue
 offs [] = []
 offs (u ∷ us) = cue u (SwitchOnOff false) ∷ offs us
 
--- from t on to the end, in order
-abbrev pub Rising : ℕ → List ℕ → ℕ → Type 0
-Rising t [] end = t ≤ end
-Rising t (u ∷ us) end = (t ≤ u) × Rising u us end
-
-not-before : (t : ℕ) (us : List ℕ) (end : ℕ) → Rising t us end → NotBefore t (offs us) end
-not-before t [] end h = h
-not-before t (u ∷ us) end h = h .0
-
-asked-again : (us : List ℕ) (s : State) (t end : ℕ) → Asked t s → Rising t us end →
+asked-again : (us : List ℕ) (s : State) (t end : ℕ) → Asked t s → Rises t (offs us) end →
     (playsTo end (offs us) s .state ≡ clockMove s end .state) × (playsTo end (offs us) s .records ≡ clockMove s end .records)
 unfolding playsTo plays
 asked-again [] s t end e h = (refl, refl)
 asked-again (u ∷ us) s t end e h =
     let asked = asked-later s t u (h .0) e in
-    let struck = no-trace-may-be-struck s [] u (SwitchOnOff false) (offs us) end (not-before u us end (h .1)) (asked-leaves-no-trace s u asked) in
+    let struck = no-trace-may-be-struck s [] u (SwitchOnOff false) (offs us) end (next-is-later u (offs us) end (h .1)) (asked-leaves-no-trace s u asked) in
     let rest = asked-again us s u end asked (h .1) in
     (struck .state ∙ rest .0, struck .records ∙ rest .1)
 
 -- The nervous operator: after an Off is taken at t, further Offs at any moments leave the state at every later moment, and
 -- the records up to it, as the first Off alone leaves them.
-pub asking-again-changes-nothing : (s : State) (t : ℕ) (us : List ℕ) (end : ℕ) → barrier (clockMove s t .state) (SwitchOnOff false) ≡ Open → Rising t us end →
+pub asking-again-changes-nothing : (s : State) (t : ℕ) (us : List ℕ) (end : ℕ) → barrier (clockMove s t .state) (SwitchOnOff false) ≡ Open → Rises t (offs us) end →
     let first : State = step s (SwitchOnOff false) t .state in
     (playsTo end (offs us) first .state ≡ clockMove first end .state) × (playsTo end (offs us) first .records ≡ clockMove first end .records)
 asking-again-changes-nothing s t us end free h = asked-again us _ t end (taken-off-asks s t t (omega arith) free) h
+
+-- each of them leaves what the clock move alone leaves, and two moves are one
+asked-at : (us : List ℕ) (s : State) (t end u : ℕ) → Asked t s → Rises t (offs us) end → stateAt u (offs us) s ≡ clockMove s u .state
+asked-at [] s t end u e r = at-the-end u s
+asked-at (v ∷ us) s t end u e r =
+    let asked = asked-later s t v (r .0) e in
+    at-case (λ (x : State). x ≡ clockMove s u .state) u v (SwitchOnOff false) (offs us) s
+    (λ past. ap (stateAt u (offs us)) (asked-leaves-no-trace s v asked .0) ∙ (asked-at us (clockMove s v .state) v end u (move-keeps-asked s v v asked) (r .1) ∙ moves-compose s v u past .0))
+    (λ ahead. refl)
+
+-- The same at every moment u of a whole run: from t on the house is as the first Off alone leaves it, neither lit longer nor dark
+-- sooner.
+pub asking-again-is-never-later : (s : State) (before : List Cue) (t : ℕ) (us : List ℕ) (last end u : ℕ) → barrier (clockMove (plays before s .state) t .state) (SwitchOnOff false) ≡ Open →
+    Rises last (before ++ (cue t (SwitchOnOff false) ∷ offs us)) end → t ≤ u →
+    stateAt u (before ++ (cue t (SwitchOnOff false) ∷ offs us)) s ≡ stateAt u (before ++ (cue t (SwitchOnOff false) ∷ [])) s
+asking-again-is-never-later s before t us last end u free r past =
+    let first : State = step (plays before s .state) (SwitchOnOff false) t .state in
+    let then = at-after t (SwitchOnOff false) (offs us) end before last r u past in
+    then (offs us) s
+    ∙ asked-at us first t end u (taken-off-asks (plays before s .state) t t (omega arith) free) (rises-from t (SwitchOnOff false) (offs us) end before last r)
+    ∙ sym (then [] s ∙ at-the-end u first)
+
+-- However often it is asked for again, the output is off once the delay of the first Off has passed.
+pub an-off-is-heard : (s : State) (t : ℕ) (us : List ℕ) (end : ℕ) → barrier (clockMove s t .state) (SwitchOnOff false) ≡ Open → Rises t (offs us) end → t + s .params .offdelay ≤ end →
+    output (playsTo end (offs us) (step s (SwitchOnOff false) t .state) .state .phase) ≡ false
+an-off-is-heard s t us end free r passed =
+    rw (asking-again-changes-nothing s t us end free r .0) (ap output (dark-by-the-timers (step s (SwitchOnOff false) t .state) end (taken-off-is-dark-by s t end free passed)))

@@ -22,7 +22,7 @@ use Rattle.rules.specs.Inputs.{stampAt, inputAt}
 use Rattle.rules.specs.Status.{recordOf, byItself}
 use Rattle.rules.specs.Steps.{fresh, clockMove, step}
 use Rattle.rules.specs.Soundness.{sound}
-use Rattle.rules.specs.Lists.{Cue, cue, Played, andThen, moved, stepped, plays, playsTo, playList}
+use Rattle.rules.specs.Lists.{Cue, Played, andThen, moved, stepped, plays, playsTo, playList}
 use Rattle.rules.specs.Refusals.{checkParameters, stampInRange}
 use Rattle.rules.specs.Calls.{freshBy, freshCall, singleDone, singleCall, moveDone, moveCall}
 use Rattle.rules.specs.Files.{cues, inputCount, endTime, inputPlace, parametersIn, readInputs, readFile, roomy}
@@ -30,7 +30,7 @@ use Rattle.rules.specs.Runs.{playFile, accepted, runCall}
 use Rattle.rules.proofs.Inputs.{input-number}
 use Rattle.rules.proofs.Soundness.{step-is-sound, step-clock}
 use Rattle.rules.proofs.Records.{a-move-writes-at-most-two, an-input-writes-at-most-three, used-places}
-use Rattle.rules.proofs.Plays.{andThen-assoc, andThen-from}
+use Rattle.rules.proofs.Plays.{andThen-from, plays-to-next}
 use Rattle.rules.proofs.Accepted.{passed-is-sound}
 use Rattle.rules.proofs.Calls.{good-is-played}
 use Rattle.rules.proofs.CueFiles.{good-file, good-start}
@@ -117,10 +117,6 @@ move-played s end safe later timely =
     (simp (safe, low, high, all), simp (safe, low, high))
 
 -- ---- all of them
-
-plays-to-next : (end t : ℕ) (i : Input) (later : List Cue) (s : State) → playsTo end (cue t i ∷ later) s ≡ andThen (stepped (step s i t)) (playsTo end later)
-unfolding playsTo plays
-plays-to-next end t i later s = andThen-assoc (stepped (step s i t)) (plays later) (λ x. moved (clockMove x end))
 
 joins : (file : List ℕ) (left i : ℕ) (s : State) (list : List Cue) → endTime file ≤ lastStamp → sound s ≡ true → s .clock ≤ endTime file → readInputs file left i (s .clock) (endTime file) ≡ cues list →
     (playsTo (endTime file) list s ≡ calls (endTime file) (inputsIn file left i) s) × NoneRefused (endTime file) (inputsIn file left i) s

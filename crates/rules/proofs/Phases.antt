@@ -46,7 +46,7 @@ module _ (p : Params) (n : Times p) where
   pub on-unheld : (night : Bool) (t : ℕ) (phase : Phase) → Unheld night t phase → Unheld night t (on p night false t phase)
   unfolding on
   on-unheld night t Dark h = cond-zero (Unheld night t) (p .ondelay) _ _ (lit-unheld night false t) (λ some. omega arith)
-  on-unheld night t (Starting timed d) h = h
+  on-unheld night t (Starting timed d) h = omega arith
   on-unheld night t Lit h = h
   on-unheld night t (Timed d) h = set-on-unheld night t
   on-unheld night t (Warning d) h = set-on-unheld night t
@@ -89,6 +89,6 @@ module _ (p : Params) (n : Times p) where
   night-falls-unheld night t Dark h = tt
   night-falls-unheld night t Lit h = omega arith
   night-falls-unheld night t (Starting timed d) h = h
-  night-falls-unheld night t (Timed d) h = h
+  night-falls-unheld night t (Timed d) h = omega arith
   night-falls-unheld night t (Warning d) h = h
   night-falls-unheld night t (Ending d) h = omega arith

@@ -7,7 +7,7 @@ use Rattle.rules.specs.declared.state.State.{State}
 use Rattle.rules.specs.declared.barrier.Barrier.{Barrier}
 use Rattle.rules.specs.declared.barrier.Barrier.the-variants.{Open, NoPower, NoBus, Locked, Forced}
 use Rattle.rules.specs.Barriers.{barrier}
-use Rattle.rules.specs.Steps.{Moved, taken, meet, act, step}
+use Rattle.rules.specs.Steps.{Moved, clockMove, taken, meet, act, step}
 use Rattle.rules.specs.Lists.{Cue, cue, Played, andThen, unplayed, moved, stepped, plays, playsTo}
 
 -- a state that no timer has led to
@@ -36,6 +36,11 @@ plays-append (cue t i ∷ before) later s = rw (plays-append before later (step 
 pub plays-to-append : (end : ℕ) (before later : List Cue) (s : State) → playsTo end (before ++ later) s ≡ andThen (plays before s) (playsTo end later)
 unfolding playsTo
 plays-to-append end before later s = rw (plays-append before later s) (simp append-assoc)
+
+-- a list is its first cue, then the rest
+pub plays-to-next : (end t : ℕ) (i : Input) (later : List Cue) (s : State) → playsTo end (cue t i ∷ later) s ≡ andThen (stepped (step s i t)) (playsTo end later)
+unfolding playsTo plays
+plays-to-next end t i later s = andThen-assoc (stepped (step s i t)) (plays later) (λ x. moved (clockMove x end))
 
 -- an input's own records come after those of the clock move, and nothing else of that move reaches it but the state
 pub acts-after-the-move : (m : Moved) (i : Input) → stepped (act m i) ≡ andThen (moved m) (λ x. stepped (act (still x) i))

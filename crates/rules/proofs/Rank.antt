@@ -13,6 +13,7 @@ use Rattle.rules.specs.Status.{written}
 use Rattle.rules.specs.Steps.{Moved, taken, meet, clockMove, act, step}
 use Rattle.rules.proofs.Timers.{moves-compose, alike-writes-nothing}
 use Rattle.rules.specs.Lists.{Cue, cue, Played, andThen, moved, stepped, plays, playsTo}
+use Rattle.rules.specs.Promises.{NotBefore}
 use Rattle.rules.proofs.Plays.{still, andThen-assoc, andThen-from, plays-to-append, acts-after-the-move}
 
 -- an input leaves what the clock move alone leaves
@@ -47,11 +48,6 @@ pub nothing-of-it-comes-back : (s : State) (i : Input) (t : ℕ) (later : List C
 nothing-of-it-comes-back s i t later stops = ap (plays later) (dropped-leaves-no-trace s i t stops .0)
 
 -- ---- struck from the list altogether
-
--- what comes next, a cue or the end, is not before t
-abbrev pub NotBefore : ℕ → List Cue → ℕ → Type 0
-NotBefore t [] end = t ≤ end
-NotBefore t (cue u i ∷ later) end = t ≤ u
 
 -- to move the clock by way of t is to move it at once
 by-way-of : (s : State) (t u : ℕ) → t ≤ u → andThen (moved (clockMove s t)) (λ x. moved (clockMove x u)) ≡ moved (clockMove s u)

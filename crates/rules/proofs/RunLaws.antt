@@ -56,7 +56,7 @@ module _ (file records answers : List ℕ) where
   unfolding runCall readCall runBy
   a-good-file-is-played list read room = rw (read, room)
 
-some-number : (why : Refusal) → 1 ≤ number why
+pub some-number : (why : Refusal) → 1 ≤ number why
 some-number WrongLength = omega arith
 some-number WrongVersion = omega arith
 some-number WrongActuators = omega arith

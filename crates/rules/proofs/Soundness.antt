@@ -136,6 +136,9 @@ pub move-clock : (s : State) (t : ℕ) → clockMove s t .state .clock ≡ t
 unfolding clockMove ticked
 move-clock s t = refl
 
+pub move-params : (s : State) (t : ℕ) → clockMove s t .state .params ≡ s .params
+move-params s t = ap (λ (u : State). u .params) (move-keeps s t)
+
 -- ---- an order and a step
 
 -- an order keeps clock and parameters, teaches a used entry at most, and sets a phase that fits
@@ -153,27 +156,35 @@ order-is-sound s i small h way =
       consistent = fits-consistent _ f;
     }
 
-meet-is-sound : (x : Barrier) (m : Moved) (i : Input) → sceneNumber i ≤ 63 → sound (m .state) ≡ true → barrier (m .state) i ≡ x → sound (meet x m i .state) ≡ true
+meet-case : (P : State → Type 0) (b : Barrier) (m : Moved) (i : Input) → (b ≡ Open → P (order (m .state) i)) → P (m .state) → P (meet b m i .state)
 unfolding meet taken
-meet-is-sound Open m i small h way = order-is-sound (m .state) i small h way
-meet-is-sound NoPower m i small h way = h
-meet-is-sound NoBus m i small h way = h
-meet-is-sound Locked m i small h way = h
-meet-is-sound Forced m i small h way = h
+meet-case P Open m i f g = f refl
+meet-case P NoPower m i f g = g
+meet-case P NoBus m i f g = g
+meet-case P Locked m i f g = g
+meet-case P Forced m i f g = g
 
--- a stopped input changes nothing after the clock move, any other is an order
-pub step-is-sound : (s : State) (i : Input) (t : ℕ) → sceneNumber i ≤ 63 → sound s ≡ true → s .clock ≤ t → t ≤ 864_000 → sound (step s i t .state) ≡ true
+-- what holds after the clock move, and after the order where nothing stops it, holds after the step
+pub step-case : (P : State → Type 0) (s : State) (i : Input) (t : ℕ) →
+    (barrier (clockMove s t .state) i ≡ Open → P (order (clockMove s t .state) i)) → P (clockMove s t .state) → P (step s i t .state)
 unfolding step act
-step-is-sound s i t small h later end = meet-is-sound _ (clockMove s t) i small (move-is-sound s t h later end) refl
+step-case P s i t f g = meet-case P _ (clockMove s t) i f g
 
-meet-clock : (x : Barrier) (m : Moved) (i : Input) → meet x m i .state .clock ≡ m .state .clock
-unfolding meet taken
-meet-clock Open m i = order-keeps (m .state) i .clock
-meet-clock NoPower m i = refl
-meet-clock NoBus m i = refl
-meet-clock Locked m i = refl
-meet-clock Forced m i = refl
+pub taken-is-the-order : (s : State) (i : Input) (t : ℕ) → barrier (clockMove s t .state) i ≡ Open → step s i t .state ≡ order (clockMove s t .state) i
+unfolding step act meet taken
+taken-is-the-order s i t way = rw way
+
+pub step-is-sound : (s : State) (i : Input) (t : ℕ) → sceneNumber i ≤ 63 → sound s ≡ true → s .clock ≤ t → t ≤ 864_000 → sound (step s i t .state) ≡ true
+step-is-sound s i t small h later end =
+    let safe = move-is-sound s t h later end in
+    step-case (λ (u : State). sound u ≡ true) s i t (order-is-sound (clockMove s t .state) i small safe) safe
 
 pub step-clock : (s : State) (i : Input) (t : ℕ) → step s i t .state .clock ≡ t
-unfolding step act
-step-clock s i t = meet-clock _ (clockMove s t) i ∙ move-clock s t
+step-clock s i t =
+    let there = move-clock s t in
+    step-case (λ (u : State). u .clock ≡ t) s i t (λ way. order-keeps (clockMove s t .state) i .clock ∙ there) there
+
+pub step-params : (s : State) (i : Input) (t : ℕ) → step s i t .state .params ≡ s .params
+step-params s i t =
+    let same = move-params s t in
+    step-case (λ (u : State). u .params ≡ s .params) s i t (λ way. order-keeps (clockMove s t .state) i .params ∙ same) same

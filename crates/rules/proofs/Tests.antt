@@ -1,10 +1,10 @@
 -- Laws of tests that the theorems share.
-use Prim.Native.Nat.{ℕ, _≤_}
+use Prim.Native.Nat.{ℕ, _≤_, _<_}
 use mathlib.Core.Bool.{Bool, true, false, cond, _&&_, _||_, Bool·beq, true≢false}
 use mathlib.Core.Path.{_≡_, refl, sym}
 use native.Mathlib.Omega.{arith}
-use lib.Dec.{eqb}
-use borrow.Author.Tests.{eq-eqb, eqb-false}
+use lib.Dec.{eqb, leb}
+use borrow.Author.Tests.{eq-eqb, eqb-false, leb-true, leb-false}
 
 -- a test that both failed and passed
 pub no : {A : Type 0} → false ≡ true → A
@@ -48,3 +48,11 @@ and-left a b h = both a b h .0
 
 pub and-right : (a b : Bool) → (a && b) ≡ true → b ≡ true
 and-right a b h = both a b h .1
+
+-- two moments stand one way or the other
+pub by-order : {A : Type 0} (a b : ℕ) → (a ≤ b → A) → (b < a → A) → A
+by-order {A} a b f g = by (leb a b) refl
+  where
+    by : (x : Bool) → leb a b ≡ x → A
+    by true e = f (leb-true a b e)
+    by false e = g (leb-false a b e)

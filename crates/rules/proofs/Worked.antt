@@ -19,7 +19,7 @@ use Rattle.rules.specs.Calls.{unused, noScenes}
 use Rattle.rules.specs.Lists.{Cue, cue, plays, playsTo, playList}
 
 -- "OnDelay 2, OffDelay 5, TimedOn 60, Prewarning 10, unlocking 3, other modes 0."
-abbrev paper : Params
+abbrev pub paper : Params
 paper =
     record {
       ondelay = tenths 2;
@@ -58,10 +58,10 @@ played cues =
     record { answers = run .answers; records = run .records }
 
 -- "On 0" is On at stamp 0, and so for the others
-abbrev on-at : ℕ → Cue
+abbrev pub on-at : ℕ → Cue
 on-at t = cue t (SwitchOnOff true)
 
-abbrev off-at : ℕ → Cue
+abbrev pub off-at : ℕ → Cue
 off-at t = cue t (SwitchOnOff false)
 
 abbrev timed-at : ℕ → Cue
@@ -79,7 +79,7 @@ lock-at t = cue t (LockDevice true)
 abbrev unlock-at : ℕ → Cue
 unlock-at t = cue t (LockDevice false)
 
-abbrev night-at : ℕ → Cue
+abbrev pub night-at : ℕ → Cue
 night-at t = cue t (NightMode true)
 
 pub cases : List Case

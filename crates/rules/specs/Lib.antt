@@ -15,3 +15,5 @@ pub mod Files
 pub mod Runs
 pub mod Refusals
 pub mod Soundness
+pub mod Promises
+pub mod Demands
