@@ -62,7 +62,7 @@ night-is-dark s t n over = let m = clockMove s t .state in over-is-off (m .param
 -- ---- the inputs, one after the other
 
 module _ (p : Params) (end start t : ℕ) (long : start + longestLight p ≤ t) where
-  -- after the last input of a list that is stamped after the start, nothing changes night any more
+  -- inputs stamped after the start have no part in the state at the start
   night-from : (later : List Cue) (s : State) (u : ℕ) → start < u → Rises u later end → NightRules s → NightRules (stateAt start later s)
   night-from [] s u after r n = rw (at-the-end start s) (moved-night s start n)
   night-from (cue v j ∷ later) s u after r n = at-case NightRules start v j later s (λ early. absurd (omega (arith, r .0))) (λ ahead. moved-night s start n)
