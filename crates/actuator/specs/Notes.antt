@@ -42,9 +42,9 @@ added n (Wrote r) = record { count = n .count + 1; records = set (n .records) (n
 
 -- ---- what the code has come to, of what the rules say
 
--- a clock move, of the lamp and of the whole state
+-- the timers of a clock move, and the whole move
 unfoldable pub ticked : Moved → Ticked
-ticked m = record { lamp = lampOf (m .state); notes = notes (m .records) }
+ticked m = record { phase = m .state .phase; notes = notes (m .records) }
 
 unfoldable pub clocked : Moved → Clocked
 clocked m = record { state = m .state; notes = notes (m .records) }

@@ -21,20 +21,20 @@ use rules::phase::Phase;
 use rules::state::Link;
 use rules::state::State;
 
-// A lamp whose clock has moved, and the records that its timers wrote.
+// What timers leave: a phase, and the records that they wrote. All else of a lamp but its clock stays.
 pub struct Ticked {
-    pub lamp: Lamp,
+    pub phase: Phase,
     pub notes: Notes,
 }
 
-// The same, of a whole state.
+// A state whose clock has moved, and the records that its timers wrote.
 pub struct Clocked {
     pub state: State,
     pub notes: Notes,
 }
 
 // The lamp at another moment, in this phase.
-fn at_moment(l: Lamp, t: u32, ph: Phase) -> Lamp
+pub fn at_moment(l: Lamp, t: u32, ph: Phase) -> Lamp
     ensures { λ r. ⌜ r ≡ lampOf (atMoment (alone l) t ph) ⌝ }
 {
     let f = l.force;
@@ -70,7 +70,7 @@ fn tick_once(p: Params, l: Lamp, t: u32) -> Lamp
     }
 }
 
-// Every timer due at or before t: a phase has at most three before it rests.
+// Every timer due at or before t, each at its own moment: a phase has at most three before it rests.
 pub fn run_timers(p: Params, l: Lamp, t: u32) -> Ticked
     requires { ⌜ Room p t ⌝ }
     ensures { λ r. ⌜ ((k : List Scene) → r ≡ ticked (clockMove (stateOf p k l) t)) ⌝ }
@@ -83,16 +83,15 @@ pub fn run_timers(p: Params, l: Lamp, t: u32) -> Ticked
     let third = notes::add(second, notes::noted(0, b, c));
     let ph = c.phase;
     Ticked {
-        lamp: at_moment(c, t, ph),
+        phase: ph,
         notes: third,
     }
 }
 
-// Whether a timer is due at or before t. Most moves meet none, and then only the clock moves.
-pub fn is_due(l: Lamp, t: u32) -> bool
-    ensures { λ r. ⌜ r ≡ dueBy (deadline (l .phase)) t ⌝ }
+// Whether a timer is due at or before t.
+pub fn is_due(ph: Phase, t: u32) -> bool
+    ensures { λ r. ⌜ r ≡ dueBy (deadline ph) t ⌝ }
 {
-    let ph = l.phase;
     let deadline = phase::deadline_of(ph);
     match deadline {
         Deadline::Never => false,
@@ -100,24 +99,17 @@ pub fn is_due(l: Lamp, t: u32) -> bool
     }
 }
 
-// Only the clock moves.
-pub fn let_pass(mut l: Lamp, t: u32) -> Lamp
-    ensures { λ r. ⌜ r ≡ lampOf (atMoment (alone l) t (l .phase)) ⌝ }
-{
-    l.clock = t;
-    l
-}
-
-// The clock of a lamp moves to t.
-pub fn move_lamp(p: Params, l: Lamp, t: u32) -> Ticked
+// The timers due at or before t. Most moves of the clock meet none, and are cheap.
+pub fn due_timers(p: Params, l: Lamp, t: u32) -> Ticked
     requires { ⌜ Room p t ⌝ }
     ensures { λ r. ⌜ ((k : List Scene) → r ≡ ticked (clockMove (stateOf p k l) t)) ⌝ }
 {
-    if is_due(l, t) {
+    let ph = l.phase;
+    if is_due(ph, t) {
         run_timers(p, l, t)
     } else {
         Ticked {
-            lamp: let_pass(l, t),
+            phase: ph,
             notes: notes::none(),
         }
     }
@@ -130,11 +122,12 @@ pub fn move_clock(s: State, t: u32) -> Clocked
 {
     let p = s.params;
     let k = s.scenes;
-    let m = move_lamp(p, lamp::lamp_of(s), t);
-    let l = m.lamp;
+    let l = lamp::lamp_of(s);
+    let m = due_timers(p, l, t);
+    let ph = m.phase;
     let written = m.notes;
     Clocked {
-        state: lamp::state_of(p, k, l),
+        state: lamp::state_of(p, k, at_moment(l, t, ph)),
         notes: written,
     }
 }

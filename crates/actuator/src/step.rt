@@ -13,7 +13,8 @@ ghost use Rattle.actuator.specs.Notes.{doneBy, stoppedBy, done, acted};
 use crate::barrier::barrier_to;
 use crate::barrier::kind_of;
 use crate::clock::Ticked;
-use crate::clock::move_lamp;
+use crate::clock::at_moment;
+use crate::clock::due_timers;
 use crate::notes;
 use crate::notes::Note;
 use crate::notes::Notes;
@@ -31,6 +32,7 @@ use rules::input::Force;
 use rules::input::Input;
 use rules::parameters::Params;
 use rules::parameters::Scene;
+use rules::phase::Phase;
 use rules::record::Record;
 use rules::state::State;
 
@@ -113,8 +115,8 @@ pub fn act_on(p: Params, k: [Scene; 8], l: Lamp, i: Input) -> Done
     }
 }
 
-// The scene table that an input at the moved clock leaves.
-pub fn scenes_left(p: Params, k: [Scene; 8], l: Lamp, i: Input) -> [Scene; 8]
+// The scene table that a lesson leaves at the moved clock.
+fn scenes_taught(p: Params, k: [Scene; 8], l: Lamp, i: Input) -> [Scene; 8]
     ensures { λ r. ⌜ r ≡ act (still (stateOf p k l)) i .state .scenes ⌝ }
 {
     let b = barrier_to(l, i);
@@ -127,6 +129,17 @@ pub fn scenes_left(p: Params, k: [Scene; 8], l: Lamp, i: Input) -> [Scene; 8]
     }
 }
 
+// The scene table that an input at the moved clock leaves: every input but a lesson leaves it as it is.
+pub fn scenes_left(p: Params, k: [Scene; 8], l: Lamp, i: Input) -> [Scene; 8]
+    ensures { λ r. ⌜ r ≡ act (still (stateOf p k l)) i .state .scenes ⌝ }
+{
+    if is_lesson(i) {
+        scenes_taught(p, k, l, i)
+    } else {
+        k
+    }
+}
+
 // An input to a whole state, by value.
 pub fn step_input(s: State, i: Input, t: u32) -> Acted
     requires { ⌜ (sound s ≡ true) × (s .clock ≤ t) × (t ≤ 864000) ⌝ }
@@ -134,9 +147,11 @@ pub fn step_input(s: State, i: Input, t: u32) -> Acted
 {
     let p = s.params;
     let k = s.scenes;
-    let m = move_lamp(p, lamp::lamp_of(s), t);
-    let moved = m.lamp;
+    let l = lamp::lamp_of(s);
+    let m = due_timers(p, l, t);
+    let ph = m.phase;
     let timers = m.notes;
+    let moved = at_moment(l, t, ph);
     let d = act_on(p, k, moved, i);
     let after = d.lamp;
     let note = d.note;

@@ -3,38 +3,55 @@ ghost use mathlib.Core.Path.{_≡_};
 ghost use mathlib.Core.Bool.{true};
 ghost use Prim.Native.Nat.{_+_, _*_, _≤_};
 ghost use lib.ListN.{length};
-ghost use Rattle.rules.specs.Inputs.{stampAt};
+ghost use Rattle.rules.specs.declared.input.Decoded.the-variants.{Meant};
+ghost use Rattle.rules.specs.Inputs.{inputAt};
 ghost use Rattle.rules.specs.Soundness.{sound};
 ghost use Rattle.rules.specs.Lists.{plays};
 ghost use Rattle.rules.specs.Runs.{playFile};
-ghost use Rattle.actuator.specs.Notes.{acted};
-ghost use Rattle.house.specs.Playing.{listIn, freshIn, stepAt, Ready, Fit, Filled};
+ghost use Rattle.phases.specs.Room.{Room};
+ghost use Rattle.decode.specs.Meaning.{isMeant};
+ghost use Rattle.house.specs.Playing.{listIn, freshIn, Ready, Fit, Filled, Advanced};
+use crate::put::put_note;
 use crate::put::put_notes;
 use crate::put::put_record;
-use actuator::clock::Clocked;
+use actuator::clock::Ticked;
+use actuator::clock::at_moment;
+use actuator::clock::due_timers;
+use actuator::clock::is_due;
 use actuator::clock::run_timers;
 use actuator::fresh::fresh_with;
-use actuator::notes;
+use actuator::notes::Note;
 use actuator::notes::Notes;
 use actuator::status::record_of;
-use actuator::step::Acted;
-use actuator::step::step_input;
+use actuator::step::Done;
+use actuator::step::act_on;
+use actuator::step::scenes_left;
 use decode::input::input_at;
 use decode::input::stamp_at;
 use decode::parameters::params_of;
 use decode::parameters::scenes_of;
+use orders::lamp::Lamp;
+use orders::lamp::lamp_of;
+use orders::lamp::state_of;
 use rules::input::Decoded;
 use rules::input::Event;
 use rules::input::Force;
 use rules::input::Input;
 use rules::parameters::Params;
 use rules::parameters::Scene;
+use rules::phase::Phase;
 use rules::record::Record;
 use rules::state::State;
 
 // Where playing has come to: the state, and how many records stand in the buffer.
 pub struct Ended {
     pub state: State,
+    pub count: u32,
+}
+
+// What a clock move leaves: the phase, and how many records stand in the buffer.
+pub struct Moment {
+    pub phase: Phase,
     pub count: u32,
 }
 
@@ -47,19 +64,38 @@ fn fresh_in(file: &[u8]) -> State
     fresh_with(params_of(parameters), scenes_of(parameters))
 }
 
-// The input at a place. A checked file has no wrong one there: such an input would do nothing.
-fn step_at(file: &[u8], at: usize, s: State) -> Acted
-    requires { ⌜ (at + 8 ≤ length (now file)) × (sound s ≡ true) × (s .clock ≤ stampAt (now file) at) × (stampAt (now file) at ≤ 864000) ⌝ }
-    ensures { λ r. ⌜ r ≡ acted (stepAt (now (file .entry)) at s) ⌝ }
+// The input at a place of a checked file, where none is wrong.
+fn meant_at(file: &[u8], at: usize) -> Input
+    requires { ⌜ (at + 8 ≤ length (now file)) × (isMeant (inputAt (now file) at) ≡ true) ⌝ }
+    ensures { λ r. ⌜ inputAt (now (file .entry)) at ≡ Meant r ⌝ }
 {
     let meant = input_at(file, at);
     match meant {
-        Decoded::Meant(i) => step_input(s, i, stamp_at(file, at)),
-        Decoded::Wrong => Acted {
-            state: s,
-            answer: 0,
-            notes: notes::none(),
-        },
+        Decoded::Meant(i) => i,
+        Decoded::Wrong => Input::Power(Event::Return),
+    }
+}
+
+// The timers due at or before t: their records follow those before. Most moves of the clock meet none; only those that do
+// pay for the copies.
+fn advance(records: &mut [u8], count: u32, p: Params, l: Lamp, t: u32) -> Moment
+    requires { ⌜ Room p t × (count ≤ 6144) × (8 * count + 16 ≤ length (now records)) ⌝ }
+    ensures { λ r. ⌜ Advanced p l t count (now (records .entry)) r (now (records .exit)) ⌝ }
+{
+    let ph = l.phase;
+    if is_due(ph, t) {
+        let times = p;
+        let waiting = l;
+        let m = run_timers(times, waiting, t);
+        let left = m.phase;
+        let written = m.notes;
+        put_notes(records, 8 * (count as usize), written);
+        Moment {
+            phase: left,
+            count: count + (written.count as u32),
+        }
+    } else {
+        Moment { phase: ph, count }
     }
 }
 
@@ -68,20 +104,31 @@ fn play_inputs(file: &[u8], n: u32, start: State, records: &mut [u8], answers: &
     requires { ⌜ Ready (now file) n start × (8 + 24 * n ≤ length (now records)) × (n ≤ length (now answers)) ⌝ }
     ensures { λ r. ⌜ Filled 1 (plays (listIn (now (file .entry))) start) (now (records .entry)) (now (answers .entry)) r (now (records .exit)) (now (answers .exit)) × (sound (r .state) ≡ true) × (r .count ≤ 1 + 3 * n) ⌝ }
 {
-    let mut s = start;
+    let p = start.params;
+    let mut k = start.scenes;
+    let mut l = lamp_of(start);
     let mut count: u32 = 1;
     let mut i: u32 = 0;
     while i < n {
-        let d = step_at(file, 52 + 8 * (i as usize), s);
-        let written = d.notes;
-        put_notes(records, 8 * (count as usize), written);
+        let at = 52 + 8 * (i as usize);
+        let x = meant_at(file, at);
+        let t = stamp_at(file, at);
+        let m = advance(records, count, p, l, t);
+        let ph = m.phase;
+        let moved = at_moment(l, t, ph);
+        let d = act_on(p, k, moved, x);
+        let note = d.note;
+        count = put_note(records, m.count, note);
         answers[i as usize] = d.answer;
-        let next = d.state;
-        s = next;
-        count += written.count as u32;
+        k = scenes_left(p, k, moved, x);
+        let next = d.lamp;
+        l = next;
         i += 1;
     }
-    Ended { state: s, count }
+    Ended {
+        state: state_of(p, k, l),
+        count,
+    }
 }
 
 // The whole run: the start record, the inputs, and the clock's move to the end time.
@@ -90,15 +137,18 @@ pub fn play(file: &[u8], n: u32, end: u32, records: &mut [u8], answers: &mut [u8
     ensures { λ r. ⌜ Filled 0 (playFile (now (file .entry)) (listIn (now (file .entry)))) (now (records .entry)) (now (answers .entry)) r (now (records .exit)) (now (answers .exit)) ⌝ }
 {
     let start = fresh_in(file);
-    put_record(records, 0, record_of(0, start));
+    put_record(records, 0, record_of(0, lamp_of(start)));
     let played = play_inputs(file, n, start, records, answers);
     let s = played.state;
-    let last = run_timers(s, end);
+    let p = s.params;
+    let k = s.scenes;
+    let l = lamp_of(s);
+    let last = due_timers(p, l, end);
+    let ph = last.phase;
     let written = last.notes;
     put_notes(records, 8 * (played.count as usize), written);
-    let state = last.state;
     Ended {
-        state,
+        state: state_of(p, k, at_moment(l, end, ph)),
         count: played.count + (written.count as u32),
     }
 }

@@ -4,6 +4,8 @@ ghost use Prim.Native.Nat.{_+_, _*_, _≤_};
 ghost use lib.ListN.{length, take};
 ghost use Rattle.rules.specs.Runs.{recordOctets, recordsOctets};
 ghost use Rattle.house.specs.Splice.{splice};
+ghost use Rattle.house.specs.Playing.{listed};
+use actuator::notes::Note;
 use actuator::notes::Notes;
 use rules::record::Record;
 
@@ -44,4 +46,18 @@ pub fn put_notes(buf: &mut [u8], at: usize, n: Notes)
 {
     let k = n.records;
     put_first(buf, at, k, n.count);
+}
+
+// The record of an input, where it wrote one; how many records stand in the buffer then.
+pub fn put_note(buf: &mut [u8], count: u32, x: Note) -> u32
+    requires { ⌜ (count ≤ 6146) × (8 * count + 8 ≤ length (now buf)) ⌝ }
+    ensures { λ r. ⌜ (r ≡ count + length (listed x)) × (now (buf .exit) ≡ splice (now (buf .entry)) (8 * count) (recordsOctets (listed x))) ⌝ }
+{
+    match x {
+        Note::Silent => count,
+        Note::Wrote(r) => {
+            put_record(buf, 8 * (count as usize), r);
+            count + 1
+        }
+    }
 }
