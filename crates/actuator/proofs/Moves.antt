@@ -1,8 +1,8 @@
 -- Timers and clock moves, of the lamp alone: parameters and scenes stay, so a lamp can be handed on in their place.
 use Prim.Native.Nat.{ℕ}
 use mathlib.Core.Bool.{false}
-use mathlib.Core.List.{List}
-use mathlib.Core.Path.{_≡_, refl, ap, _∙_}
+use mathlib.Core.List.{List, []}
+use mathlib.Core.Path.{_≡_, refl, sym, ap, _∙_}
 use borrow.Author.Tests.{leb-false}
 use Rattle.rules.specs.declared.parameters.Params.{Params}
 use Rattle.rules.specs.declared.parameters.Scene.{Scene}
@@ -29,27 +29,26 @@ joined s p k e f = rw (← e, ← f) refl
 pub tick-joined : (p : Params) (k : List Scene) (l : Lamp) (t : ℕ) → stateOf p k (lampOf (tick (stateOf p k l) t)) ≡ tick (stateOf p k l) t
 tick-joined p k l t = tick-case (λ (u : State). stateOf p k (lampOf u) ≡ u) (stateOf p k l) t (λ d e past. refl) (λ quiet. refl)
 
-pub move-joined : (p : Params) (k : List Scene) (l : Lamp) (t : ℕ) → stateOf p k (lampOf (clockMove (stateOf p k l) t .state)) ≡ clockMove (stateOf p k l) t .state
-move-joined p k l t =
-    let kept = move-keeps (stateOf p k l) t in
-    joined (clockMove (stateOf p k l) t .state) p k (ap (λ (u : State). u .params) kept) (ap (λ (u : State). u .scenes) kept)
+-- the timers change nothing but the phase
+pub moved-lamp : (p : Params) (k : List Scene) (l : Lamp) (t : ℕ) → stateOf p k (lampOf (atMoment (alone l) t (clockMove (stateOf p k l) t .state .phase))) ≡ clockMove (stateOf p k l) t .state
+moved-lamp p k l t = sym (move-keeps (stateOf p k l) t)
 
 -- three timers, each from what the one before has left
 module _ (p : Params) (k : List Scene) (l : Lamp) (t : ℕ) where
   abbrev start : State
   start = stateOf p k l
 
-  -- the lamp and the records that three states give
+  -- the phase and the records that three states give
   abbrev left : State → State → State → Ticked
   left x y z =
-      record { lamp = lampOf (atMoment z t (z .phase)); notes = added (added (added noNotes (noteOf byItself start x)) (noteOf byItself x y)) (noteOf byItself y z) }
+      record { phase = z .phase; notes = added (added (added noNotes (noteOf byItself start x)) (noteOf byItself x y)) (noteOf byItself y z) }
 
   left-same : (x y z u v w : State) → x ≡ u → y ≡ v → z ≡ w → left x y z ≡ left u v w
   left-same x y z u v w e f g = rw (e, f, g) refl
 
   pub three-timers : (a b c : Lamp) → a ≡ lampOf (tick start t) → b ≡ lampOf (tick (stateOf p k a) t) → c ≡ lampOf (tick (stateOf p k b) t)
       → record {
-        lamp = lampOf (atMoment (alone c) t (c .phase));
+        phase = c .phase;
         notes = added (added (added noNotes (noteOf byItself (alone l) (alone a))) (noteOf byItself (alone a) (alone b))) (noteOf byItself (alone b) (alone c));
       } ≡ ticked (clockMove start t)
   unfolding ticked clockMove steps.ticked noteOf sameStatus value attributes recordOf
@@ -65,6 +64,9 @@ quiet : (due : Deadline) (t : ℕ) → dueBy due t ≡ false → Quiet t due
 quiet Never t e = tt
 quiet (At d) t e = leb-false d t e
 
-pub nothing-due : (p : Params) (k : List Scene) (l : Lamp) (t : ℕ) → dueBy (deadline (l .phase)) t ≡ false → record { lamp = lampOf (atMoment (alone l) t (l .phase)); notes = noNotes } ≡ ticked (clockMove (stateOf p k l) t)
+pub nothing-due : (p : Params) (k : List Scene) (l : Lamp) (t : ℕ) → dueBy (deadline (l .phase)) t ≡ false → clockMove (stateOf p k l) t ≡ record { state = atMoment (stateOf p k l) t (l .phase); records = [] }
+nothing-due p k l t e = no-timer-due-no-move (stateOf p k l) t (quiet (deadline (l .phase)) t e)
+
+pub nothing-ticked : (p : Params) (k : List Scene) (l : Lamp) (t : ℕ) → dueBy (deadline (l .phase)) t ≡ false → record { phase = l .phase; notes = noNotes } ≡ ticked (clockMove (stateOf p k l) t)
 unfolding ticked noNotes
-nothing-due p k l t e = rw (no-timer-due-no-move (stateOf p k l) t (quiet (deadline (l .phase)) t e)) refl
+nothing-ticked p k l t e = rw (nothing-due p k l t e) refl

@@ -1,7 +1,7 @@
 -- Where the room for the code's sums comes from: a sound state has it, and a timer leaves it.
 use Prim.Native.Nat.{ℕ, _≤_}
 use mathlib.Core.Bool.{true}
-use mathlib.Core.Path.{_≡_, ap}
+use mathlib.Core.Path.{_≡_}
 use native.Mathlib.Omega.{arith}
 use Rattle.rules.specs.declared.parameters.Params.{Params}
 use Rattle.rules.specs.declared.phase.Phase.{Phase}
@@ -13,7 +13,7 @@ use Rattle.rules.specs.Answers.{due}
 use Rattle.rules.specs.Steps.{clockMove}
 use Rattle.rules.specs.Soundness.{sound}
 use Rattle.rules.proofs.Deadlines.{times-bounded, due-is}
-use Rattle.rules.proofs.Soundness.{sound-view, due-bounded, move-keeps, move-is-sound}
+use Rattle.rules.proofs.Soundness.{sound-view, due-bounded, move-is-sound}
 use Rattle.phases.specs.Room.{Room, Roomy}
 
 -- at an earlier moment
@@ -45,7 +45,8 @@ sound-room s t h b =
 pub sound-roomy : (s : State) → sound s ≡ true → Roomy (s .params) (s .clock) (s .phase)
 sound-roomy s h = record { room = sound-room s (s .clock) h (sound-view s h .clock); deadline = due-bounded s h }
 
--- and so has the lamp after a clock move
-pub moved-roomy-lamp : (s : State) (t : ℕ) → sound s ≡ true → s .clock ≤ t → t ≤ lastStamp → Roomy (s .params) (clockMove s t .state .clock) (clockMove s t .state .phase)
-moved-roomy-lamp s t h later b =
-    rw (ap (λ (u : State). u .params) (move-keeps s t)) at (sound-roomy (clockMove s t .state) (move-is-sound s t h later b))
+-- and so has the phase after a clock move
+pub moved-roomy : (s : State) (t : ℕ) → sound s ≡ true → s .clock ≤ t → t ≤ lastStamp → Roomy (s .params) t (clockMove s t .state .phase)
+moved-roomy s t h later b =
+    let there = sound-roomy (clockMove s t .state) (move-is-sound s t h later b) in
+    record { room = sound-room s t h b; deadline = there .deadline }

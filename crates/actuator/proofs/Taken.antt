@@ -2,7 +2,7 @@
 use Prim.Native.Nat.{ℕ, _≤_}
 use mathlib.Core.Bool.{Bool, true, false, cond}
 use mathlib.Core.List.{List, [], _∷_, _++_}
-use mathlib.Core.Path.{_≡_, refl, ap, _∙_}
+use mathlib.Core.Path.{_≡_, refl, sym, ap, _∙_}
 use lib.ListN.{length}
 use native.Mathlib.Omega.{arith}
 use Rattle.rules.specs.declared.parameters.Scene.{Scene}
@@ -14,18 +14,20 @@ use Rattle.rules.specs.Inputs.{kind}
 use Rattle.rules.specs.Orders.{order}
 use Rattle.rules.specs.Barriers.{barrier}
 use Rattle.rules.specs.Status.{sameStatus, recordOf, written}
-use Rattle.rules.specs.Steps.{Stepped, clockMove, taken, meet, act, step}
+use Rattle.rules.specs.Steps.{Stepped, atMoment, clockMove, taken, meet, act, step}
 use Rattle.rules.specs.Lists.{Played}
 use Rattle.rules.proofs.Orders.{order-keeps}
 use Rattle.rules.proofs.Soundness.{move-keeps}
 use Rattle.rules.proofs.Records.{a-move-writes-at-most-two, one-record-at-most}
 use Rattle.rules.proofs.Plays.{still, acts-after-the-move}
-use Rattle.orders.specs.Lamps.{lampOf, stateOf}
+use Rattle.orders.specs.declared.lamp.Lamp.{Lamp}
+use Rattle.orders.specs.Lamps.{lampOf, stateOf, alone, teaches}
+use Rattle.orders.proofs.Lamps.{only-a-lesson-teaches}
 use Rattle.actuator.specs.declared.clock.Ticked.{Ticked}
 use Rattle.actuator.specs.declared.step.Done.{Done}
 use Rattle.actuator.specs.declared.notes.Note.the-variants.{Silent, Wrote}
 use Rattle.actuator.specs.Notes.{noteOf, added, notes, ticked, firstOf, done, doneBy, stoppedBy, acted}
-use Rattle.actuator.proofs.Moves.{joined, move-joined}
+use Rattle.actuator.proofs.Moves.{joined, moved-lamp}
 use Rattle.actuator.proofs.Written.{added-first}
 
 -- ---- at the moved clock
@@ -90,6 +92,18 @@ module _ (s : State) (i : Input) where
       go Locked = unfold meet in (refl, omega arith)
       go Forced = unfold meet in (refl, omega arith)
 
+  -- no table changes by an input that is not a lesson
+  pub no-lesson-keeps : teaches i ≡ false → s .scenes ≡ act (still s) i .state .scenes
+  unfolding act
+  no-lesson-keeps e = go (barrier s i)
+    where
+      go : (b : Barrier) → s .scenes ≡ meet b (still s) i .state .scenes
+      go Open = unfold meet taken in sym (only-a-lesson-teaches s i e)
+      go NoPower = unfold meet in refl
+      go NoBus = unfold meet in refl
+      go Locked = unfold meet in refl
+      go Forced = unfold meet in refl
+
 -- ---- the whole step
 
 module _ (s : State) (i : Input) (t : ℕ) where
@@ -114,8 +128,10 @@ module _ (s : State) (i : Input) (t : ℕ) where
       let k = acting-keeps (clockMove s t .state) i in
       rw (e .0, e .1, e .2, added-first (clockMove s t .records) (later .records) (a-move-writes-at-most-two s t) (k .1), joined (later .state) (s .params) (later .state .scenes) (k .0 ∙ ap (λ (u : State). u .params) (move-keeps s t)) refl) refl
 
-  pub step-by-parts : (m : Ticked) (d : Done) (table : List Scene) → m ≡ ticked (clockMove s t) → d ≡ done (act (still (stateOf (s .params) (s .scenes) (m .lamp))) i)
-      → table ≡ act (still (stateOf (s .params) (s .scenes) (m .lamp))) i .state .scenes
+  pub step-by-parts : (moved : Lamp) (m : Ticked) (d : Done) (table : List Scene) → m ≡ ticked (clockMove s t) → moved ≡ lampOf (atMoment (alone (lampOf s)) t (m .phase))
+      → d ≡ done (act (still (stateOf (s .params) (s .scenes) moved)) i) → table ≡ act (still (stateOf (s .params) (s .scenes) moved)) i .state .scenes
       → record { state = stateOf (s .params) table (d .lamp); answer = d .answer; notes = added (m .notes) (d .note) } ≡ acted (step s i t)
   unfolding ticked done
-  step-by-parts m d table e f g = rw (g, f, e, move-joined (s .params) (s .scenes) (lampOf s) t) whole
+  step-by-parts moved m d table e f g h =
+      let there : stateOf (s .params) (s .scenes) moved ≡ clockMove s t .state = rw (f, e) (moved-lamp (s .params) (s .scenes) (lampOf s) t) in
+      rw (rw there at h, rw there at g, e) whole

@@ -1,6 +1,7 @@
 use Rattle.actuator.specs.Notes.{ticked, clocked}
 use Rattle.orders.specs.Lamps.{lampOf}
-use Rattle.actuator.proofs.Moves.{move-joined}
+use Rattle.actuator.proofs.Moves.{moved-lamp}
+use mathlib.Core.Path.{refl}
 use borrow.Author.Needs.{needs}
 use Rattle.actuator.proofs.clock.move_clock.Statement.{statement}
 use Rattle.actuator.proofs.clock.move_clock.Tie as tie
@@ -9,9 +10,11 @@ returns : tie.Need-returns
 unfolding ticked clocked
 returns c =
     let a = c .before .before .before .before .before .before .before .args in
-    let m = rw (c .before .before .before .before .lamp-of .ensures) at (c .before .before .before .move-lamp .ensures (a .s .scenes)) in
-    simp (c .state-of .ensures, m, move-joined (a .s .params) (a .s .scenes) (lampOf (a .s)) (a .t))
+    let l = c .before .before .before .before .lamp-of .ensures in
+    let m = rw l at (c .before .before .before .due-timers .ensures (a .s .scenes)) in
+    simp (c .state-of .ensures, c .before .at-moment .ensures, m, l) (rw (moved-lamp (a .s .params) (a .s .scenes) (lampOf (a .s)) (a .t)) refl)
 
 pub move-clock-spec : {M : Type 1} → statement M
 move-clock-spec =
-    tie.close (tie.spec (λ c κs. search needs) (λ c κs. search needs) (λ c κs. search needs) returns)
+    tie.close
+    (tie.spec (λ c κs. search needs) (λ c κs. search needs) (λ c κs. search needs) (λ c κs. search needs) returns)

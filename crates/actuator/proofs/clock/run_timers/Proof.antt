@@ -17,9 +17,9 @@ add-requires-3 c κs =
 
 returns : tie.Need-returns
 returns c = λ k.
-    let a = c .before .before .before .before .before .before .before .before .before .before .before .args in
-    let timers = three-timers (a .p) k (a .l) (a .t) _ _ _ (c .before .before .before .before .before .before .before .before .before .before .tick-once .ensures k) (c .before .before .before .before .before .before .before .before .before .tick-once2 .ensures k) (c .before .before .before .before .before .before .before .before .tick-once3 .ensures k) in
-    simp (c .at-moment .ensures, c .before .add3 .ensures, c .before .before .noted3 .ensures, c .before .before .before .add2 .ensures, c .before .before .before .before .noted2 .ensures, c .before .before .before .before .before .add .ensures, c .before .before .before .before .before .before .noted .ensures, c .before .before .before .before .before .before .before .none .ensures) timers
+    let a = c .before .before .before .before .before .before .before .before .before .before .args in
+    let timers = three-timers (a .p) k (a .l) (a .t) _ _ _ (c .before .before .before .before .before .before .before .before .before .tick-once .ensures k) (c .before .before .before .before .before .before .before .before .tick-once2 .ensures k) (c .before .before .before .before .before .before .before .tick-once3 .ensures k) in
+    simp (c .add3 .ensures, c .before .noted3 .ensures, c .before .before .add2 .ensures, c .before .before .before .noted2 .ensures, c .before .before .before .before .add .ensures, c .before .before .before .before .before .noted .ensures, c .before .before .before .before .before .before .none .ensures) timers
 
 pub run-timers-spec : {M : Type 1} → statement M
 run-timers-spec =
@@ -35,5 +35,4 @@ run-timers-spec =
     add-requires-2
     (λ c κs. search needs)
     add-requires-3
-    (λ c κs. search needs)
     returns)
