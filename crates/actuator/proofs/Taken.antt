@@ -108,12 +108,12 @@ module _ (s : State) (i : Input) where
 
 module _ (s : State) (i : Input) (t : ℕ) where
   -- what acts after the move, as the code has it
-  abbrev later : Stepped
+  abbrev pub later : Stepped
   later = act (still (clockMove s t .state)) i
 
-  split : (step s i t .state ≡ later .state) × (step s i t .answer ≡ later .answer) × (step s i t .records ≡ clockMove s t .records ++ later .records)
+  pub step-splits : (step s i t .state ≡ later .state) × (step s i t .answer ≡ later .answer) × (step s i t .records ≡ clockMove s t .records ++ later .records)
   unfolding step
-  split =
+  step-splits =
       let e = acts-after-the-move (clockMove s t) i in
       (ap (λ (x : Played). x .state) e, ap (λ (x : Played). head (x .answers)) e, ap (λ (x : Played). x .records) e)
     where
@@ -121,12 +121,18 @@ module _ (s : State) (i : Input) (t : ℕ) where
       head [] = 0
       head (a ∷ later) = a
 
+  -- its state is its parts: the parameters stay
+  pub later-joined : stateOf (s .params) (later .state .scenes) (lampOf (later .state)) ≡ later .state
+  later-joined =
+      let k = acting-keeps (clockMove s t .state) i in
+      joined (later .state) (s .params) (later .state .scenes) (k .0 ∙ ap (λ (u : State). u .params) (move-keeps s t)) refl
+
   whole : record { state = stateOf (s .params) (later .state .scenes) (lampOf (later .state)); answer = later .answer; notes = added (notes (clockMove s t .records)) (firstOf (later .records)) } ≡ acted (step s i t)
   unfolding acted
   whole =
-      let e = split in
+      let e = step-splits in
       let k = acting-keeps (clockMove s t .state) i in
-      rw (e .0, e .1, e .2, added-first (clockMove s t .records) (later .records) (a-move-writes-at-most-two s t) (k .1), joined (later .state) (s .params) (later .state .scenes) (k .0 ∙ ap (λ (u : State). u .params) (move-keeps s t)) refl) refl
+      rw (e .0, e .1, e .2, added-first (clockMove s t .records) (later .records) (a-move-writes-at-most-two s t) (k .1), later-joined) refl
 
   pub step-by-parts : (moved : Lamp) (m : Ticked) (d : Done) (table : List Scene) → m ≡ ticked (clockMove s t) → moved ≡ lampOf (atMoment (alone (lampOf s)) t (m .phase))
       → d ≡ done (act (still (stateOf (s .params) (s .scenes) moved)) i) → table ≡ act (still (stateOf (s .params) (s .scenes) moved)) i .state .scenes

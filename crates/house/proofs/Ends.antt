@@ -7,9 +7,9 @@ use native.Mathlib.Omega.{arith}
 use lib.ListN.{length, getD, take, length-append}
 use Rattle.rules.specs.declared.state.State.{State}
 use Rattle.rules.specs.declared.record.Record.{Record}
-use Rattle.rules.specs.Steps.{Moved, fresh, clockMove}
+use Rattle.rules.specs.Steps.{Moved, fresh, atMoment, clockMove}
 use Rattle.rules.specs.Soundness.{sound}
-use Rattle.rules.specs.Status.{recordOf}
+use Rattle.rules.specs.Status.{value, attributes, recordOf}
 use Rattle.rules.specs.Lists.{Played, plays, playsTo, playList}
 use Rattle.rules.specs.Files.{endTime, parametersIn}
 use Rattle.rules.specs.Runs.{recordOctets, recordsOctets, playFile}
@@ -17,8 +17,10 @@ use Rattle.rules.proofs.Accepted.{passed-is-sound}
 use Rattle.rules.proofs.Records.{a-move-writes-at-most-two, used-places}
 use Rattle.rules.proofs.CueFiles.{good-file, good-start}
 use Rattle.rules.proofs.Joined.{parameters-small}
-use Rattle.actuator.specs.declared.clock.Clocked.{Clocked}
-use Rattle.actuator.specs.Notes.{notes, clocked}
+use Rattle.actuator.specs.declared.clock.Ticked.{Ticked}
+use Rattle.actuator.specs.Notes.{notes, ticked}
+use Rattle.orders.specs.Lamps.{lampOf, stateOf, alone}
+use Rattle.actuator.proofs.Moves.{moved-lamp}
 use Rattle.house.specs.declared.play.Ended.{Ended}
 use Rattle.house.specs.Splice.{splice}
 use Rattle.house.specs.Playing.{listIn, freshIn, Fit, Ready, Filled}
@@ -40,14 +42,19 @@ fit-ready file n end fit small =
       sound = passed-is-sound (parametersIn file) (parameters-small file small) (start .passed);
     }
 
--- ---- the end
+-- ---- the start and the end
+
+-- a record shows the lamp alone
+pub record-alone : (cause : ℕ) (s : State) → recordOf cause (alone (lampOf s)) ≡ recordOf cause s
+unfolding recordOf value attributes
+record-alone cause s = refl
 
 -- the used records of a clock move, by value, are its records
-pub move-records : (s : State) (t : ℕ) (m : Clocked) → m ≡ clocked (clockMove s t) → (m .notes .count ≡ length (clockMove s t .records)) × (take (m .notes .count) (m .notes .records) ≡ clockMove s t .records)
-unfolding clocked notes
+pub move-records : (s : State) (t : ℕ) (m : Ticked) → m ≡ ticked (clockMove s t) → (m .notes .count ≡ length (clockMove s t .records)) × (take (m .notes .count) (m .notes .records) ≡ clockMove s t .records)
+unfolding ticked notes
 move-records s t m e = rw e (refl, used-places 3 (clockMove s t .records) (omega (arith, a-move-writes-at-most-two s t)))
 
-pub move-few : (s : State) (t : ℕ) (m : Clocked) → m ≡ clocked (clockMove s t) → m .notes .count ≤ 2
+pub move-few : (s : State) (t : ℕ) (m : Ticked) → m ≡ ticked (clockMove s t) → m .notes .count ≤ 2
 move-few s t m e = rw (move-records s t m e .0) (a-move-writes-at-most-two s t)
 
 -- a file is played: its start record, its inputs from the fresh state on, and the move to its end time
@@ -63,14 +70,14 @@ played-whole file p e = rw e (simp append-nil)
 module _ (file : List ℕ) (end : ℕ) (ends : end ≡ endTime file) (r r₁ : List ℕ) (first : r₁ ≡ splice r 0 (recordOctets (recordOf 0 (freshIn file)))) where
   -- the three parts of the records stand one after the other
   pub ended : (a a₂ r₂ r₃ : List ℕ) (e : Ended) → Filled 1 (plays (listIn file) (freshIn file)) r₁ a e r₂ a₂
-      → (m : Clocked) → m ≡ clocked (clockMove (e .state) end) → r₃ ≡ splice r₂ (8 * e .count) (recordsOctets (take (m .notes .count) (m .notes .records)))
-      → Filled 0 (playFile file (listIn file)) r a (record { state = m .state; count = e .count + m .notes .count }) r₃ a₂
-  unfolding clocked
+      → (m : Ticked) → m ≡ ticked (clockMove (e .state) end) → r₃ ≡ splice r₂ (8 * e .count) (recordsOctets (take (m .notes .count) (m .notes .records)))
+      → Filled 0 (playFile file (listIn file)) r a (record { state = stateOf (e .state .params) (e .state .scenes) (lampOf (atMoment (alone (lampOf (e .state))) end (m .phase))); count = e .count + m .notes .count }) r₃ a₂
+  unfolding ticked
   ended a a₂ r₂ r₃ e f m g p =
       let q : Played = plays (listIn file) (freshIn file) in
       let start : Record = recordOf 0 (freshIn file) in
       let last : Moved = clockMove (q .state) (endTime file) in
-      let same : m ≡ clocked last = rw (← ends, ← f .state) g in
+      let same : m ≡ ticked last = rw (← ends, ← f .state) g in
       let b = move-records (q .state) (endTime file) m same in
       let whole = played-whole file q refl in
       let one : r₁ ≡ splice r 0 (recordsOctets (start ∷ [])) = first ∙ ap (splice r 0) (sym (records-one start)) in
@@ -79,7 +86,7 @@ module _ (file : List ℕ) (end : ℕ) (ends : end ≡ endTime file) (r r₁ : L
       p ∙ rw (b .1) (records-more r r₂ 0 (8 * e .count) (start ∷ q .records) (last .records) (omega arith) (omega (arith, f .count)) two)
       in
       record {
-        state = rw (whole, same);
+        state = rw (whole, same, ends, ← f .state) (moved-lamp (e .state .params) (e .state .scenes) (lampOf (e .state)) (endTime file));
         count = rw (whole, b .0, length-append) (omega (arith, f .count));
         records = rw whole three;
         answers = rw whole (f .answers);

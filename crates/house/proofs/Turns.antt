@@ -5,12 +5,26 @@ use mathlib.Core.List.{List, [], _∷_, _++_, append-nil}
 use mathlib.Core.Path.{_≡_, refl, sym, ap, _∙_}
 use native.Mathlib.Nat.{sub-zero}
 use native.Mathlib.Omega.{arith}
-use lib.ListN.{length, take, set, length-append, length-set}
+use lib.ListN.{length, set, length-append, length-set}
+use Rattle.rules.specs.declared.parameters.Params.{Params}
+use Rattle.rules.specs.declared.parameters.Scene.{Scene}
+use Rattle.rules.specs.declared.input.Decoded.{Decoded}
+use Rattle.rules.specs.declared.input.Decoded.the-variants.{Meant, Wrong}
+use Rattle.rules.specs.Inputs.{stampAt, inputAt}
+use Rattle.rules.specs.Steps.{Stepped, atMoment, clockMove, act, step}
+use Rattle.rules.proofs.Plays.{still, andThen-assoc}
+use Rattle.decode.specs.Meaning.{isMeant}
+use Rattle.orders.specs.declared.lamp.Lamp.{Lamp}
+use Rattle.orders.specs.Lamps.{lampOf, stateOf, alone}
+use Rattle.actuator.specs.declared.step.Done.{Done}
+use Rattle.actuator.specs.Notes.{firstOf, done}
+use Rattle.actuator.proofs.Moves.{moved-lamp}
+use Rattle.actuator.proofs.Taken.{acting-keeps, later, step-splits, later-joined}
+use Rattle.house.specs.declared.play.Moment.{Moment}
+use Rattle.house.specs.Playing.{found, listIn, Ready, Filled, listed, Advanced}
 use Rattle.rules.specs.declared.input.Input.{Input}
 use Rattle.rules.specs.declared.state.State.{State}
 use Rattle.rules.specs.declared.record.Record.{Record}
-use Rattle.rules.specs.Inputs.{stampAt}
-use Rattle.rules.specs.Steps.{Stepped, step}
 use Rattle.rules.specs.Soundness.{sound}
 use Rattle.rules.specs.Lists.{Cue, cue, Played, andThen, stepped, plays}
 use Rattle.rules.specs.Files.{cues, endTime, inputPlace, readInputs}
@@ -18,25 +32,62 @@ use Rattle.rules.specs.Runs.{recordsOctets}
 use Rattle.rules.proofs.Readings.{First, first-read}
 use Rattle.rules.proofs.Inputs.{input-number}
 use Rattle.rules.proofs.Soundness.{step-is-sound, step-clock}
-use Rattle.rules.proofs.Records.{an-input-writes-at-most-three, used-places}
-use Rattle.rules.proofs.Plays.{andThen-assoc}
-use Rattle.actuator.specs.declared.step.Acted.{Acted}
-use Rattle.actuator.specs.Notes.{notes, acted}
+use Rattle.rules.proofs.Records.{an-input-writes-at-most-three}
 use Rattle.house.specs.Splice.{splice}
-use Rattle.house.specs.Playing.{found, listIn, stepMeant, stepAt, Ready, Filled}
 use Rattle.house.proofs.Splices.{splice-none, octet-more, records-none, records-more}
 
 -- ---- one input
 
--- an input that is read without fault is not wrong, so the code plays it
-first-steps : {left last end : ℕ} {list : List Cue} (file : List ℕ) (i : ℕ) (s : State) (f : First file left i last end list) → stepAt file (inputPlace i) s ≡ step s (f .input) (stampAt file (inputPlace i))
-unfolding stepAt stepMeant
-first-steps file i s f = rw (f .meant)
+-- the input that the code reads is the one that is listed
+abbrev inputIn : Decoded → Input → Input
+inputIn (Meant i) other = i
+inputIn Wrong other = other
 
--- the code's step gives that input's state, answer and records, by value
-first-acted : (s : State) (i : Input) (t : ℕ) (d : Acted) → d ≡ acted (step s i t) → (d .notes .count ≡ length (step s i t .records)) × (take (d .notes .count) (d .notes .records) ≡ step s i t .records)
-unfolding acted notes
-first-acted s i t d e = rw e (refl, used-places 3 (step s i t .records) (an-input-writes-at-most-three s i t))
+same-input : (x y : Input) (d : Decoded) → d ≡ Meant x → d ≡ Meant y → y ≡ x
+same-input x y d e f = ap (λ (z : Decoded). inputIn z x) (sym f ∙ e)
+
+-- a record by value is the list that it was taken from
+listed-first : (k : List Record) → length k ≤ 1 → listed (firstOf k) ≡ k
+listed-first [] few = refl
+listed-first (r ∷ []) few = refl
+listed-first (r ∷ q ∷ k) few = absurd (omega arith)
+
+-- what the code has after the clock move and after the input, part by part, is what the step of the rules gives
+module _ (p : Params) (k : List Scene) (l : Lamp) (x : Input) (t before : ℕ) (r r₁ : List ℕ) (m : Moment) (moves : Advanced p l t before r m r₁)
+    (moved : Lamp) (there : moved ≡ lampOf (atMoment (alone l) t (m .phase))) where
+  abbrev met : State
+  met = stateOf p k l
+
+  abbrev gives : Stepped
+  gives = step met x t
+
+  at-the-move : stateOf p k moved ≡ clockMove met t .state
+  at-the-move = rw (there, moves k .phase) (moved-lamp p k l t)
+
+  module _ (d : Done) (acts : d ≡ done (act (still (stateOf p k moved)) x)) where
+    acts-there : d ≡ done (later met x t)
+    acts-there = rw at-the-move at acts
+
+    notes-there : listed (d .note) ≡ later met x t .records
+    unfolding done
+    notes-there = rw acts-there (listed-first (later met x t .records) (acting-keeps (clockMove met t .state) x .1))
+
+    pub answers-there : d .answer ≡ gives .answer
+    unfolding done
+    answers-there = rw acts-there (sym (step-splits met x t .1))
+
+    pub state-there : (table : List Scene) → table ≡ act (still (stateOf p k moved)) x .state .scenes → stateOf p table (d .lamp) ≡ gives .state
+    unfolding done
+    state-there table teaches = rw (rw at-the-move at teaches, acts-there) (later-joined met x t ∙ sym (step-splits met x t .0))
+
+    pub count-there : (count : ℕ) → count ≡ m .count + length (listed (d .note)) → count ≡ before + length (gives .records)
+    count-there count e =
+        let own : length (listed (d .note)) ≡ length (later met x t .records) = ap (λ (z : List Record). length z) notes-there in
+        rw (step-splits met x t .2, length-append) (omega (arith, e, own, moves k .count))
+
+    pub records-there : before * 8 ≤ length r → (r₂ : List ℕ) → r₂ ≡ splice r₁ (8 * m .count) (recordsOctets (listed (d .note))) → r₂ ≡ splice r (8 * before) (recordsOctets (gives .records))
+    records-there room r₂ e =
+        e ∙ rw (notes-there, step-splits met x t .2) (records-more r r₁ (8 * before) (8 * m .count) (clockMove met t .records) (later met x t .records) (omega (arith, room)) (omega (arith, moves k .count)) (moves k .records))
 
 -- the first cue is played before the others
 one-played : (done : Played) (list later : List Cue) (t : ℕ) (i : Input) → list ≡ cue t i ∷ later → andThen done (plays list) ≡ andThen (andThen done (λ u. stepped (step u i t))) (plays later)
@@ -112,24 +163,13 @@ module _ (file : List ℕ) (n : ℕ) (start : State) (r₀ a₀ : List ℕ) (rea
           places = length-set a i (d .answer) ∙ g .places;
         }
 
-    -- the same, of what the code has
-    pub going-on : (h : i < n) (d : Acted) → d ≡ acted (stepAt file (inputPlace i) s) → 8 ≤ length r₀ → n ≤ length a₀
-        → (r₁ : List ℕ) → r₁ ≡ splice r (8 * k) (recordsOctets (take (d .notes .count) (d .notes .records))) → length r₁ ≡ length r
-        → Going file n start r₀ a₀ r₁ (set a i (d .answer)) (d .state) (k + d .notes .count) (i + 1)
-    unfolding acted
-    going-on h d e some enough r₁ p l =
-        let f = turn h in
-        let t : ℕ = stampAt file (inputPlace i) in
-        let same : d ≡ acted (step s (f .input) t) = e ∙ ap acted (first-steps file i s f) in
-        let b = first-acted s (f .input) t d same in
-        rw (b .0, same) (going-step h some enough r₁ (p ∙ rw (b .1)) l)
+    -- it is an input, so the code reads it
+    pub turn-meant : (h : i < n) → isMeant (inputAt file (inputPlace i)) ≡ true
+    turn-meant h = rw (turn h .meant) refl
 
     -- it writes at most three records, so there is room for them
-    pub turn-few : (h : i < n) (d : Acted) → d ≡ acted (stepAt file (inputPlace i) s) → d .notes .count ≤ 3
-    turn-few h d e =
-        let f = turn h in
-        let t : ℕ = stampAt file (inputPlace i) in
-        rw (first-acted s (f .input) t d (e ∙ ap acted (first-steps file i s f)) .0) (an-input-writes-at-most-three s (f .input) t)
+    pub turn-few : (h : i < n) (x : Input) → length (step s x (stampAt file (inputPlace i)) .records) ≤ 3
+    turn-few h x = an-input-writes-at-most-three s x (stampAt file (inputPlace i))
 
     -- and at the end no cue is left
     pub going-last : n ≤ i → Filled 1 (plays (listIn file) start) r₀ a₀ (record { state = s; count = k }) r a
@@ -139,3 +179,22 @@ module _ (file : List ℕ) (n : ℕ) (start : State) (r₀ a₀ : List ℕ) (rea
         let left : g .later ≡ [] = sym (ap found (rw none at (g .reads))) in
         let whole : plays (listIn file) start ≡ record { state = s; answers = g .said; records = g .wrote } = g .played ∙ rw left (simp append-nil) in
         record { state = rw whole; count = rw whole (g .count); records = rw whole (g .records); answers = rw whole (g .answers) }
+
+-- the next turn, of what the code has
+module _ (file : List ℕ) (n : ℕ) (start : State) (r₀ a₀ : List ℕ) (ready : Ready file n start) (p : Params) (table : List Scene) (l : Lamp) (r a : List ℕ) (k i : ℕ)
+    (g : Going file n start r₀ a₀ r a (stateOf p table l) k i) where
+  pub going-on : i < n → 8 ≤ length r₀ → n ≤ length a₀ → (x : Input) → inputAt file (inputPlace i) ≡ Meant x
+      → (m : Moment) (r₁ : List ℕ) → Advanced p l (stampAt file (inputPlace i)) k r m r₁ → 8 * k ≤ length r
+      → (moved : Lamp) → moved ≡ lampOf (atMoment (alone l) (stampAt file (inputPlace i)) (m .phase))
+      → (d : Done) → d ≡ done (act (still (stateOf p table moved)) x)
+      → (count : ℕ) → count ≡ m .count + length (listed (d .note))
+      → (r₂ : List ℕ) → r₂ ≡ splice r₁ (8 * m .count) (recordsOctets (listed (d .note))) → length r₂ ≡ length r
+      → (left : List Scene) → left ≡ act (still (stateOf p table moved)) x .state .scenes
+      → Going file n start r₀ a₀ r₂ (set a i (d .answer)) (stateOf p left (d .lamp)) count (i + 1)
+  going-on h some enough x means m r₁ moves room moved there d acts count counts r₂ writes long left teaches =
+      let f = turn file n start r₀ a₀ ready r a (stateOf p table l) k i g h in
+      let t : ℕ = stampAt file (inputPlace i) in
+      let same : x ≡ f .input = same-input (f .input) x (inputAt file (inputPlace i)) (f .meant) means in
+      let step-on = going-step file n start r₀ a₀ ready r a (stateOf p table l) k i g h some enough r₂ in
+      rw (state-there p table l x t k r r₁ m moves moved there d acts left teaches, answers-there p table l x t k r r₁ m moves moved there d acts, count-there p table l x t k r r₁ m moves moved there d acts count counts, same)
+      (step-on (rw same at (records-there p table l x t k r r₁ m moves moved there d acts (omega (arith, room)) r₂ writes)) long)

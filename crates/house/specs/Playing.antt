@@ -1,22 +1,27 @@
 -- What the code of the run knows of a checked file, and what it leaves in the lent buffers.
 use Prim.Native.Nat.{ℕ, _+_, _*_, _≤_}
 use mathlib.Core.Bool.{true}
-use mathlib.Core.List.{List, []}
+use mathlib.Core.List.{List, [], _∷_}
 use mathlib.Core.Path.{_≡_}
 use lib.ListN.{length}
-use Rattle.rules.specs.declared.input.Decoded.{Decoded}
-use Rattle.rules.specs.declared.input.Decoded.the-variants.{Meant, Wrong}
+use Rattle.rules.specs.declared.parameters.Params.{Params}
+use Rattle.rules.specs.declared.parameters.Scene.{Scene}
 use Rattle.rules.specs.declared.state.State.{State}
+use Rattle.rules.specs.declared.record.Record.{Record}
 use Rattle.rules.specs.Time.{lastStamp}
 use Rattle.rules.specs.Parameters.{paramsOf, scenesOf}
-use Rattle.rules.specs.Inputs.{inputAt, stampAt}
-use Rattle.rules.specs.Steps.{Stepped, fresh, step}
+use Rattle.rules.specs.Steps.{Moved, fresh, clockMove}
 use Rattle.rules.specs.Soundness.{sound}
 use Rattle.rules.specs.Lists.{Cue, Played}
 use Rattle.rules.specs.Files.{Reading, cues, bad, inputCount, endTime, parametersIn, readInputs, readFile}
 use Rattle.rules.specs.Runs.{recordsOctets}
+use Rattle.orders.specs.declared.lamp.Lamp.{Lamp}
+use Rattle.orders.specs.Lamps.{stateOf}
+use Rattle.actuator.specs.declared.notes.Note.{Note}
+use Rattle.actuator.specs.declared.notes.Note.the-variants.{Silent, Wrote}
 use Rattle.house.specs.Splice.{splice}
 use Rattle.house.specs.declared.play.Ended.{Ended}
+use Rattle.house.specs.declared.play.Moment.{Moment}
 
 -- the cues that a reading has found
 abbrev pub found : Reading → List Cue
@@ -28,14 +33,6 @@ listIn file = found (readFile file)
 
 unfoldable pub freshIn : List ℕ → State
 freshIn file = fresh (paramsOf (parametersIn file)) (scenesOf (parametersIn file))
-
--- a wrong input does nothing; a checked file has none (first-steps in proofs/Turns.antt)
-unfoldable pub stepMeant : State → ℕ → Decoded → Stepped
-stepMeant s stamp (Meant i) = step s i stamp
-stepMeant s stamp Wrong = record { state = s; answer = 0; records = [] }
-
-unfoldable pub stepAt : List ℕ → ℕ → State → Stepped
-stepAt file at s = stepMeant s (stampAt file at) (inputAt file at)
 
 -- the file is accepted, and these are its count of inputs and its end time
 pub record Fit (file : List ℕ) (n end : ℕ) : Type 0 where
@@ -58,3 +55,18 @@ pub record Filled (from : ℕ) (p : Played) (records₀ answers₀ : List ℕ) (
   pub count : e .count ≡ from + length (p .records)
   pub records : records₁ ≡ splice records₀ (8 * from) (recordsOctets (p .records))
   pub answers : answers₁ ≡ splice answers₀ 0 (p .answers)
+
+-- the record of an input, where it wrote one
+abbrev pub listed : Note → List Record
+listed Silent = []
+listed (Wrote r) = r ∷ []
+
+-- a clock move, where so many records stand before it: the phase that it leaves, and the records of its timers after those
+pub record MovedBy (m : Moved) (before : ℕ) (records₀ : List ℕ) (r : Moment) (records₁ : List ℕ) : Type 0 where
+  pub phase : r .phase ≡ m .state .phase
+  pub count : r .count ≡ before + length (m .records)
+  pub records : records₁ ≡ splice records₀ (8 * before) (recordsOctets (m .records))
+
+-- the clock of a lamp moves to t, whatever the scenes
+abbrev pub Advanced : Params → Lamp → ℕ → ℕ → List ℕ → Moment → List ℕ → Type 0
+Advanced p l t before records₀ r records₁ = (k : List Scene) → MovedBy (clockMove (stateOf p k l) t) before records₀ r records₁

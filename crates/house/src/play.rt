@@ -120,7 +120,8 @@ fn play_inputs(file: &[u8], n: u32, start: State, records: &mut [u8], answers: &
         let note = d.note;
         count = put_note(records, m.count, note);
         answers[i as usize] = d.answer;
-        k = scenes_left(p, k, moved, x);
+        let table = scenes_left(p, k, moved, x);
+        k = table;
         let next = d.lamp;
         l = next;
         i += 1;

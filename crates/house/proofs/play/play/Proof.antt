@@ -1,13 +1,14 @@
-use mathlib.Core.Path.{_≡_, _∙_}
-use native.Mathlib.Omega.{arith}
-use denote.Ref.{now}
-use Rattle.rules.specs.Status.{recordOf}
-use Rattle.rules.specs.Runs.{recordOctets}
-use Rattle.rules.proofs.CueFiles.{good-file}
-use Rattle.actuator.proofs.Rooms.{sound-room}
-use Rattle.house.specs.Splice.{splice}
+use Rattle.house.proofs.Ends.{fit-ready, record-alone, move-few, ended}
 use Rattle.house.specs.Playing.{freshIn, Ready}
-use Rattle.house.proofs.Ends.{fit-ready, move-few, ended}
+use Rattle.house.specs.Splice.{splice}
+use Rattle.actuator.proofs.Rooms.{sound-room}
+use Rattle.rules.proofs.CueFiles.{good-file}
+use Rattle.rules.specs.Runs.{recordOctets}
+use Rattle.rules.specs.Status.{recordOf}
+use denote.Ref.{now}
+use native.Mathlib.Omega.{arith}
+use mathlib.Core.Path.{_≡_, refl, _∙_}
+use mathlib.Core.List.{[]}
 use borrow.Author.Needs.{needs}
 use Rattle.house.proofs.play.play.Statement.{statement}
 use Rattle.house.proofs.play.play.Tie as tie
@@ -17,35 +18,45 @@ ready : (c : tie.After-fresh-in) → let a = c .before .before .before .before .
 ready c = rw (c .fresh-in .ensures) (fit-ready _ _ _ (c .before .before .before .before .pre .0) (λ i. omega (arith, c .before .before .before .shared-slice-known .given i)))
 
 -- the start record stands at the head of the buffer
-begun : (c : tie.After-put-record) → let a = c .before .before .before .before .before .before .before .args in c .put-record .last .0 ≡ splice (now (a .records)) 0 (recordOctets (recordOf 0 (freshIn (now (a .file)))))
-begun c = rw (c .before .record-of .ensures, c .before .before .before .fresh-in .ensures) at (c .put-record .ensures)
+begun : (c : tie.After-put-record) → let a = c .before .before .before .before .before .before .before .before .args in c .put-record .last .0 ≡ splice (now (a .records)) 0 (recordOctets (recordOf 0 (freshIn (now (a .file)))))
+begun c =
+    c .put-record .ensures
+    ∙ rw (c .before .record-of .ensures, c .before .before .lamp-of .ensures, c .before .before .before .before .fresh-in .ensures) (rw (record-alone 0 (freshIn _)) refl)
 
 fresh-in-requires : tie.Need-fresh-in-requires
 fresh-in-requires c κs = good-file _ _ (c .before .before .before .pre .0 .accepted) .start .header .long
 
 play-inputs-requires : tie.Need-play-inputs-requires
-play-inputs-requires c κs = (ready (c .before .before .before .before .before .before .before), omega (arith, c .before .before .before .before .put-record .kept .0, c .before .before .before .before .before .before .before .before .before .before .before .pre .1), c .before .before .before .before .before .before .before .before .before .before .before .pre .2)
+play-inputs-requires c κs = (ready (c .before .before .before .before .before .before .before .before), omega (arith, c .before .before .before .before .put-record .kept .0, c .before .before .before .before .before .before .before .before .before .before .before .before .pre .1), c .before .before .before .before .before .before .before .before .before .before .before .before .pre .2)
 
-run-timers-requires : tie.Need-run-timers-requires
-run-timers-requires c κs =
-    let fit = c .before .before .before .before .before .before .before .before .before .before .before .before .before .before .before .before .before .pre .0 in
-    sound-room _ _ (c .before .before .before .before .before .play-inputs .ensures .1) (omega (arith, fit .ends, good-file _ _ (fit .accepted) .start .header .layout .end))
+due-timers-requires : tie.Need-due-timers-requires
+due-timers-requires c κs =
+    let fit = c .before .before .before .before .before .before .before .before .before .before .before .before .before .before .before .before .before .before .before .before .before .pre .0 in
+    sound-room _ _ (c .before .before .before .before .before .before .before .before .play-inputs .ensures .1) (omega (arith, fit .ends, good-file _ _ (fit .accepted) .start .header .layout .end))
 
 put-notes-requires : tie.Need-put-notes-requires
 put-notes-requires c κs =
-    let few = move-few _ _ _ (c .before .before .before .run-timers .ensures) in
-    (omega (arith, few), omega (arith, few, c .before .before .before .before .before .before .before .before .before .play-inputs .ensures .2, c .before .before .before .before .before .before .before .before .before .play-inputs .kept .1 .1 .1 .0, c .before .before .before .before .before .before .before .before .before .before .before .before .before .before .put-record .kept .0, c .before .before .before .before .before .before .before .before .before .before .before .before .before .before .before .before .before .before .before .before .before .pre .1))
+    let inputs = c .before .before .before .before .before .before .before .before .before .before .before .before .play-inputs in
+    let few = move-few _ _ _ (c .before .before .before .due-timers .ensures []) in
+    (omega (arith, few), omega (arith, few, inputs .ensures .2, inputs .kept .1 .1 .1 .0, c .before .before .before .before .before .before .before .before .before .before .before .before .before .before .before .before .before .put-record .kept .0, c .before .before .before .before .before .before .before .before .before .before .before .before .before .before .before .before .before .before .before .before .before .before .before .before .before .pre .1))
 
-add-t25 : tie.Need-add-t25
-add-t25 c = omega (arith, move-few _ _ _ (c .before .before .before .before .before .before .before .before .before .run-timers .ensures), c .before .before .before .before .before .before .before .before .before .before .before .before .before .before .before .play-inputs .ensures .2, ready (c .before .before .before .before .before .before .before .before .before .before .before .before .before .before .before .before .before .before .before .before .before .before .before) .few)
+add-t30 : tie.Need-add-t30
+add-t30 c = omega (arith, move-few _ _ _ (c .before .before .before .before .before .before .before .before .before .before .due-timers .ensures []), c .before .before .before .before .before .before .before .before .before .before .before .before .before .before .before .before .before .before .before .play-inputs .ensures .2, ready (c .before .before .before .before .before .before .before .before .before .before .before .before .before .before .before .before .before .before .before .before .before .before .before .before .before .before .before .before) .few)
 
 same-length : tie.Need-same-length
-same-length c = c .before .before .before .before .before .put-notes .kept .0 ∙ c .before .before .before .before .before .before .before .before .before .before .before .before .before .before .before .play-inputs .kept .1 .1 .1 .0 ∙ c .before .before .before .before .before .before .before .before .before .before .before .before .before .before .before .before .before .before .before .before .put-record .kept .0
+same-length c = c .before .before .before .before .before .before .put-notes .kept .0 ∙ c .before .before .before .before .before .before .before .before .before .before .before .before .before .before .before .before .before .before .before .play-inputs .kept .1 .1 .1 .0 ∙ c .before .before .before .before .before .before .before .before .before .before .before .before .before .before .before .before .before .before .before .before .before .before .before .before .put-record .kept .0
+
+same-length-2 : tie.Need-same-length-2
+same-length-2 c = c .before .before .before .before .before .before .before .before .before .before .before .before .before .before .before .before .before .before .before .play-inputs .kept .1 .1 .1 .1 .0
 
 returns : tie.Need-returns
 returns c =
-    let inputs = c .before .before .before .before .before .before .before .before .before .before .before .before .before .before .before .play-inputs in
-    ended _ _ (c .before .before .before .before .before .before .before .before .before .before .before .before .before .before .before .before .before .before .before .before .before .before .before .before .before .before .before .pre .0 .ends) _ _ (begun (c .before .before .before .before .before .before .before .before .before .before .before .before .before .before .before .before .before .before .before .before)) _ _ _ _ (inputs .result) (rw (c .before .before .before .before .before .before .before .before .before .before .before .before .before .before .before .before .before .before .before .before .before .before .before .fresh-in .ensures) at (inputs .ensures .0)) _ (c .before .before .before .before .before .before .before .before .before .run-timers .ensures) (c .before .before .before .before .before .put-notes .ensures)
+    let inputs = c .before .before .before .before .before .before .before .before .before .before .before .before .before .before .before .before .before .before .before .play-inputs in
+    let lamp = c .before .before .before .before .before .before .before .before .before .before .before .lamp-of2 .ensures in
+    let moves = rw lamp at (c .before .before .before .before .before .before .before .before .before .before .due-timers .ensures (inputs .result .state .scenes)) in
+    let fresh = c .before .before .before .before .before .before .before .before .before .before .before .before .before .before .before .before .before .before .before .before .before .before .before .before .before .before .before .before .fresh-in .ensures in
+    rw (c .before .before .state-of .ensures, c .before .before .before .at-moment .ensures, lamp)
+    (ended _ _ (c .before .before .before .before .before .before .before .before .before .before .before .before .before .before .before .before .before .before .before .before .before .before .before .before .before .before .before .before .before .before .before .before .pre .0 .ends) _ _ (begun (c .before .before .before .before .before .before .before .before .before .before .before .before .before .before .before .before .before .before .before .before .before .before .before .before)) _ _ _ _ (inputs .result) (rw fresh at (inputs .ensures .0)) _ moves (c .before .before .before .before .before .before .put-notes .ensures))
 
 pub play-spec : {M : Type 1} → statement M
 play-spec =
@@ -54,13 +65,17 @@ play-spec =
     fresh-in-requires
     (λ c κs. search needs)
     (λ c κs. search needs)
+    (λ c κs. search needs)
     play-inputs-requires
-    run-timers-requires
+    (λ c κs. search needs)
+    due-timers-requires
     (λ c. search needs)
     (λ c. search needs)
     put-notes-requires
+    (λ c κs. search needs)
+    (λ c κs. search needs)
     (λ c. search needs)
-    add-t25
+    add-t30
     same-length
-    (λ c. search needs)
+    same-length-2
     returns)

@@ -1,0 +1,26 @@
+use Rattle.house.proofs.Splices.{records-none, records-one}
+use Rattle.house.specs.Splice.{splice}
+use native.Mathlib.Omega.{arith}
+use mathlib.Core.Path.{sym, _∙_, ap}
+use borrow.Author.Needs.{needs}
+use Rattle.house.proofs.put.put_note.Statement.{statement}
+use Rattle.house.proofs.put.put_note.Tie as tie
+
+returns : tie.Need-returns
+returns c = rw (c .enum-told .given .1) (omega arith, records-none _ _)
+
+returns-2 : tie.Need-returns-2
+returns-2 c = rw (c .before .before .before .before .before .x .given .1) (omega arith, c .before .before .put-record .ensures ∙ ap (splice _ _) (sym (records-one _)))
+
+pub put-note-spec : {M : Type 1} → statement M
+put-note-spec =
+    tie.close
+    (tie.spec
+    (λ c. search needs)
+    (λ c. search needs)
+    (λ c. search needs)
+    (λ c κs. search needs)
+    (λ c. search needs)
+    returns
+    (λ c. search needs)
+    returns-2)
