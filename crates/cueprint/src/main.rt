@@ -13,6 +13,8 @@ use decode::refusal::number_of;
 use live::clock::clock_move;
 use live::fresh::fresh_state;
 use live::single::single_input;
+use orders::lamp::Lamp;
+use orders::lamp::lamp_of;
 use rules::record::Record;
 use rules::refusal::Check;
 use rules::state::State;
@@ -114,7 +116,7 @@ fn play_file(file: &[u8])
     print_accepted(n);
     let f = fresh_state(&file[20..52]);
     let mut s = f.state;
-    print_record(record_of(0, s));
+    print_record(record_of(0, lamp_of(s)));
     let mut count: u64 = 1;
     let mut i: u32 = 0;
     while i < n {
