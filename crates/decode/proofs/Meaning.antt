@@ -1,15 +1,20 @@
--- Which values of a kind mean an input: each kind takes 0 and 1, and only scenes and forces take more.
-use Prim.Native.Nat.{ℕ, _/_, _%_, _≤_, _<_}
-use mathlib.Core.Bool.{true, false, cond}
-use mathlib.Core.Path.{_≡_, refl, sym, _∙_}
+-- Which values of a kind mean an input: each kind takes 0 and 1, and only scenes and forces take more; and which input.
+use Prim.Native.Nat.{ℕ, _+_, _/_, _%_, _≤_, _<_}
+use mathlib.Core.Bool.{Bool, true, false, cond, _&&_}
+use mathlib.Core.List.{List}
+use mathlib.Core.Path.{_≡_, refl, sym, ap, _∙_}
 use native.Mathlib.Omega.{arith}
 use lib.Dec.{eqb, leb}
 use borrow.Author.Tests.{eqb-true, eqb-false, leb-true, leb-false, eq-eqb, ne-eqb, le-leb, lt-leb}
+use Rattle.octets.specs.BigEndian.{octet}
 use Rattle.rules.specs.declared.input.Input.{Input}
+use Rattle.rules.specs.declared.input.Input.the-variants.{NumberedSceneControl, SwitchOnOffForced}
 use Rattle.rules.specs.declared.input.Decoded.{Decoded}
-use Rattle.rules.specs.Inputs.{zeroOrOne, sceneMeant, forceMeant, decoded}
-use Rattle.rules.proofs.Tests.{cond-case, either-way}
-use Rattle.decode.specs.Meaning.{isMeant}
+use Rattle.rules.specs.declared.input.Decoded.the-variants.{Meant, Wrong}
+use Rattle.rules.specs.Inputs.{zeroOrOne, sceneMeant, forceMeant, decoded, inputAt}
+use Rattle.rules.proofs.Tests.{cond-case, either-way, no}
+use Rattle.rules.proofs.Inputs.{no-other-kind}
+use Rattle.decode.specs.Meaning.{isMeant, forceOf}
 
 bit-is-meant : (value : ℕ) (off on : Input) → value ≤ 1 → isMeant (zeroOrOne value off on) ≡ true
 unfolding zeroOrOne
@@ -74,3 +79,52 @@ scene-value k value e = rw e (scene-is-meant value)
 pub force-value : (k value : ℕ) → k ≡ 4 → isMeant (decoded k value) ≡ leb value 3
 unfolding decoded
 force-value k value e = rw e (force-is-meant value)
+
+-- it is this input, if it means one at all
+abbrev pub Known : Input → Decoded → Type 0
+Known i d = isMeant d ≡ true → d ≡ Meant i
+
+-- one law for every kind of one bit
+pub known-bit : (f : Bool → Input) (value : ℕ) → Known (f (eqb value 1)) (zeroOrOne value (f false) (f true))
+unfolding zeroOrOne
+known-bit f value =
+    cond-case (Known (f (eqb value 1))) (eqb value 0) _ _ (λ e meant. rw (eqb-true value 0 e) refl)
+    (λ some. cond-case (Known (f (eqb value 1))) (eqb value 1) _ _ (λ e meant. rw e refl) (λ more meant. no meant))
+
+pub known-scene : (value : ℕ) → Known (NumberedSceneControl (eqb (value / 128) 1) (value % 64)) (sceneMeant value)
+unfolding sceneMeant
+known-scene value = cond-case (Known (NumberedSceneControl (eqb (value / 128) 1) (value % 64))) (eqb (value / 64 % 2) 0) _ _ (λ e meant. refl) (λ e meant. no meant)
+
+pub known-force : (value : ℕ) → Known (SwitchOnOffForced (forceOf value)) (forceMeant value)
+unfolding forceMeant forceOf
+known-force value =
+    cond-case (Known (SwitchOnOffForced (forceOf value))) (leb value 1) _ _
+    (λ e meant. simp (ne-eqb value 2 (λ t. omega (arith, leb-true value 1 e)), ne-eqb value 3 (λ t. omega (arith, leb-true value 1 e))))
+    (λ more. cond-case (Known (SwitchOnOffForced (forceOf value))) (eqb value 2) _ _ (λ e meant. simp e)
+    (λ other. cond-case (Known (SwitchOnOffForced (forceOf value))) (eqb value 3) _ _ (λ e meant. simp (other, e)) (λ another meant. no meant)))
+
+-- the value of a kind whose number is known
+pub of-kind : (k j value : ℕ) (i : Input) → k ≡ j → Known i (decoded j value) → Known i (decoded k value)
+of-kind k j value i e known = rw e known
+
+-- one kind after the other
+pub past : (k j : ℕ) → (k ≡ j → ⊥) → j ≤ k → j < k
+past k j differs from = omega arith
+
+-- a kind that is none of the first seven, and means something, is the eighth
+pub last-kind : (k value : ℕ) → (1 ≤ k → 7 < k) → isMeant (decoded k value) ≡ true → k ≡ 8
+last-kind k value late meant = eqb-true k 8 (go (eqb k 8) refl) where
+  go : (b : Bool) → eqb k 8 ≡ b → b ≡ true
+  go true e = refl
+  go false e = no (sym (ap isMeant (no-other-kind k value (λ some. omega (arith, late some, eqb-false k 8 e)))) ∙ meant)
+
+pub not-meant : (d : Decoded) → isMeant d ≡ false → Wrong ≡ d
+not-meant (Meant i) h = no (sym h)
+not-meant Wrong h = refl
+
+-- where an input starts, it is what its kind and its value mean
+pub known-at : (octets : List ℕ) (at : ℕ) → isMeant (inputAt octets at) ≡ true → inputAt octets at ≡ decoded (octet octets (at + 4)) (octet octets (at + 5))
+unfolding inputAt
+known-at octets at =
+    cond-case (λ d. isMeant d ≡ true → d ≡ decoded (octet octets (at + 4)) (octet octets (at + 5))) (eqb (octet octets (at + 6)) 0 && eqb (octet octets (at + 7)) 0) _ _ (λ zeros meant. refl)
+    (λ others meant. no meant)

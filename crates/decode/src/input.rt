@@ -1,12 +1,13 @@
 // Inputs: eight octets, with a stamp, a kind and a value.
 ghost use mathlib.Core.Path.{_≡_};
 ghost use Prim.Native.Nat.{_+_, _≤_};
-ghost use mathlib.Core.Bool.{_&&_};
+ghost use mathlib.Core.Bool.{true, _&&_};
 ghost use lib.Dec.{eqb};
 ghost use lib.ListN.{length};
 ghost use Rattle.octets.specs.BigEndian.{octet};
-ghost use Rattle.rules.specs.Inputs.{zeroOrOne, sceneMeant, forceMeant, decoded, stampAt, inputAt};
-ghost use Rattle.decode.specs.Meaning.{isMeant};
+ghost use Rattle.rules.specs.declared.input.Decoded.the-variants.{Meant};
+ghost use Rattle.rules.specs.Inputs.{decoded, stampAt, inputAt};
+ghost use Rattle.decode.specs.Meaning.{isMeant, eventOf, forceOf};
 use octets::read32;
 use phases::logic::both;
 use rules::input::Decoded;
@@ -14,80 +15,58 @@ use rules::input::Event;
 use rules::input::Force;
 use rules::input::Input;
 
-// A value of one bit means one of two inputs; any other value is wrong.
-fn zero_or_one(value: u8, zero: Input, one: Input) -> Decoded
-    ensures { λ r. ⌜ r ≡ zeroOrOne value zero one ⌝ }
+// Whether a kind and a value mean an input. Every kind takes 0 and 1; only a scene and a force take more.
+fn is_known(kind: u8, value: u8) -> bool
+    ensures { λ r. ⌜ r ≡ isMeant (decoded kind value) ⌝ }
 {
-    match value {
-        0 => Decoded::Meant(zero),
-        1 => Decoded::Meant(one),
-        _ => Decoded::Wrong,
-    }
-}
-
-// Bit 7 is learn, bit 6 must be zero, the other six bits are the number.
-fn scene_meant(value: u8) -> Decoded
-    ensures { λ r. ⌜ r ≡ sceneMeant value ⌝ }
-{
-    if value / 64 % 2 == 0 {
-        Decoded::Meant(Input::NumberedSceneControl(value / 128 == 1, value % 64))
+    if value <= 1 {
+        match kind {
+            1..=8 => true,
+            _ => false,
+        }
     } else {
-        Decoded::Wrong
+        match kind {
+            3 => value / 64 % 2 == 0,
+            4 => value <= 3,
+            _ => false,
+        }
     }
 }
 
-// Without its control bit a forced value frees, whatever its other bit says.
-fn force_meant(value: u8) -> Decoded
-    ensures { λ r. ⌜ r ≡ forceMeant value ⌝ }
+// Of a value that is 0 or 1: 0 is a failure, 1 a return.
+fn known_event(one: bool) -> Event
+    ensures { λ r. ⌜ r ≡ eventOf one ⌝ }
+{
+    if one { Event::Return } else { Event::Failure }
+}
+
+// Of a value up to 3: without its control bit it frees, whatever its other bit says.
+fn known_force(value: u8) -> Force
+    ensures { λ r. ⌜ r ≡ forceOf value ⌝ }
 {
     match value {
-        0..=1 => Decoded::Meant(Input::SwitchOnOffForced(Force::Free)),
-        2 => Decoded::Meant(Input::SwitchOnOffForced(Force::Off)),
-        3 => Decoded::Meant(Input::SwitchOnOffForced(Force::On)),
-        _ => Decoded::Wrong,
+        2 => Force::Off,
+        3 => Force::On,
+        _ => Force::Free,
     }
 }
 
-// The kinds 1 to 3, which ask for light: switch, timed and scene.
-fn sensor_input(kind: u8, value: u8) -> Decoded
-    requires { ⌜ (1 ≤ kind) × (kind ≤ 3) ⌝ }
-    ensures { λ r. ⌜ r ≡ decoded kind value ⌝ }
+// The input that a kind and a value mean, where they mean one: nothing is tested but the kind.
+pub fn known_input(kind: u8, value: u8) -> Input
+    requires { ⌜ isMeant (decoded kind value) ≡ true ⌝ }
+    ensures { λ r. ⌜ decoded kind value ≡ Meant r ⌝ }
 {
+    let one = value == 1;
     match kind {
-        1 => zero_or_one(value, Input::SwitchOnOff(false), Input::SwitchOnOff(true)),
-        2 => zero_or_one(
-            value,
-            Input::TimedStartStop(false),
-            Input::TimedStartStop(true),
-        ),
-        _ => scene_meant(value),
-    }
-}
-
-// The kinds 4 to 6, which change what the others may do: force, lock and night.
-fn manager_input(kind: u8, value: u8) -> Decoded
-    requires { ⌜ (4 ≤ kind) × (kind ≤ 6) ⌝ }
-    ensures { λ r. ⌜ r ≡ decoded kind value ⌝ }
-{
-    match kind {
-        4 => force_meant(value),
-        5 => zero_or_one(value, Input::LockDevice(false), Input::LockDevice(true)),
-        _ => zero_or_one(value, Input::NightMode(false), Input::NightMode(true)),
-    }
-}
-
-// The kinds 7 and 8, which nobody sends: bus and power fail and return.
-fn link_event(kind: u8, value: u8) -> Decoded
-    requires { ⌜ (7 ≤ kind) × (kind ≤ 8) ⌝ }
-    ensures { λ r. ⌜ r ≡ decoded kind value ⌝ }
-{
-    match kind {
-        7 => zero_or_one(value, Input::Bus(Event::Failure), Input::Bus(Event::Return)),
-        _ => zero_or_one(
-            value,
-            Input::Power(Event::Failure),
-            Input::Power(Event::Return),
-        ),
+        1 => Input::SwitchOnOff(one),
+        2 => Input::TimedStartStop(one),
+        // bit 7 is learn, bit 6 is zero, the other six bits are the number
+        3 => Input::NumberedSceneControl(value / 128 == 1, value % 64),
+        4 => Input::SwitchOnOffForced(known_force(value)),
+        5 => Input::LockDevice(one),
+        6 => Input::NightMode(one),
+        7 => Input::Bus(known_event(one)),
+        _ => Input::Power(known_event(one)),
     }
 }
 
@@ -95,11 +74,10 @@ fn link_event(kind: u8, value: u8) -> Decoded
 pub fn decode_input(kind: u8, value: u8) -> Decoded
     ensures { λ r. ⌜ r ≡ decoded kind value ⌝ }
 {
-    match kind {
-        1..=3 => sensor_input(kind, value),
-        4..=6 => manager_input(kind, value),
-        7..=8 => link_event(kind, value),
-        _ => Decoded::Wrong,
+    if is_known(kind, value) {
+        Decoded::Meant(known_input(kind, value))
+    } else {
+        Decoded::Wrong
     }
 }
 
@@ -121,37 +99,7 @@ fn ends_in_zeros(octets: &[u8], at: usize) -> bool
     both(first, second)
 }
 
-// What the input that starts at a place means.
-pub fn input_at(octets: &[u8], at: usize) -> Decoded
-    requires { ⌜ at + 8 ≤ length (now octets) ⌝ }
-    ensures { λ r. ⌜ r ≡ inputAt (now (octets .entry)) at ⌝ }
-{
-    if ends_in_zeros(octets, at) {
-        decode_input(octets[at + 4], octets[at + 5])
-    } else {
-        Decoded::Wrong
-    }
-}
-
-// Whether a kind and a value mean an input. Every kind takes 0 and 1; only a scene and a force take more.
-fn is_known(kind: u8, value: u8) -> bool
-    ensures { λ r. ⌜ r ≡ isMeant (decoded kind value) ⌝ }
-{
-    if value <= 1 {
-        match kind {
-            1..=8 => true,
-            _ => false,
-        }
-    } else {
-        match kind {
-            3 => value / 64 % 2 == 0,
-            4 => value <= 3,
-            _ => false,
-        }
-    }
-}
-
-// Whether an input starts at a place: what `input_at` would say, and nothing is built.
+// Whether an input starts at a place.
 pub fn is_input_at(octets: &[u8], at: usize) -> bool
     requires { ⌜ at + 8 ≤ length (now octets) ⌝ }
     ensures { λ r. ⌜ r ≡ isMeant (inputAt (now (octets .entry)) at) ⌝ }
@@ -160,5 +108,25 @@ pub fn is_input_at(octets: &[u8], at: usize) -> bool
         is_known(octets[at + 4], octets[at + 5])
     } else {
         false
+    }
+}
+
+// The input that starts at a place where one does.
+pub fn known_input_at(octets: &[u8], at: usize) -> Input
+    requires { ⌜ (at + 8 ≤ length (now octets)) × (isMeant (inputAt (now octets) at) ≡ true) ⌝ }
+    ensures { λ r. ⌜ inputAt (now (octets .entry)) at ≡ Meant r ⌝ }
+{
+    known_input(octets[at + 4], octets[at + 5])
+}
+
+// What the input that starts at a place means.
+pub fn input_at(octets: &[u8], at: usize) -> Decoded
+    requires { ⌜ at + 8 ≤ length (now octets) ⌝ }
+    ensures { λ r. ⌜ r ≡ inputAt (now (octets .entry)) at ⌝ }
+{
+    if is_input_at(octets, at) {
+        Decoded::Meant(known_input_at(octets, at))
+    } else {
+        Decoded::Wrong
     }
 }

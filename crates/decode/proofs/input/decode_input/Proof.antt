@@ -1,26 +1,17 @@
-use mathlib.Core.Path.{sym}
-use native.Mathlib.Omega.{arith}
-use Rattle.rules.proofs.Inputs.{no-other-kind}
+use mathlib.Core.Path.{sym, _∙_}
 use borrow.Author.Needs.{needs}
+use Rattle.decode.proofs.Meaning.{not-meant}
 use Rattle.decode.proofs.input.decode_input.Statement.{statement}
 use Rattle.decode.proofs.input.decode_input.Tie as tie
 
--- below and above the three ranges the kind is none of the eight
-returns-4 : tie.Need-returns-4
-returns-4 c = sym (no-other-kind _ _ (λ some. omega arith))
+known-input-requires : tie.Need-known-input-requires
+known-input-requires c κs = sym (c .before .is-known .ensures) ∙ c .if1 .taken
 
-returns-5 : tie.Need-returns-5
-returns-5 c = sym (no-other-kind _ _ (λ some. omega arith))
+returns : tie.Need-returns
+returns c = sym (c .known-input .ensures)
+
+returns-2 : tie.Need-returns-2
+returns-2 c = not-meant _ (sym (c .before .is-known .ensures) ∙ c .if1 .left)
 
 pub decode-input-spec : {M : Type 1} → statement M
-decode-input-spec =
-    tie.close
-    (tie.spec
-    (λ c κs. search needs)
-    (λ c κs. search needs)
-    (λ c κs. search needs)
-    (λ c. search needs)
-    (λ c. search needs)
-    (λ c. search needs)
-    returns-4
-    returns-5)
+decode-input-spec = tie.close (tie.spec (λ c κs. search needs) known-input-requires returns returns-2)

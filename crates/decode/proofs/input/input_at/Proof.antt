@@ -1,26 +1,18 @@
-use Rattle.rules.specs.Inputs.{inputAt}
 use mathlib.Core.Path.{sym, _∙_}
+use native.Mathlib.Omega.{arith}
 use borrow.Author.Needs.{needs}
+use Rattle.decode.proofs.Meaning.{not-meant}
 use Rattle.decode.proofs.input.input_at.Statement.{statement}
 use Rattle.decode.proofs.input.input_at.Tie as tie
 
+known-input-at-requires : tie.Need-known-input-at-requires
+known-input-at-requires c κs = (omega arith, sym (c .before .is-input-at .ensures) ∙ c .if1 .taken)
+
 returns : tie.Need-returns
-unfolding inputAt
-returns c = simp (c .decode-input .ensures, sym (c .before .before .before .before .ends-in-zeros .ensures) ∙ c .before .before .before .if1 .taken)
+returns c = sym (c .known-input-at .ensures)
 
 returns-2 : tie.Need-returns-2
-unfolding inputAt
-returns-2 c = simp (sym (c .before .ends-in-zeros .ensures) ∙ c .if1 .left)
+returns-2 c = not-meant _ (sym (c .before .is-input-at .ensures) ∙ c .if1 .left)
 
 pub input-at-spec : {M : Type 1} → statement M
-input-at-spec =
-    tie.close
-    (tie.spec
-    (λ c κs. search needs)
-    (λ c. search needs)
-    (λ c. search needs)
-    (λ c. search needs)
-    (λ c. search needs)
-    (λ c κs. search needs)
-    returns
-    returns-2)
+input-at-spec = tie.close (tie.spec (λ c κs. search needs) known-input-at-requires returns returns-2)
