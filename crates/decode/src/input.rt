@@ -70,17 +70,6 @@ pub fn known_input(kind: u8, value: u8) -> Input
     }
 }
 
-// What a kind and a value mean.
-pub fn decode_input(kind: u8, value: u8) -> Decoded
-    ensures { λ r. ⌜ r ≡ decoded kind value ⌝ }
-{
-    if is_known(kind, value) {
-        Decoded::Meant(known_input(kind, value))
-    } else {
-        Decoded::Wrong
-    }
-}
-
 // The stamp of the input that starts at a place.
 pub fn stamp_at(octets: &[u8], at: usize) -> u32
     requires { ⌜ at + 8 ≤ length (now octets) ⌝ }

@@ -3,13 +3,10 @@ ghost use mathlib.Core.Path.{_≡_};
 ghost use mathlib.Core.Bool.{true};
 ghost use Prim.Native.Nat.{_+_, _*_, _≤_};
 ghost use lib.ListN.{length};
-ghost use Rattle.rules.specs.declared.input.Decoded.the-variants.{Meant};
-ghost use Rattle.rules.specs.Inputs.{inputAt};
 ghost use Rattle.rules.specs.Soundness.{sound};
 ghost use Rattle.rules.specs.Lists.{plays};
 ghost use Rattle.rules.specs.Runs.{playFile};
 ghost use Rattle.phases.specs.Room.{Room};
-ghost use Rattle.decode.specs.Meaning.{isMeant};
 ghost use Rattle.house.specs.Playing.{listIn, freshIn, Ready, Fit, Filled, Advanced};
 use crate::put::put_note;
 use crate::put::put_notes;
@@ -26,14 +23,13 @@ use actuator::status::record_of;
 use actuator::step::Done;
 use actuator::step::act_on;
 use actuator::step::scenes_left;
-use decode::input::input_at;
+use decode::input::known_input_at;
 use decode::input::stamp_at;
 use decode::parameters::params_of;
 use decode::parameters::scenes_of;
 use orders::lamp::Lamp;
 use orders::lamp::lamp_of;
 use orders::lamp::state_of;
-use rules::input::Decoded;
 use rules::input::Event;
 use rules::input::Force;
 use rules::input::Input;
@@ -62,18 +58,6 @@ fn fresh_in(file: &[u8]) -> State
 {
     let parameters = &file[20..52];
     fresh_with(params_of(parameters), scenes_of(parameters))
-}
-
-// The input at a place of a checked file, where none is wrong.
-fn meant_at(file: &[u8], at: usize) -> Input
-    requires { ⌜ (at + 8 ≤ length (now file)) × (isMeant (inputAt (now file) at) ≡ true) ⌝ }
-    ensures { λ r. ⌜ inputAt (now (file .entry)) at ≡ Meant r ⌝ }
-{
-    let meant = input_at(file, at);
-    match meant {
-        Decoded::Meant(i) => i,
-        Decoded::Wrong => Input::Power(Event::Return),
-    }
 }
 
 // The timers due at or before t: their records follow those before. Most moves of the clock meet none; only those that do
@@ -111,7 +95,7 @@ fn play_inputs(file: &[u8], n: u32, start: State, records: &mut [u8], answers: &
     let mut i: u32 = 0;
     while i < n {
         let at = 52 + 8 * (i as usize);
-        let x = meant_at(file, at);
+        let x = known_input_at(file, at);
         let t = stamp_at(file, at);
         let m = advance(records, count, p, l, t);
         let ph = m.phase;

@@ -24,9 +24,9 @@ ready-to c = rw (c .lamp-of .ensures) (c .before .before .before .before .before
 loop-holds : tie.Need-loop-holds Inv-loop μ-loop
 loop-holds c = going-first _ _ _ _ _ (ready-to c)
 
-meant-at-requires : tie.Need-meant-at-requires Inv-loop μ-loop
+known-input-at-requires : tie.Need-known-input-at-requires Inv-loop μ-loop
 -- the file has an input at this index, which is not wrong
-meant-at-requires c κs =
+known-input-at-requires c κs =
     let ready = ready-to (c .before .before) in
     (omega (arith, ready .whole), turn-meant _ _ _ _ _ ready _ _ _ _ _ (c .before .loop .inv) (c .loop-test .taken))
 
@@ -84,7 +84,7 @@ loop-again c =
     let moves = c .before .before .before .before .before .before .before .before .before .before .advance in
     let put = c .before .before .before .before .put-note in
     going-on _ _ _ _ _ ready (a .args .start .params) (loop .k) (loop .l) _ _ _ _ g (c .before .before .before .before .before .before .before .before .before .before .before .before .before .before .loop-test .taken) (omega (arith, a .pre .1)) (a .pre .2)
-    _ (c .before .before .before .before .before .before .before .before .before .before .before .before .before .meant-at .ensures)
+    _ (c .before .before .before .before .before .before .before .before .before .before .before .before .before .known-input-at .ensures)
     _ _ (rw stamp at (moves .ensures)) (omega (arith, c .before .before .before .before .before .before .before .before .before .before .before .before .before .before .loop-test .taken, g .few, g .room, a .pre .1))
     _ (rw stamp at (c .before .before .before .before .before .before .before .at-moment .ensures))
     _ (c .before .before .before .before .before .before .act-on .ensures)
@@ -114,7 +114,7 @@ play-inputs-spec =
     (λ c. search needs)
     (λ c. search needs)
     (λ c. search needs)
-    meant-at-requires
+    known-input-at-requires
     stamp-at-requires
     advance-requires
     (λ c κs. search needs)
