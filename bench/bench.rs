@@ -33,12 +33,24 @@ fn proved_run(file: &[u8], records: &mut [u8], answers: &mut [u8]) -> u64 {
     }
 }
 
-/// The same show for every length: the first N inputs of one list.
+/// Shows of one mix: the same 256 random inputs again and again, each time later, and each time from a power cut on, so that
+/// every block meets the same state. What a longer show costs more is then what more inputs cost. An input is 42 seconds after
+/// the one before, every fifth at the same stamp; the delays are those of document 01's cases, so timers run between inputs.
 fn show(n: usize) -> Vec<u8> {
-    let mut whole = CueFile::random(&mut Rng::new(7), 2048);
-    whole.inputs.truncate(n);
-    whole.count = n as u32;
-    whole.octets()
+    let mut file = CueFile::random(&mut Rng::new(7), 256);
+    file.parameters[0..8].copy_from_slice(&[0, 2, 0, 5, 0, 60, 0, 10]);
+    file.inputs = (0..n).map(|i| {
+        let mut input = file.inputs[i % 256];
+        let stamp = (i - usize::from(i % 5 == 4)) as u32 * 420;
+        input[0..4].copy_from_slice(&stamp.to_be_bytes());
+        if i % 256 < 2 {
+            input[4..6].copy_from_slice(&[8, (i % 256) as u8]);
+        }
+        input
+    }).collect();
+    file.count = n as u32;
+    file.end = 864_000;
+    file.octets()
 }
 
 fn main() {
