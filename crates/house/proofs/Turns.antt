@@ -167,10 +167,6 @@ module _ (file : List ℕ) (n : ℕ) (start : State) (r₀ a₀ : List ℕ) (rea
     pub turn-meant : (h : i < n) → isMeant (inputAt file (inputPlace i)) ≡ true
     turn-meant h = rw (turn h .meant) refl
 
-    -- it writes at most three records, so there is room for them
-    pub turn-few : (h : i < n) (x : Input) → length (step s x (stampAt file (inputPlace i)) .records) ≤ 3
-    turn-few h x = an-input-writes-at-most-three s x (stampAt file (inputPlace i))
-
     -- and at the end no cue is left
     pub going-last : n ≤ i → Filled 1 (plays (listIn file) start) r₀ a₀ (record { state = s; count = k }) r a
     unfolding plays readInputs
