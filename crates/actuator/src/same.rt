@@ -1,4 +1,4 @@
-// Whether anything but the clock differs between two states.
+// Whether anything but the clock differs between two lamps, and whether two scene tables differ.
 ghost use mathlib.Core.Path.{_≡_};
 ghost use mathlib.Core.Bool.{_&&_};
 ghost use Rattle.orders.specs.Lamps.{alone};

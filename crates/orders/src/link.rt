@@ -62,7 +62,7 @@ fn bus_returns(p: Params, l: Lamp, event: Event) -> Lamp
     }
 }
 
-// The power fails: the output is remembered, and all but the clock falls back.
+// The power fails: the output is remembered, and all else falls back but the clock and the output remembered at locking.
 fn power_fails(l: Lamp) -> Lamp
     ensures { λ r. ⌜ r ≡ lampOf (powerFails (alone l)) ⌝ }
 {

@@ -13,7 +13,7 @@ use rules::input::Force;
 use rules::parameters::Params;
 use rules::phase::Phase;
 
-// An unlocked state is locked: its output is remembered.
+// An unlocked lamp is locked: its output is remembered.
 fn locks(p: Params, l: Lamp) -> Lamp
     ensures { λ r. ⌜ ((k : List Scene) → r ≡ lampOf (locked (stateOf p k l))) ⌝ }
 {
@@ -37,7 +37,7 @@ fn unlocking_output(p: Params, l: Lamp) -> bool
     }
 }
 
-// A locked state is unlocked: a standing force decides, otherwise BehaviourAtUnlocking.
+// A locked lamp is unlocked: a standing force decides, otherwise BehaviourAtUnlocking.
 fn unlocks(p: Params, l: Lamp, f: Force) -> Lamp
     requires { ⌜ Room p (l .clock) ⌝ }
     ensures { λ r. ⌜ ((k : List Scene) → r ≡ lampOf (unlocked (stateOf p k l) f)) ⌝ }

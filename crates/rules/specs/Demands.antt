@@ -27,6 +27,7 @@ Model = List ℕ → List ℕ → List ℕ → Whole
 -- ---- 1
 
 -- "Every octet string offered as a cue file .. gets a numbered answer, with no condition on the caller."
+-- (".. and each single input to a state ..": proofs/Calls.antt `single-refused-exactly-when`, `single-refusal-changes-nothing`)
 abbrev pub AnswersAll : Model → Type 0
 AnswersAll m = (file records answers : List ℕ) → m file records answers .report .code ≤ 8
 
@@ -119,11 +120,12 @@ Keeps Promise m = OfEveryAccepted (λ file records answers list. Promise (params
 abbrev pub KeepsDark : Model → Type 0
 KeepsDark = Keeps DarkShown
 
--- "Light: an On, timed start or scene-on taken at a shows the output on at some moment from a to a plus on delay .."
+-- "Light: an On, timed start or scene-on taken at a shows the output on at some moment from a to a plus on delay ..", as far as
+-- the stamps of the records tell; of our own run all of it is proved (proofs/EveryFile.antt)
 abbrev pub KeepsLight : Model → Type 0
 KeepsLight = Keeps LightStamped
 
--- ---- "So the model has to meet three things."
+-- ---- "So the model has to meet three things.": those that a run is asked for
 
 pub record Meets (m : Model) : Type 0 where
   pub answers-all : AnswersAll m

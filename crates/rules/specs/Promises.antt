@@ -197,7 +197,7 @@ unfoldable pub shownAt : ℕ → ℕ → List Record → ℕ
 shownAt t before [] = before
 shownAt t before (r ∷ later) = shownAt t (cond (leb (r .stamp) t) (r .value) before) later
 
--- Dark: "the last record stamped at most t has value 0" (and there is one: before it, 255 stands for what has not been shown)
+-- Dark: the last record stamped at most t has value 0 (and there is one: before it, 255 stands for what has not been shown)
 abbrev pub DarkShown : Params → List Scene → List Cue → ℕ → List Record → Type 0
 DarkShown p scenes cues end records = (t : ℕ) → DarkDue p scenes cues end t → shownAt t 255 records ≡ 0
 
@@ -221,14 +221,16 @@ recordsBefore p scenes before a =
 unfoldable pub recordsFrom : ℕ → Turn → List Cue → List Record
 recordsFrom end x later = written (kind (x .input)) (x .met) (x .left) ++ playsTo end later (x .left) .records
 
--- "the value is 255 in some record from the moment the order is taken to a plus on delay, or was 255 when it was taken"
+-- Light: the value is 255 in some record from the moment the order is taken to a plus on delay, or was 255 when it was taken
+-- (which is said of the state that the order meets; `ShowsLight` speaks of what it leaves)
 abbrev pub LightShown : Params → List Scene → List Cue → ℕ → Type 0
 LightShown p scenes cues end =
     (before : List Cue) (a : ℕ) (i : Input) (later : List Cue) → before ++ (cue a i ∷ later) ≡ cues → LightDue Taken p scenes before a i later end →
     (shownAt a 0 (recordsBefore p scenes before a) ≡ 255) ⊎ LitRecord a (a + p .ondelay) (recordsFrom end (turnAfter p scenes before a i) later)
 
--- the same by the stamps alone: among the records of the whole run one from a to a plus on delay has value 255, or the last
--- one before a has it
+-- by the stamps alone: among the records of the whole run one from a to a plus on delay has value 255, or the last one before a
+-- has it. This says less than Light, for stamps do not tell what came first at a: after an Off at a that puts out a lamp lit before
+-- a, an On at a that is lost would pass.
 unfoldable pub shownBefore : ℕ → ℕ → List Record → ℕ
 shownBefore a before [] = before
 shownBefore a before (r ∷ later) = shownBefore a (cond (leb a (r .stamp)) before (r .value)) later

@@ -1,4 +1,4 @@
-// What the public calls by value give back. An accepted call has code 0 and place 0.
+// What the public calls give back. An accepted call has code 0 and place 0.
 use crate::record::Record;
 use crate::state::State;
 
