@@ -3,7 +3,7 @@
 use Prim.Native.Nat.{ℕ, _+_, _≤_}
 use mathlib.Core.Bool.{Bool, true, false, cond, not, _&&_}
 use mathlib.Core.Path.{_≡_, refl, sym, ap, _∙_}
-use mathlib.Core.List.{List, [], _∷_, _++_}
+use mathlib.Core.List.{List, [], _∷_, _++_, append-nil}
 use native.Mathlib.Omega.{arith}
 use lib.Dec.{eqb, leb}
 use borrow.Author.Tests.{le-leb}
@@ -22,10 +22,9 @@ use Rattle.rules.specs.Steps.{atMoment, tickAt, tick, ticked, clockMove,
 use Rattle.rules.specs.Lists.{Cue, cue, plays, playsTo}
 use Rattle.rules.specs.Promises.{Rises, stateAt}
 use Rattle.rules.proofs.Tests.{either-way}
-use Rattle.rules.proofs.Moments.{at-case, at-the-end, next-is-later, rises-from, at-after}
+use Rattle.rules.proofs.Moments.{next-is-later, rises-from, at-after}
 use Rattle.rules.proofs.Soundness.{move-clock, move-params, taken-is-the-order}
-use Rattle.rules.proofs.Timers.{moves-compose}
-use Rattle.rules.proofs.Rank.{LeavesNoTrace, unchanged-leaves-no-trace, no-trace-may-be-struck}
+use Rattle.rules.proofs.Rank.{LeavesNoTrace, unchanged-leaves-no-trace, struck-at-every-moment, no-trace-may-be-struck}
 
 -- ---- Off, of a phase
 
@@ -211,46 +210,46 @@ abbrev pub offs : List ℕ → List Cue
 offs [] = []
 offs (u ∷ us) = cue u (SwitchOnOff false) ∷ offs us
 
-asked-again : (us : List ℕ) (s : State) (t end : ℕ) → Asked t s → Rises t (offs us) end →
-    (playsTo end (offs us) s .state ≡ clockMove s end .state) × (playsTo end (offs us) s .records ≡ clockMove s end .records)
-unfolding playsTo plays
-asked-again [] s t end e h = (refl, refl)
-asked-again (u ∷ us) s t end e h =
+asked-again : (us : List ℕ) (later : List Cue) (s : State) (t end : ℕ) → Asked t s → Rises t (offs us ++ later) end →
+    (playsTo end (offs us ++ later) s .state ≡ playsTo end later s .state) × (playsTo end (offs us ++ later) s .records ≡ playsTo end later s .records)
+unfolding plays
+asked-again [] later s t end e h = (refl, refl)
+asked-again (u ∷ us) later s t end e h =
     let asked = asked-later s t u (h .0) e in
-    let struck = no-trace-may-be-struck s [] u (SwitchOnOff false) (offs us) end (next-is-later u (offs us) end (h .1)) (asked-leaves-no-trace s u asked) in
-    let rest = asked-again us s u end asked (h .1) in
+    let struck = no-trace-may-be-struck s [] u (SwitchOnOff false) (offs us ++ later) end (next-is-later u (offs us ++ later) end (h .1)) (asked-leaves-no-trace s u asked) in
+    let rest = asked-again us later s u end asked (h .1) in
     (struck .state ∙ rest .0, struck .records ∙ rest .1)
 
--- The nervous operator: after an Off is taken at t, further Offs at any moments leave the state at every later moment, and
--- the records up to it, as the first Off alone leaves them.
-pub asking-again-changes-nothing : (s : State) (t : ℕ) (us : List ℕ) (end : ℕ) → barrier (clockMove s t .state) (SwitchOnOff false) ≡ Open → Rises t (offs us) end →
+-- The nervous operator: after an Off is taken at t, further Offs at any moments leave the state at the end, and the records up to
+-- it, as the first Off alone leaves them, whatever comes later.
+pub asking-again-changes-nothing : (s : State) (t : ℕ) (us : List ℕ) (later : List Cue) (end : ℕ) → barrier (clockMove s t .state) (SwitchOnOff false) ≡ Open → Rises t (offs us ++ later) end →
     let first : State = step s (SwitchOnOff false) t .state in
-    (playsTo end (offs us) first .state ≡ clockMove first end .state) × (playsTo end (offs us) first .records ≡ clockMove first end .records)
-asking-again-changes-nothing s t us end free h = asked-again us _ t end (taken-off-asks s t t (omega arith) free) h
+    (playsTo end (offs us ++ later) first .state ≡ playsTo end later first .state) × (playsTo end (offs us ++ later) first .records ≡ playsTo end later first .records)
+asking-again-changes-nothing s t us later end free h = asked-again us later _ t end (taken-off-asks s t t (omega arith) free) h
 
--- each of them leaves what the clock move alone leaves, and two moves are one
-asked-at : (us : List ℕ) (s : State) (t end u : ℕ) → Asked t s → Rises t (offs us) end → stateAt u (offs us) s ≡ clockMove s u .state
-asked-at [] s t end u e r = at-the-end u s
-asked-at (v ∷ us) s t end u e r =
+asked-at : (us : List ℕ) (later : List Cue) (s : State) (t end u : ℕ) → Asked t s → Rises t (offs us ++ later) end → stateAt u (offs us ++ later) s ≡ stateAt u later s
+asked-at [] later s t end u e r = refl
+asked-at (v ∷ us) later s t end u e r =
     let asked = asked-later s t v (r .0) e in
-    at-case (λ (x : State). x ≡ clockMove s u .state) u v (SwitchOnOff false) (offs us) s
-    (λ past. ap (stateAt u (offs us)) (asked-leaves-no-trace s v asked .0) ∙ (asked-at us (clockMove s v .state) v end u (move-keeps-asked s v v asked) (r .1) ∙ moves-compose s v u past .0))
-    (λ ahead. refl)
+    struck-at-every-moment u v end (SwitchOnOff false) (offs us ++ later) s (next-is-later v (offs us ++ later) end (r .1)) (asked-leaves-no-trace s v asked)
+    ∙ asked-at us later s v end u asked (r .1)
 
 -- The same at every moment u of a whole run: from t on the house is as the first Off alone leaves it, neither lit longer nor dark
 -- sooner.
-pub asking-again-is-never-later : (s : State) (before : List Cue) (t : ℕ) (us : List ℕ) (last end u : ℕ) → barrier (clockMove (plays before s .state) t .state) (SwitchOnOff false) ≡ Open →
-    Rises last (before ++ (cue t (SwitchOnOff false) ∷ offs us)) end → t ≤ u →
-    stateAt u (before ++ (cue t (SwitchOnOff false) ∷ offs us)) s ≡ stateAt u (before ++ (cue t (SwitchOnOff false) ∷ [])) s
-asking-again-is-never-later s before t us last end u free r past =
-    let first : State = step (plays before s .state) (SwitchOnOff false) t .state in
-    let then = at-after t (SwitchOnOff false) (offs us) end before last r u past in
-    then (offs us) s
-    ∙ asked-at us first t end u (taken-off-asks (plays before s .state) t t (omega arith) free) (rises-from t (SwitchOnOff false) (offs us) end before last r)
-    ∙ sym (then [] s ∙ at-the-end u first)
+pub asking-again-is-never-later : (s : State) (before : List Cue) (t : ℕ) (us : List ℕ) (later : List Cue) (last end u : ℕ) →
+    barrier (clockMove (plays before s .state) t .state) (SwitchOnOff false) ≡ Open → Rises last (before ++ (cue t (SwitchOnOff false) ∷ (offs us ++ later))) end → t ≤ u →
+    stateAt u (before ++ (cue t (SwitchOnOff false) ∷ (offs us ++ later))) s ≡ stateAt u (before ++ (cue t (SwitchOnOff false) ∷ later)) s
+asking-again-is-never-later s before t us later last end u free r past =
+    let then = at-after t (SwitchOnOff false) (offs us ++ later) end before last r u past in
+    let asked = taken-off-asks (plays before s .state) t t (omega arith) free in
+    then (offs us ++ later) s
+    ∙ asked-at us later _ t end u asked (rises-from t (SwitchOnOff false) (offs us ++ later) end before last r)
+    ∙ sym (then later s)
 
 -- However often it is asked for again, the output is off once the delay of the first Off has passed.
 pub an-off-is-heard : (s : State) (t : ℕ) (us : List ℕ) (end : ℕ) → barrier (clockMove s t .state) (SwitchOnOff false) ≡ Open → Rises t (offs us) end → t + s .params .offdelay ≤ end →
     output (playsTo end (offs us) (step s (SwitchOnOff false) t .state) .state .phase) ≡ false
+unfolding playsTo plays
 an-off-is-heard s t us end free r passed =
-    rw (asking-again-changes-nothing s t us end free r .0) (ap output (dark-by-the-timers (step s (SwitchOnOff false) t .state) end (taken-off-is-dark-by s t end free passed)))
+    let again = asking-again-changes-nothing s t us [] end free (rw append-nil r) .0 in
+    rw (rw append-nil at again) (ap output (dark-by-the-timers (step s (SwitchOnOff false) t .state) end (taken-off-is-dark-by s t end free passed)))

@@ -25,7 +25,7 @@ module _ (file : List ℕ) (list : List Cue) (read : readFile file ≡ cues list
   pub list-rises : Rises 0 list (endTime file)
   list-rises = inputs-rise file (inputCount file) 0 0 (endTime file) list (omega arith) (sym (good-start file (good-file file list read .start)) ∙ read)
 
-  has-some-time : 1 ≤ paramsOf (parametersIn file) .timedon
+  pub has-some-time : 1 ≤ paramsOf (parametersIn file) .timedon
   has-some-time = passed-has-some-time (parametersIn file) (good-file file list read .start .passed)
 
   pub dark-of-every-accepted-file : DarkPromise (paramsOf (parametersIn file)) (scenesOf (parametersIn file)) list (endTime file)

@@ -19,6 +19,7 @@ pub mod Dark
 pub mod Light
 pub mod Plays
 pub mod Rank
+pub mod Stamps
 pub mod Ties
 pub mod Delays
 pub mod Worked
@@ -32,7 +33,7 @@ pub mod Calls
 pub mod RunLaws
 pub mod Joined
 pub mod Unique
-pub mod Stamps
 pub mod Shown
+pub mod ThreeMistakes
 pub mod Demands
 pub mod WrongModels

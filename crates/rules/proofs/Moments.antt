@@ -10,7 +10,7 @@ use Rattle.rules.specs.declared.state.State.{State}
 use Rattle.rules.specs.Steps.{clockMove, step}
 use Rattle.rules.specs.Lists.{Cue, cue, plays}
 use Rattle.rules.specs.Promises.{Rises, upTo, stateAt, NotBefore}
-use Rattle.rules.proofs.Tests.{cond-case}
+use Rattle.rules.proofs.Tests.{cond-case, either-way}
 
 -- at t the first input has acted, or the clock alone has moved
 pub at-case : (P : State → Type 0) (t u : ℕ) (i : Input) (later : List Cue) (s : State) →
@@ -29,6 +29,17 @@ at-the-end t s = refl
 pub next-is-later : (last : ℕ) (later : List Cue) (end : ℕ) → Rises last later end → NotBefore last later end
 next-is-later last [] end r = r
 next-is-later last (cue t i ∷ later) end r = r .0
+
+-- so it is among those up to u, or u comes first
+pub next-up-to-is-later : (last u : ℕ) (later : List Cue) (end : ℕ) → last ≤ u → NotBefore last later end → NotBefore last (upTo u later) u
+unfolding upTo
+next-up-to-is-later last u [] end past h = past
+next-up-to-is-later last u (cue t i ∷ later) end past h = either-way (λ (l : List Cue). NotBefore last l u) (leb t u) (cue t i ∷ upTo u later) [] h past
+
+-- and before the last the clock alone has moved
+pub at-before : (last t : ℕ) (later : List Cue) (end : ℕ) (s : State) → t < last → NotBefore last later end → stateAt t later s ≡ clockMove s t .state
+at-before last t [] end s early h = at-the-end t s
+at-before last t (cue u i ∷ later) end s early h = at-case (λ (x : State). x ≡ clockMove s t .state) t u i later s (λ past. absurd (omega arith)) (λ ahead. refl)
 
 -- an input somewhere in the list: the list comes to it from before, and goes on rising from it
 module _ (t : ℕ) (i : Input) (later : List Cue) (end : ℕ) where

@@ -1,5 +1,5 @@
 -- Laws of playing lists, and what inputs give while the clock stands.
-use mathlib.Core.Path.{_≡_, refl}
+use mathlib.Core.Path.{_≡_, refl, _∙_}
 use mathlib.Core.List.{List, [], _∷_, _++_, append-assoc, append-nil}
 use Prim.Native.Nat.{ℕ}
 use Rattle.rules.specs.declared.input.Input.{Input}
@@ -9,6 +9,7 @@ use Rattle.rules.specs.declared.barrier.Barrier.the-variants.{Open, NoPo
 use Rattle.rules.specs.Barriers.{barrier}
 use Rattle.rules.specs.Steps.{Moved, clockMove, taken, meet, act, step}
 use Rattle.rules.specs.Lists.{Cue, cue, Played, andThen, unplayed, moved, stepped, plays, playsTo}
+use Rattle.rules.proofs.Soundness.{step-params}
 
 -- a state that no timer has led to
 abbrev pub still : State → Moved
@@ -32,6 +33,11 @@ pub plays-append : (before later : List Cue) (s : State) → plays (before ++ la
 unfolding plays
 plays-append [] later s = refl
 plays-append (cue t i ∷ before) later s = rw (plays-append before later (step s i t .state)) (simp append-assoc)
+
+pub plays-keep-params : (list : List Cue) (s : State) → plays list s .state .params ≡ s .params
+unfolding plays
+plays-keep-params [] s = refl
+plays-keep-params (cue t i ∷ later) s = plays-keep-params later (step s i t .state) ∙ step-params s i t
 
 pub plays-to-append : (end : ℕ) (before later : List Cue) (s : State) → playsTo end (before ++ later) s ≡ andThen (plays before s) (playsTo end later)
 unfolding playsTo

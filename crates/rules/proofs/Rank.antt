@@ -13,7 +13,8 @@ use Rattle.rules.specs.Status.{written}
 use Rattle.rules.specs.Steps.{Moved, taken, meet, clockMove, act, step}
 use Rattle.rules.proofs.Timers.{moves-compose, alike-writes-nothing}
 use Rattle.rules.specs.Lists.{Cue, cue, Played, andThen, moved, stepped, plays, playsTo}
-use Rattle.rules.specs.Promises.{NotBefore}
+use Rattle.rules.specs.Promises.{upTo, stateAt, NotBefore}
+use Rattle.rules.proofs.Moments.{at-case, next-up-to-is-later, at-before}
 use Rattle.rules.proofs.Plays.{still, andThen-assoc, andThen-from, plays-to-append, acts-after-the-move}
 
 -- an input leaves what the clock move alone leaves
@@ -82,6 +83,13 @@ struck-at-the-front : (t end : ℕ) (i : Input) (later : List Cue) (s : State) �
 unfolding playsTo plays
 struck-at-the-front t end i later s h trace =
     rw (trace .0, trace .1) (simp append-assoc (ap (answeredFirst (step s i t .answer)) (plays-by-way-of t end later s h)))
+
+-- at every moment too the state is the one without it
+pub struck-at-every-moment : (u t end : ℕ) (i : Input) (later : List Cue) (s : State) → NotBefore t later end → LeavesNoTrace s i t → stateAt u (cue t i ∷ later) s ≡ stateAt u later s
+struck-at-every-moment u t end i later s h trace =
+    at-case (λ (x : State). x ≡ stateAt u later s) u t i later s
+    (λ past. ap (stateAt u later) (trace .0) ∙ (unfold stateAt playsTo in ap (λ (a : Played). a .state) (plays-by-way-of t u (upTo u later) s (next-up-to-is-later t u later end past h))))
+    (λ ahead. sym (at-before t u later end s ahead h))
 
 -- the same, but for one answer between the early and the late ones
 pub record SameBut (early : List ℕ) (own : ℕ) (late : List ℕ) (full without : Played) : Type 0 where

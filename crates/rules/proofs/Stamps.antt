@@ -33,9 +33,9 @@ use Rattle.rules.specs.Status.{recordOf, byItself, sameStatus, written}
 use Rattle.rules.specs.Steps.{Moved, ticked, clockMove, taken, meet, act, step}
 use Rattle.rules.specs.Lists.{Cue, cue, plays, playsTo}
 use Rattle.rules.specs.Promises.{Rises}
-use Rattle.rules.proofs.Tests.{either-way}
+use Rattle.rules.proofs.Tests.{cond-zero, either-way}
 use Rattle.rules.proofs.Ticks.{Quiet, fired, three-are-enough}
-use Rattle.rules.proofs.Soundness.{move-clock, step-case, step-clock}
+use Rattle.rules.proofs.Soundness.{move-clock, move-params, step-case, step-clock}
 use Rattle.rules.proofs.Timers.{Moves, rest, fire, alike-writes-nothing, clock-moves}
 use Rattle.rules.proofs.Plays.{plays-to-next}
 
@@ -54,137 +54,142 @@ quiet-is-later : (t : ℕ) (x : Deadline) → Quiet t x → DueFrom (t + 1) x
 quiet-is-later t Never h = tt
 quiet-is-later t (At d) h = omega arith
 
+later-is-quiet : (t : ℕ) (x : Deadline) → DueFrom (t + 1) x → Quiet t x
+later-is-quiet t Never h = tt
+later-is-quiet t (At d) h = omega arith
+
 -- a phase whose timer is not due before t
 abbrev Ahead : ℕ → Phase → Type 0
 Ahead t phase = DueFrom t (deadline phase)
 
-module _ (p : Params) (t : ℕ) where
-  -- a timer leads to a later one or to none
-  timer-ahead : (night : Bool) (phase : Phase) → Ahead t phase → Ahead t (atDeadline p night phase)
-  unfolding atDeadline litAt
-  timer-ahead night Dark h = tt
-  timer-ahead night Lit h = tt
-  timer-ahead night (Starting timed d) h = either-way (Ahead t) (timed || night) _ _ (omega arith) tt
-  timer-ahead night (Timed d) h = either-way (Ahead t) (eqb (p .prewarning) 0) _ _ tt (omega arith)
-  timer-ahead night (Warning d) h = tt
-  timer-ahead night (Ending d) h = tt
+-- a timer leads to a later one or to none
+timer-ahead : (p : Params) (t : ℕ) (night : Bool) (phase : Phase) → Ahead t phase → Ahead t (atDeadline p night phase)
+unfolding atDeadline litAt
+timer-ahead p t night Dark h = tt
+timer-ahead p t night Lit h = tt
+timer-ahead p t night (Starting timed d) h = either-way (Ahead t) (timed || night) _ _ (omega arith) tt
+timer-ahead p t night (Timed d) h = either-way (Ahead t) (eqb (p .prewarning) 0) _ _ tt (omega arith)
+timer-ahead p t night (Warning d) h = tt
+timer-ahead p t night (Ending d) h = tt
 
-  -- an order at t keeps a deadline, or sets one from t on
-  lit-ahead : (timed : Bool) → Ahead t (litAt p timed t)
+-- An order at t keeps a deadline, or sets one from t on; one after t, where TimedOn is not 0. (The other delays are taken only
+-- where they are not 0.) Both are said at once, of an f that is t or t + 1.
+module _ (p : Params) (t f : ℕ) (near : f ≤ t + 1) (by-timed-on : f ≤ t + p .timedon) where
+  lit-ahead : (timed : Bool) → Ahead f (litAt p timed t)
   unfolding litAt
-  lit-ahead timed = either-way (Ahead t) timed _ _ (omega arith) tt
+  lit-ahead timed = either-way (Ahead f) timed _ _ by-timed-on tt
 
-  set-on-ahead : (night held : Bool) → Ahead t (setOn p night held t)
+  set-on-ahead : (night held : Bool) → Ahead f (setOn p night held t)
   unfolding setOn
   set-on-ahead night held = lit-ahead (night && not held)
 
-  on-ahead : (night held : Bool) (phase : Phase) → Ahead t phase → Ahead t (on p night held t phase)
+  on-ahead : (night held : Bool) (phase : Phase) → Ahead f phase → Ahead f (on p night held t phase)
   unfolding on
-  on-ahead night held Dark h = either-way (Ahead t) (eqb (p .ondelay) 0) _ _ (lit-ahead night) (omega arith)
+  on-ahead night held Dark h = cond-zero (Ahead f) (p .ondelay) _ _ (lit-ahead night) (λ some. omega (arith, near))
   on-ahead night held Lit h = tt
   on-ahead night held (Starting timed d) h = h
   on-ahead night held (Timed d) h = set-on-ahead night held
   on-ahead night held (Warning d) h = set-on-ahead night held
   on-ahead night held (Ending d) h = set-on-ahead night held
 
-  timed-start-ahead : (phase : Phase) → Ahead t phase → Ahead t (timedStart p t phase)
+  timed-start-ahead : (phase : Phase) → Ahead f phase → Ahead f (timedStart p t phase)
   unfolding timedStart
-  timed-start-ahead Dark h = either-way (Ahead t) (eqb (p .ondelay) 0) _ _ (omega arith) (omega arith)
-  timed-start-ahead Lit h = omega arith
+  timed-start-ahead Dark h = cond-zero (Ahead f) (p .ondelay) _ _ by-timed-on (λ some. omega (arith, near))
+  timed-start-ahead Lit h = by-timed-on
   timed-start-ahead (Starting timed d) h = h
-  timed-start-ahead (Timed d) h = omega arith
-  timed-start-ahead (Warning d) h = omega arith
-  timed-start-ahead (Ending d) h = omega arith
+  timed-start-ahead (Timed d) h = by-timed-on
+  timed-start-ahead (Warning d) h = by-timed-on
+  timed-start-ahead (Ending d) h = by-timed-on
 
-  off-after-delay-ahead : (phase : Phase) → Ahead t phase → Ahead t (offAfterDelay p t phase)
+  off-after-delay-ahead : (phase : Phase) → 1 ≤ p .offdelay → Ahead f phase → Ahead f (offAfterDelay p t phase)
   unfolding offAfterDelay
-  off-after-delay-ahead Dark h = tt
-  off-after-delay-ahead Lit h = omega arith
-  off-after-delay-ahead (Starting timed d) h = tt
-  off-after-delay-ahead (Timed d) h = omega arith
-  off-after-delay-ahead (Warning d) h = omega arith
-  off-after-delay-ahead (Ending d) h = omega arith
+  off-after-delay-ahead Dark some h = tt
+  off-after-delay-ahead Lit some h = omega (arith, near)
+  off-after-delay-ahead (Starting timed d) some h = tt
+  off-after-delay-ahead (Timed d) some h = omega (arith, near)
+  off-after-delay-ahead (Warning d) some h = omega (arith, near)
+  off-after-delay-ahead (Ending d) some h = omega (arith, near)
 
-  off-ahead : (phase : Phase) → Ahead t phase → Ahead t (off p t phase)
+  off-ahead : (phase : Phase) → Ahead f phase → Ahead f (off p t phase)
   unfolding off
-  off-ahead phase h = either-way (Ahead t) (eqb (p .offdelay) 0) _ _ tt (off-after-delay-ahead phase h)
+  off-ahead phase h = cond-zero (Ahead f) (p .offdelay) _ _ tt (λ some. off-after-delay-ahead phase some h)
 
-  timed-stop-ahead : (phase : Phase) → Ahead t phase → Ahead t (timedStop p t phase)
+  timed-stop-ahead : (phase : Phase) → Ahead f phase → Ahead f (timedStop p t phase)
   unfolding timedStop
   timed-stop-ahead Dark h = tt
   timed-stop-ahead Lit h = tt
-  timed-stop-ahead (Starting timed d) h = either-way (Ahead t) timed _ _ (off-ahead (Starting timed d) h) h
+  timed-stop-ahead (Starting timed d) h = either-way (Ahead f) timed _ _ (off-ahead (Starting timed d) h) h
   timed-stop-ahead (Timed d) h = off-ahead (Timed d) h
   timed-stop-ahead (Warning d) h = off-ahead (Warning d) h
   timed-stop-ahead (Ending d) h = h
 
-  night-falls-ahead : (phase : Phase) → Ahead t phase → Ahead t (nightFalls p t phase)
+  night-falls-ahead : (phase : Phase) → Ahead f phase → Ahead f (nightFalls p t phase)
   unfolding nightFalls
   night-falls-ahead Dark h = tt
-  night-falls-ahead Lit h = omega arith
+  night-falls-ahead Lit h = by-timed-on
   night-falls-ahead (Starting timed d) h = h
   night-falls-ahead (Timed d) h = h
   night-falls-ahead (Warning d) h = h
-  night-falls-ahead (Ending d) h = omega arith
+  night-falls-ahead (Ending d) h = omega (arith, by-timed-on)
 
-plain-ahead : (t : ℕ) (output : Bool) → Ahead t (plain output)
-plain-ahead t true = tt
-plain-ahead t false = tt
+plain-ahead : (f : ℕ) (output : Bool) → Ahead f (plain output)
+plain-ahead f true = tt
+plain-ahead f false = tt
 
 -- ---- states
 
--- no timer of the state is due before its clock
-abbrev OnTime : State → Type 0
-OnTime s = DueFrom (s .clock) (deadline (s .phase))
+-- no timer of the state is due before f
+abbrev OnTime : ℕ → State → Type 0
+OnTime f s = Ahead f (s .phase)
 
-settle-on-time : (s : State) (output : Bool) → OnTime (settle s output)
+settle-on-time : (f : ℕ) (s : State) (output : Bool) → f ≤ s .clock + 1 → f ≤ s .clock + s .params .timedon → OnTime f (settle s output)
 unfolding settle
-settle-on-time s true = set-on-ahead (s .params) (s .clock) (s .night) (held s)
-settle-on-time s false = tt
+settle-on-time f s true near by-timed-on = set-on-ahead (s .params) (s .clock) f near by-timed-on (s .night) (held s)
+settle-on-time f s false near by-timed-on = tt
 
-module _ (s : State) (h : OnTime s) where
-  switch-on-time : (value : Bool) → OnTime (switch s value)
+module _ (f : ℕ) (s : State) (near : f ≤ s .clock + 1) (by-timed-on : f ≤ s .clock + s .params .timedon) (h : OnTime f s) where
+  switch-on-time : (value : Bool) → OnTime f (switch s value)
   unfolding switch
-  switch-on-time true = on-ahead (s .params) (s .clock) (s .night) (held s) (s .phase) h
-  switch-on-time false = off-ahead (s .params) (s .clock) (s .phase) h
+  switch-on-time true = on-ahead (s .params) (s .clock) f near by-timed-on (s .night) (held s) (s .phase) h
+  switch-on-time false = off-ahead (s .params) (s .clock) f near by-timed-on (s .phase) h
 
-  timed-on-time : (value : Bool) → OnTime (timed s value)
+  timed-on-time : (value : Bool) → OnTime f (timed s value)
   unfolding timed
-  timed-on-time true = timed-start-ahead (s .params) (s .clock) (s .phase) h
-  timed-on-time false = timed-stop-ahead (s .params) (s .clock) (s .phase) h
+  timed-on-time true = timed-start-ahead (s .params) (s .clock) f near by-timed-on (s .phase) h
+  timed-on-time false = timed-stop-ahead (s .params) (s .clock) f near by-timed-on (s .phase) h
 
-  recall-on-time : (found : Recalled) → OnTime (recall s found)
+  recall-on-time : (found : Recalled) → OnTime f (recall s found)
   unfolding recall
   recall-on-time Nothing = h
   recall-on-time (Output value) = switch-on-time value
 
-  night-on-time : (value : Bool) → OnTime (nightMode s value)
+  night-on-time : (value : Bool) → OnTime f (nightMode s value)
   unfolding nightMode
-  night-on-time true = either-way OnTime (s .night) _ _ h (night-falls-ahead (s .params) (s .clock) (s .phase) h)
+  night-on-time true = either-way (OnTime f) (s .night) _ _ h (night-falls-ahead (s .params) (s .clock) f near by-timed-on (s .phase) h)
   night-on-time false = h
 
-  forced-on-time : (force : Force) → OnTime (forced s force)
+  forced-on-time : (force : Force) → OnTime f (forced s force)
   unfolding forced
   forced-on-time Off = tt
   forced-on-time On = tt
-  forced-on-time Free = either-way OnTime (standing (s .force)) _ _ (settle-on-time (withForce s Free) _) h
+  forced-on-time Free = either-way (OnTime f) (standing (s .force)) _ _ (settle-on-time f (withForce s Free) _ near by-timed-on) h
 
-  unlocked-on-time : (force : Force) → OnTime (unlocked s force)
+  unlocked-on-time : (force : Force) → OnTime f (unlocked s force)
   unfolding unlocked
   unlocked-on-time Off = tt
   unlocked-on-time On = tt
-  unlocked-on-time Free = settle-on-time (withLock s false (s .atlocking)) _
+  unlocked-on-time Free = settle-on-time f (withLock s false (s .atlocking)) _ near by-timed-on
 
-  lock-on-time : (value : Bool) → OnTime (lockDevice s value)
+  lock-on-time : (value : Bool) → OnTime f (lockDevice s value)
   unfolding lockDevice locked
-  lock-on-time true = either-way OnTime (s .lock) _ _ h (plain-ahead (s .clock) (byMode (s .params .locking) (output (s .phase))))
-  lock-on-time false = either-way OnTime (s .lock) _ _ (unlocked-on-time (s .force)) h
+  lock-on-time true = either-way (OnTime f) (s .lock) _ _ h (plain-ahead f (byMode (s .params .locking) (output (s .phase))))
+  lock-on-time false = either-way (OnTime f) (s .lock) _ _ (unlocked-on-time (s .force)) h
 
-  bus-mode-on-time : (link : Link) (mode : ℕ) → OnTime (busMode (withLink s link) mode)
+  bus-mode-on-time : (link : Link) (mode : ℕ) → OnTime f (busMode (withLink s link) mode)
   unfolding busMode
-  bus-mode-on-time link mode = either-way OnTime (held (withLink s link) || eqb mode 0) _ _ h (settle-on-time (withLink s link) _)
+  bus-mode-on-time link mode = either-way (OnTime f) (held (withLink s link) || eqb mode 0) _ _ h (settle-on-time f (withLink s link) _ near by-timed-on)
 
-  bus-on-time : (link : Link) (event : Event) → OnTime (bus s link event)
+  bus-on-time : (link : Link) (event : Event) → OnTime f (bus s link event)
   unfolding bus
   bus-on-time Up Failure = bus-mode-on-time BusDown _
   bus-on-time Up Return = h
@@ -192,20 +197,20 @@ module _ (s : State) (h : OnTime s) where
   bus-on-time BusDown Return = bus-mode-on-time Up _
   bus-on-time PowerDown event = h
 
-  power-on-time : (link : Link) (event : Event) → OnTime (power s link event)
+  power-on-time : (link : Link) (event : Event) → OnTime f (power s link event)
   unfolding power powerFails powerReturns
   power-on-time Up Failure = tt
   power-on-time Up Return = h
   power-on-time BusDown Failure = tt
   power-on-time BusDown Return = h
   power-on-time PowerDown Failure = h
-  power-on-time PowerDown Return = settle-on-time (withLink s Up) _
+  power-on-time PowerDown Return = settle-on-time f (withLink s Up) _ near by-timed-on
 
-  order-on-time : (i : Input) → OnTime (order s i)
+  order-on-time : (i : Input) → OnTime f (order s i)
   unfolding order scene learn
   order-on-time (SwitchOnOff value) = switch-on-time value
   order-on-time (TimedStartStop value) = timed-on-time value
-  order-on-time (NumberedSceneControl true number) = either-way OnTime (s .params .learning) _ _ h h
+  order-on-time (NumberedSceneControl true number) = either-way (OnTime f) (s .params .learning) _ _ h h
   order-on-time (NumberedSceneControl false number) = recall-on-time (recalled (s .scenes) number)
   order-on-time (SwitchOnOffForced force) = forced-on-time force
   order-on-time (LockDevice value) = lock-on-time value
@@ -218,12 +223,20 @@ pub moved-on-time : (s : State) (t : ℕ) → DueFrom (t + 1) (deadline (clockMo
 unfolding clockMove ticked
 moved-on-time s t = quiet-is-later t (deadline (clockMove s t .state .phase)) (three-are-enough s t)
 
--- and an order sets nothing before the clock, so whatever state a step starts from, nothing is due before its stamp
-step-on-time : (s : State) (i : Input) (t : ℕ) → DueFrom t (deadline (step s i t .state .phase))
-step-on-time s i t =
+-- and an order sets nothing before that, whatever state a step starts from
+step-ahead : (s : State) (i : Input) (t f : ℕ) → f ≤ t + 1 → f ≤ t + s .params .timedon → OnTime f (step s i t .state)
+step-ahead s i t f near by-timed-on =
     let met : State = clockMove s t .state in
-    let early = due-from-earlier t (t + 1) (deadline (met .phase)) (omega arith) (moved-on-time s t) in
-    rw (step-clock s i t) at (step-case OnTime s i t (λ way. order-on-time met (rw (move-clock s t) early) i) (rw (move-clock s t) early))
+    let early = due-from-earlier f (t + 1) (deadline (met .phase)) near (moved-on-time s t) in
+    step-case (OnTime f) s i t (λ way. order-on-time f met (rw (move-clock s t) near) (rw (move-clock s t, move-params s t) by-timed-on) early i) early
+
+-- so nothing is due before its stamp
+step-on-time : (s : State) (i : Input) (t : ℕ) → DueFrom t (deadline (step s i t .state .phase))
+step-on-time s i t = step-ahead s i t t (omega arith) (omega arith)
+
+-- nor at it, where TimedOn is not 0: whatever comes at the same stamp finds no timer to run
+pub nothing-due-after-a-step : (s : State) (i : Input) (t : ℕ) → 1 ≤ s .params .timedon → Quiet t (deadline (step s i t .state .phase))
+nothing-due-after-a-step s i t some = later-is-quiet t (deadline (step s i t .state .phase)) (step-ahead s i t (t + 1) (omega arith) (omega arith))
 
 -- ---- records
 

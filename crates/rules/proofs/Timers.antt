@@ -1,21 +1,16 @@
 -- The timers of a clock move: each runs at its own moment, three are enough, and two moves are one.
 use Prim.Native.Nat.{ℕ, _≤_}
-use mathlib.Core.Bool.{true}
 use mathlib.Core.List.{List, [], _++_, append-nil, append-assoc}
 use mathlib.Core.Path.{_≡_, refl, sym}
 use native.Mathlib.Omega.{arith}
 use borrow.Author.Tests.{le-leb, eq-eqb}
-use Rattle.rules.specs.declared.phase.Deadline.{Deadline}
-use Rattle.rules.specs.declared.phase.Deadline.the-variants.{Never, At}
+use Rattle.rules.specs.declared.phase.Deadline.the-variants.{At}
 use Rattle.rules.specs.declared.state.State.{State}
 use Rattle.rules.specs.declared.record.Record.{Record}
 use Rattle.rules.specs.Phases.{deadline, atDeadline}
 use Rattle.rules.specs.Status.{value, attributes, sameStatus, written, byItself}
 use Rattle.rules.specs.Steps.{atMoment, tickAt, tick, ticked, clockMove}
-use Rattle.rules.specs.Soundness.{soon, sound}
-use Rattle.rules.proofs.Deadlines.{soon-within}
 use Rattle.rules.proofs.Ticks.{Quiet, fired, tick-case, tick-rests, three-are-enough}
-use Rattle.rules.proofs.Soundness.{sound-view}
 
 -- ---- one timer
 
@@ -78,15 +73,6 @@ no-timer-due-no-move s t q = the-clock-move (rest q)
 pub a-second-move-changes-nothing : (s : State) (t : ℕ) → clockMove (clockMove s t .state) t ≡ record { state = clockMove s t .state; records = [] }
 unfolding clockMove ticked
 a-second-move-changes-nothing s t = no-timer-due-no-move (clockMove s t .state) t (three-are-enough s t)
-
--- a deadline after the clock is not due
-soon-quiet : (t : ℕ) (x : Deadline) → soon t x ≡ true → Quiet t x
-soon-quiet t Never h = tt
-soon-quiet t (At d) h = soon-within t d h .after
-
--- a sound state has no timer due at its clock
-pub quiet-move : (s : State) → sound s ≡ true → clockMove s (s .clock) ≡ record { state = s; records = [] }
-quiet-move s h = no-timer-due-no-move s (s .clock) (soon-quiet (s .clock) (deadline (s .phase)) (sound-view s h .soon))
 
 -- ---- two clock moves
 
