@@ -9,7 +9,6 @@ use orders::lamp::stands;
 use phases::logic::both;
 use rules::barrier::Barrier;
 use rules::barrier::Row;
-use rules::input::Event;
 use rules::input::Force;
 use rules::input::Input;
 use rules::state::Link;

@@ -1,7 +1,6 @@
 // The clock moves: every timer that is due runs at its own moment.
 ghost use mathlib.Core.Path.{_≡_};
 ghost use mathlib.Core.List.{List};
-ghost use Prim.Native.Nat.{_≤_};
 ghost use Rattle.rules.specs.declared.parameters.Scene.{Scene};
 ghost use Rattle.rules.specs.Phases.{deadline};
 ghost use Rattle.rules.specs.Steps.{atMoment, tick, clockMove};
@@ -13,12 +12,10 @@ use crate::notes::Notes;
 use orders::lamp;
 use orders::lamp::Lamp;
 use phases::phase;
-use rules::input::Force;
 use rules::parameters::Params;
 use rules::parameters::Scene;
 use rules::phase::Deadline;
 use rules::phase::Phase;
-use rules::state::Link;
 use rules::state::State;
 
 // What timers leave: a phase, and the records that they wrote. All else of a lamp but its clock stays.

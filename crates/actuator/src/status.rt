@@ -10,10 +10,7 @@ use phases::logic::both;
 use phases::logic::negated;
 use phases::phase::output_of;
 use phases::phase::staircase_of;
-use rules::input::Force;
-use rules::phase::Phase;
 use rules::record::Record;
-use rules::state::Link;
 
 pub fn value_of(l: Lamp) -> u8
     ensures { λ r. ⌜ r ≡ value (alone l) ⌝ }

@@ -12,7 +12,6 @@ ghost use Rattle.orders.specs.Lamps.{stateOf, alone};
 ghost use Rattle.actuator.specs.Notes.{doneBy, stoppedBy, done, acted};
 use crate::barrier::barrier_to;
 use crate::barrier::kind_of;
-use crate::clock::Ticked;
 use crate::clock::at_moment;
 use crate::clock::due_timers;
 use crate::notes;
@@ -27,13 +26,9 @@ use orders::order::is_lesson;
 use orders::order::table_after;
 use phases::logic::both;
 use rules::barrier::Barrier;
-use rules::input::Event;
-use rules::input::Force;
 use rules::input::Input;
 use rules::parameters::Params;
 use rules::parameters::Scene;
-use rules::phase::Phase;
-use rules::record::Record;
 use rules::state::State;
 
 // What an input does at the moved clock, but for the scene table.

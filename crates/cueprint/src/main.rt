@@ -13,7 +13,6 @@ use decode::refusal::number_of;
 use live::clock::clock_move;
 use live::fresh::fresh_state;
 use live::single::single_input;
-use orders::lamp::Lamp;
 use orders::lamp::lamp_of;
 use rules::record::Record;
 use rules::refusal::Check;

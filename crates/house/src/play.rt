@@ -11,16 +11,12 @@ ghost use Rattle.house.specs.Playing.{listIn, freshIn, Ready, Fit, Fille
 use crate::put::put_note;
 use crate::put::put_notes;
 use crate::put::put_record;
-use actuator::clock::Ticked;
 use actuator::clock::at_moment;
 use actuator::clock::due_timers;
 use actuator::clock::is_due;
 use actuator::clock::run_timers;
 use actuator::fresh::fresh_with;
-use actuator::notes::Note;
-use actuator::notes::Notes;
 use actuator::status::record_of;
-use actuator::step::Done;
 use actuator::step::act_on;
 use actuator::step::scenes_left;
 use decode::input::known_input_at;
@@ -30,13 +26,8 @@ use decode::parameters::scenes_of;
 use orders::lamp::Lamp;
 use orders::lamp::lamp_of;
 use orders::lamp::state_of;
-use rules::input::Event;
-use rules::input::Force;
-use rules::input::Input;
 use rules::parameters::Params;
-use rules::parameters::Scene;
 use rules::phase::Phase;
-use rules::record::Record;
 use rules::state::State;
 
 // Where playing has come to: the state, and how many records stand in the buffer.

@@ -16,7 +16,6 @@ use phases::logic::both;
 use rules::call::Ran;
 use rules::refusal::Check;
 use rules::refusal::Refusal;
-use rules::state::State;
 
 fn refused(why: Refusal, place: u16) -> Ran
     ensures { λ r. ⌜ r ≡ refusal why place ⌝ }

@@ -5,7 +5,6 @@ ghost use Rattle.live.specs.ByValue.{moveOf};
 use crate::stamp::stamp_in_range;
 use actuator::clock::Clocked;
 use actuator::clock::move_clock;
-use actuator::notes::Notes;
 use actuator::sound::is_sound;
 use decode::refusal::number_of;
 use rules::call::Move;

@@ -8,11 +8,7 @@ use decode::parameters::params_of;
 use decode::parameters::scenes_of;
 use decode::refusal::number_of;
 use rules::call::Fresh;
-use rules::parameters::Params;
-use rules::parameters::Scene;
 use rules::refusal::Check;
-use rules::refusal::Refusal;
-use rules::state::State;
 
 // Any octets: 32 that are in range give the fresh state, all others a refusal with its place and its own state.
 pub fn fresh_state(octets: &[u8]) -> Fresh

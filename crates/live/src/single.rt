@@ -8,7 +8,6 @@ ghost use Rattle.rules.specs.Calls.{singleDone, singleRefused, singleCall};
 ghost use Rattle.live.specs.ByValue.{singleOf};
 use crate::stamp::stamp_in_range;
 use actuator::notes;
-use actuator::notes::Notes;
 use actuator::sound::is_sound;
 use actuator::step::Acted;
 use actuator::step::step_input;
@@ -17,10 +16,7 @@ use decode::input::stamp_at;
 use decode::refusal::number_of;
 use rules::call::Single;
 use rules::input::Decoded;
-use rules::input::Event;
-use rules::input::Force;
 use rules::input::Input;
-use rules::record::Record;
 use rules::refusal::Refusal;
 use rules::state::State;
 

@@ -2,7 +2,6 @@
 // struct is written anew.
 ghost use mathlib.Core.Path.{_≡_};
 ghost use mathlib.Core.List.{List};
-ghost use Prim.Native.Nat.{_+_, _≤_};
 ghost use Rattle.rules.specs.declared.parameters.Scene.{Scene};
 ghost use Rattle.rules.specs.Orders.{withPhase, withNight, withForce, withLink, withLock, standing, held, settle, plain, byMode};
 ghost use Rattle.phases.specs.Room.{Room};

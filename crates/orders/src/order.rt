@@ -1,6 +1,5 @@
 // What an input does, where nothing stops it: to the lamp, and to the scene table.
 ghost use mathlib.Core.Path.{_≡_};
-ghost use Prim.Native.Nat.{_+_, _≤_};
 ghost use Rattle.rules.specs.Orders.{order};
 ghost use Rattle.phases.specs.Room.{Roomy};
 ghost use Rattle.orders.specs.Lamps.{lampOf, stateOf, teaches};
@@ -10,12 +9,9 @@ use crate::light;
 use crate::link;
 use crate::lock;
 use crate::scene;
-use rules::input::Event;
-use rules::input::Force;
 use rules::input::Input;
 use rules::parameters::Params;
 use rules::parameters::Scene;
-use rules::state::Link;
 
 pub fn carry_out(p: Params, k: [Scene; 8], l: Lamp, i: Input) -> Lamp
     requires { ⌜ Roomy p (l .clock) (l .phase) ⌝ }

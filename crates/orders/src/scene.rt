@@ -1,6 +1,6 @@
 // The scene table: a number is recalled or learnt.
 ghost use mathlib.Core.Path.{_≡_};
-ghost use Prim.Native.Nat.{_+_, _≤_};
+ghost use Prim.Native.Nat.{_+_};
 ghost use Rattle.rules.specs.Scenes.{recalled, learnt};
 ghost use Rattle.rules.specs.Orders.{scene};
 ghost use Rattle.orders.specs.Lamps.{stateOf};

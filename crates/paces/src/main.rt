@@ -27,7 +27,6 @@ mod play;
 mod read;
 mod show;
 
-use crate::play::Player;
 
 // A proved loop has to end, so it counts its turns down, from a number that no run uses up.
 fn main() {

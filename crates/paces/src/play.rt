@@ -2,15 +2,6 @@
 use crate::change;
 use crate::read;
 use crate::show;
-use rules::call::Fresh;
-use rules::call::Move;
-use rules::call::Single;
-use rules::input::Force;
-use rules::parameters::Params;
-use rules::parameters::Scene;
-use rules::phase::Phase;
-use rules::record::Record;
-use rules::state::Link;
 use rules::state::State;
 
 // The state now, the state that was kept, and whether there is more to play.

@@ -1,6 +1,5 @@
 // What each order makes of a phase, at t: one small function for each.
 ghost use mathlib.Core.Path.{_≡_};
-ghost use Prim.Native.Nat.{_+_, _≤_};
 ghost use Rattle.rules.specs.Orders.{on, timedStart, offAfterDelay, off, timedStop, nightFalls};
 ghost use Rattle.phases.specs.Room.{Room, Roomy};
 use crate::phase::lit_at;

@@ -1,6 +1,5 @@
 // The phases: their outputs, their deadlines, and what becomes of each at its deadline.
 ghost use mathlib.Core.Path.{_≡_};
-ghost use Prim.Native.Nat.{_+_, _≤_};
 ghost use Rattle.rules.specs.Phases.{output, deadline, litAt, atDeadline, setOn};
 ghost use Rattle.rules.specs.Status.{staircase};
 ghost use Rattle.rules.specs.Answers.{due};
