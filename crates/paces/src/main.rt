@@ -27,7 +27,6 @@ mod play;
 mod read;
 mod show;
 
-
 // A proved loop has to end, so it counts its turns down, from a number that no run uses up.
 fn main() {
     let mut p = play::start();
