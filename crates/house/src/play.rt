@@ -51,8 +51,8 @@ fn fresh_in(file: &[u8]) -> State
     fresh_with(params_of(parameters), scenes_of(parameters))
 }
 
-// The timers due at or before t: their records follow those before. Most moves of the clock meet none; only those that do
-// pay for the copies.
+// The timers due at or before t: their records follow those before, which are at most three for each of 2,048 inputs. Most moves
+// of the clock meet no timer; only those that do pay for the copies.
 fn advance(records: &mut [u8], count: u32, p: Params, l: Lamp, t: u32) -> Moment
     requires { ⌜ Room p t × (count ≤ 6144) × (8 * count + 16 ≤ length (now records)) ⌝ }
     ensures { λ r. ⌜ Advanced p l t count (now (records .entry)) r (now (records .exit)) ⌝ }
