@@ -31,6 +31,7 @@ use Rattle.rules.specs.Demands.{Model, StaysWithin, Judges, PlaysAll, Co
 use Rattle.rules.proofs.Tests.{either-way}
 use Rattle.rules.proofs.Worked.{on-at, off-at, night-at}
 use Rattle.rules.proofs.RunLaws.{records-length}
+use Rattle.rules.proofs.Shown.{at-or-before}
 use Rattle.rules.proofs.Demands.{accepted-records, our-run-counts-changes}
 
 -- ---- models that judge a file as the table does, and play it in a way of their own
@@ -174,9 +175,11 @@ on-shows : (play : List ℕ → List Cue → Played) → KeepsLight (modelBy pla
     (shownBefore a 0 records ≡ 255) ⊎ (stampedBefore a records + 1 ≤ stampedBefore (suc a) records)
 unfolding leastParams
 on-shows play light a h =
+    let records : List Record = play (fileOf 1 (octetsOf a 1 1)) (on-at a ∷ []) .records in
     elim (kept LightStamped play light 1 (octetsOf a 1 1) (on-at a ∷ []) (one-on a h) [] a (SwitchOnOff true) [] refl (on-is-due a h)) [
-      | inl was ↦ inl was
-      | inr lit ↦ inr (lit-counts a (a + 0) (play (fileOf 1 (octetsOf a 1 1)) (on-at a ∷ []) .records) (omega arith) lit)
+      | inl lit ↦ inr (lit-counts a (a + 0) records (omega arith) lit)
+      | inr (inl shows) ↦ elim (at-or-before a 0 0 records (λ e. e) shows) [ inl was ↦ inl was | inr lit ↦ inr (lit-counts a a records (omega arith) lit) ]
+      | inr (inr was) ↦ inl (was .1)
     ]
 
 -- night at 0 leaves all dark from 10 on

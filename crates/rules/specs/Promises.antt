@@ -228,9 +228,10 @@ LightShown p scenes cues end =
     (before : List Cue) (a : ℕ) (i : Input) (later : List Cue) → before ++ (cue a i ∷ later) ≡ cues → LightDue Taken p scenes before a i later end →
     (shownAt a 0 (recordsBefore p scenes before a) ≡ 255) ⊎ LitRecord a (a + p .ondelay) (recordsFrom end (turnAfter p scenes before a i) later)
 
--- by the stamps alone: among the records of the whole run one from a to a plus on delay has value 255, or the last one before a
--- has it. This says less than Light, for stamps do not tell what came first at a: after an Off at a that puts out a lamp lit before
--- a, an On at a that is lost would pass.
+-- by the stamps alone: among the records of the whole run one from a to a plus on delay has value 255, or the last one stamped at
+-- most a has it. Where there is no delay at all it may have been the last one before a that had it, for then inputs stamped a may
+-- dim at once a lamp that was lit when the order was taken. (There this says less than Light, for stamps do not tell what came
+-- first at a: after an Off at a that puts out a lamp lit before a, an On at a that is lost would pass.)
 unfoldable pub shownBefore : ℕ → ℕ → List Record → ℕ
 shownBefore a before [] = before
 shownBefore a before (r ∷ later) = shownBefore a (cond (leb a (r .stamp)) before (r .value)) later
@@ -238,4 +239,4 @@ shownBefore a before (r ∷ later) = shownBefore a (cond (leb a (r .stamp)) befo
 abbrev pub LightStamped : Params → List Scene → List Cue → ℕ → List Record → Type 0
 LightStamped p scenes cues end records =
     (before : List Cue) (a : ℕ) (i : Input) (later : List Cue) → before ++ (cue a i ∷ later) ≡ cues → LightDue Taken p scenes before a i later end →
-    (shownBefore a 0 records ≡ 255) ⊎ LitRecord a (a + p .ondelay) records
+    LitRecord a (a + p .ondelay) records ⊎ (shownAt a 0 records ≡ 255) ⊎ ((p .ondelay ≡ 0) × (shownBefore a 0 records ≡ 255))
