@@ -1,4 +1,5 @@
--- The wrong models that document 01 names ("What may be believed of each call"), and the demand that each of them breaks.
+-- The wrong models that document 01 names ("What may be believed of each call"), and the demand that each of them breaks; at the
+-- end, records that lose an On in a tie.
 use Prim.Native.Nat.{ℕ, zero, suc, _+_, _*_, _≤_}
 use mathlib.Core.Bool.{Bool, true, false, cond, true≢false}
 use mathlib.Core.Path.{_≡_, refl, sym, ap, _∙_}
@@ -15,7 +16,7 @@ use Rattle.rules.specs.declared.state.State.{State}
 use Rattle.rules.specs.declared.record.Record.{Record}
 use Rattle.rules.specs.Parameters.{delay, paramsOf, sceneAt, scenesOf, greatest, numberAbove, badNumber, badFlags, badOctet}
 use Rattle.rules.specs.Inputs.{zeroOrOne, decoded, stampAt, inputAt}
-use Rattle.rules.specs.Phases.{output, litAt}
+use Rattle.rules.specs.Phases.{output, litAt, atDeadline}
 use Rattle.rules.specs.Orders.{on, off, nightFalls, switch, nightMode, order}
 use Rattle.rules.specs.Barriers.{rows, rowOf, firstBarrier, barrier}
 use Rattle.rules.specs.Status.{value, recordOf, byItself}
@@ -322,3 +323,41 @@ an-invented-record-count-breaks-demand-2 f file records answers list read other 
 -- one too many
 pub one-record-too-many-breaks-demand-2 : CountsChanges (invented-count suc) → ⊥
 one-record-too-many-breaks-demand-2 = an-invented-record-count-breaks-demand-2 suc (fileOf 0 []) room room [] no-inputs (λ same. omega arith)
+
+-- ---- an On that is lost after an Off of its own stamp, though the lamp was lit before both
+
+-- OnDelay 2 seconds, OffDelay 0
+abbrev slowOn : Params
+slowOn = record { ondelay = 20; offdelay = 0; timedon = 10; prewarning = 0; locking = 0; unlocking = 0; busfailure = 0; busreturn = 0; powerreturn = 0; learning = false }
+
+-- each record from a on is dark
+abbrev DarkFrom : ℕ → List Record → Type 0
+DarkFrom a [] = Unit {0}
+DarkFrom a (r ∷ later) = (a ≤ r .stamp → r .value ≡ 0) × DarkFrom a later
+
+dark-among : (a : ℕ) (early : List Record) (r : Record) (late : List Record) → DarkFrom a (early ++ (r ∷ late)) → a ≤ r .stamp → r .value ≡ 0
+dark-among a [] r late d h = d .0 h
+dark-among a (e ∷ early) r late d h = dark-among a early r late (d .1) h
+
+none-lit : (a z : ℕ) (l : List Record) → DarkFrom a l → LitRecord a z l → ⊥
+none-lit a z l d x = omega (arith, x .shines, dark-among a (x .earlier) (x .lit) (x .later) (rw (← (x .split)) at d) (x .from))
+
+-- On 0, Off 100, On 100: on at 20, off at 100, and nothing more
+abbrev lost : List Record
+lost =
+    record { stamp = 0; value = 0; attributes = 1; cause = 0 }
+    ∷ record { stamp = 20; value = 255; attributes = 1; cause = 0 }
+    ∷ record { stamp = 100; value = 0; attributes = 1; cause = 1 }
+    ∷ []
+
+second-on-is-due : LightDue Taken slowOn noScenes (on-at 0 ∷ off-at 100 ∷ []) 100 (SwitchOnOff true) [] 200
+unfolding playing atDeadline turns
+second-on-is-due = record { taken = refl; lights = refl; reached = omega arith; undimmed = tt }
+
+pub a-lost-on-breaks-light : LightStamped slowOn noScenes (on-at 0 ∷ off-at 100 ∷ on-at 100 ∷ []) 200 lost → ⊥
+a-lost-on-breaks-light light =
+    elim (light (on-at 0 ∷ off-at 100 ∷ []) 100 (SwitchOnOff true) [] refl second-on-is-due) [
+      | inl lit ↦ none-lit 100 120 lost (λ h. absurd (omega arith), (λ h. absurd (omega arith), (λ h. refl, tt))) lit
+      | inr (inl shows) ↦ unfold shownAt in omega (arith, shows)
+      | inr (inr none) ↦ omega (arith, none .0)
+    ]
