@@ -18,7 +18,7 @@ use Rattle.rules.specs.Promises.{Rises, turn, turns, Each, stateAt, ligh
 use Rattle.rules.proofs.Tests.{no}
 use Rattle.rules.proofs.Lasting.{OverBy}
 use Rattle.rules.proofs.Ticks.{Quiet, three-are-enough}
-use Rattle.rules.proofs.Soundness.{move-keeps, move-params, step-params}
+use Rattle.rules.proofs.Soundness.{move-keeps, step-params}
 use Rattle.rules.proofs.Prolonging.{Over, move-over, Prolongs, lighting, busIsOn, byDay, fromLock, fromForce, fromPowerDown, step-over}
 use Rattle.rules.proofs.Moments.{at-case, at-the-end}
 
@@ -34,7 +34,7 @@ night-before s t =
     (λ n. record { night = n .night; unlocked = n .unlocked; unforced = n .unforced; powered = n .powered })
 
 -- where night rules, only an order that lights and a bus event with mode On prolong the light
-night-prolongs-nothing : (s : State) (i : Input) → NightRules s → lights s i ≡ false → busOn (s .params) i ≡ false → Prolongs s i → ⊥
+night-prolongs-nothing : (s : State) (i : Input) → NightRules s → lights s i ≡ false → busOn s i ≡ false → Prolongs s i → ⊥
 night-prolongs-nothing s i n unlit keeps (lighting e) = no (sym unlit ∙ e)
 night-prolongs-nothing s i n unlit keeps (busIsOn e) = no (sym keeps ∙ e)
 night-prolongs-nothing s i n unlit keeps (byDay e) = no (sym e ∙ n .night)
@@ -68,19 +68,19 @@ module _ (p : Params) (end start t : ℕ) (long : start + longestLight p ≤ t) 
   night-from (cue v j ∷ later) s u after r n = at-case NightRules start v j later s (λ early. absurd (omega (arith, r .0))) (λ ahead. moved-night s start n)
 
   -- an order up to the start has room for the longest light, a later one prolongs nothing
-  next : (s : State) (u : ℕ) (i : Input) (later : List Cue) → u ≤ t → Rises u later end → s .params ≡ p → Over t s → (start < u → LeavesNight p (turn s u i)) →
+  next : (s : State) (u : ℕ) (i : Input) (later : List Cue) → u ≤ t → Rises u later end → s .params ≡ p → Over t s → (start < u → LeavesNight (turn s u i)) →
       NightRules (stateAt start (cue u i ∷ later) s) → Over t (step s i u .state) × NightRules (stateAt start later (step s i u .state))
   next s u i later within r e over leaves =
       at-case (λ (x : State). NightRules x → Over t (step s i u .state) × NightRules (stateAt start later (step s i u .state))) start u i later s
       (λ early n. (step-over s i u t over (λ way prolongs. rw e (omega arith)), n))
       (λ after n. let x = leaves after in
       let calm = moved-night s u (night-before s start n) in (
-        step-over s i u t over (λ way prolongs. absurd (night-prolongs-nothing _ i calm (x .no-light way) (rw (move-params s u, e) (x .no-bus-on)) prolongs)),
+        step-over s i u t over (λ way prolongs. absurd (night-prolongs-nothing _ i calm (x .no-light way) (x .no-bus-on) prolongs)),
         night-from later _ u after r (x .stays),
       ))
 
   dark-from : (cues : List Cue) (s : State) (last : ℕ) → Rises last cues end → s .params ≡ p → Over t s → NightRules (stateAt start cues s) →
-      Each (λ x. start < x .stamp → x .stamp ≤ t → LeavesNight p x) (turns cues s) → output (stateAt t cues s .phase) ≡ false
+      Each (λ x. start < x .stamp → x .stamp ≤ t → LeavesNight x) (turns cues s) → output (stateAt t cues s .phase) ≡ false
   unfolding turns
   dark-from [] s last r e over n w = rw (at-the-end t s) (night-is-dark s t (night-before s start (rw (at-the-end start s) at n)) over)
   dark-from (cue u i ∷ later) s last r e over n w =

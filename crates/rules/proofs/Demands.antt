@@ -2,6 +2,7 @@
 use Prim.Native.Nat.{ℕ, _+_, _*_, _/_, _%_, _≤_}
 use mathlib.Core.Bool.{Bool, true, false, cond}
 use mathlib.Core.Path.{_≡_, refl, sym, ap, _∙_}
+use mathlib.Core.Logic.{_⊎_, inl, inr}
 use mathlib.Core.List.{List, [], _∷_, _++_, append-assoc}
 use native.Mathlib.Omega.{arith}
 use lib.ListN.{length, drop, length-append, length-drop}
@@ -13,16 +14,19 @@ use Rattle.rules.specs.declared.state.State.{State}
 use Rattle.rules.specs.declared.record.Record.{Record}
 use Rattle.rules.specs.declared.refusal.Refusal.{Refusal}
 use Rattle.rules.specs.declared.refusal.Refusal.the-variants.{WrongLength, WrongVersion, WrongActuators, WrongLayout, BadParameter, BadInput, BadStamp}
+use Rattle.rules.specs.declared.call.Single.{Single}
 use Rattle.rules.specs.Parameters.{paramsOf, scenesOf}
 use Rattle.rules.specs.Status.{recordOf, sameStatus, written}
 use Rattle.rules.specs.Steps.{fresh, ticked, clockMove, step}
 use Rattle.rules.specs.Lists.{Cue, cue, Played, plays, playsTo}
 use Rattle.rules.specs.Refusals.{number}
+use Rattle.rules.specs.Calls.{singleDone, singleRefused, singleCall}
 use Rattle.rules.specs.Files.{Reading, cues, bad, inputCount, endTime, parametersIn, readFile, roomy, ifRoomy, readCall}
 use Rattle.rules.specs.Runs.{recordOctets, recordsOctets, over, Whole, playFile, accepted, refused, runBy, runCall}
 use Rattle.rules.specs.Promises.{DarkShown, LightStamped}
-use Rattle.rules.specs.Demands.{Model, AnswersAll, RefusesCleanly, StaysWithin, Judges, PlaysAll, changed, changedByTimers, changes, CountsChanges, recordsIn, recordsOf, Keeps, Meets, tableCode, tablePlace}
+use Rattle.rules.specs.Demands.{Model, AnswersAll, RefusesCleanly, StaysWithin, HandedBack, SingleAnswers, Judges, PlaysAll, changed, changedByTimers, changes, CountsChanges, recordsIn, recordsOf, Keeps, Meets, tableCode, tablePlace}
 use Rattle.rules.proofs.Tests.{both}
+use Rattle.rules.proofs.Calls.{SingleFinds, single-finds, single-refusal-changes-nothing, single-place-is-zero}
 use Rattle.rules.proofs.CueFiles.{GivenWhen, refused-exactly-when}
 use Rattle.rules.proofs.RunLaws.{RunFinds, at-fault, no-room, played, run-finds, a-good-file-is-played, some-number, a-refused-run-writes-nothing, records-length, record-count-is-one-plus-changes, answers-are-n}
 use Rattle.rules.proofs.Plays.{plays-to-next}
@@ -77,6 +81,26 @@ our-run-judges file records answers = by (readCall file records answers)
     by : (x : Reading) → (runBy x file records answers .report .code ≡ tableCode x) × (runBy x file records answers .report .place ≡ tablePlace x)
     by (cues list) = (refl, refl)
     by (bad why place) = (refl, refl)
+
+-- ---- 1, of every single input
+
+our-single-input-is-numbered : (s : State) (octets : List ℕ) →
+    (singleCall s octets .code ≡ 0) ⊎ (singleCall s octets .code ≡ 6) ⊎ (singleCall s octets .code ≡ 7) ⊎ (singleCall s octets .code ≡ 9)
+our-single-input-is-numbered s octets = by (single-finds s octets)
+  where
+    by : {r : Single} → SingleFinds s octets r → (r .code ≡ 0) ⊎ (r .code ≡ 6) ⊎ (r .code ≡ 7) ⊎ (r .code ≡ 9)
+    by (SingleFinds.plays i h m t) = unfold singleDone in inl refl
+    by (SingleFinds.wrong h m) = unfold singleRefused in inr (inl refl)
+    by (SingleFinds.untimely i h m t) = unfold singleRefused in inr (inr (inl refl))
+    by (SingleFinds.not-sound h) = unfold singleRefused in inr (inr (inr refl))
+
+our-single-input-is-handed-back : (s : State) (octets : List ℕ) → (singleCall s octets .code ≡ 0 → ⊥) → HandedBack s (singleCall s octets)
+our-single-input-is-handed-back s octets refused =
+    let same = single-refusal-changes-nothing s octets refused in
+    record { state = ap (λ (r : Single). r .state) same; answer = ap (λ (r : Single). r .answer) same; count = ap (λ (r : Single). r .count) same; records = ap (λ (r : Single). r .records) same }
+
+pub our-single-input-meets-demand-1 : SingleAnswers singleCall
+our-single-input-meets-demand-1 = record { numbered = our-single-input-is-numbered; placed = single-place-is-zero; handed-back = our-single-input-is-handed-back }
 
 -- ---- of every accepted run
 

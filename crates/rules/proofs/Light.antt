@@ -2,7 +2,7 @@
 -- that dims disturbs the wait.
 use Prim.Native.Nat.{ℕ, _+_, _≤_, _<_}
 use mathlib.Core.Bool.{Bool, true, false, not, _&&_, _||_}
-use mathlib.Core.Path.{_≡_, refl, sym, ap, _∙_}
+use mathlib.Core.Path.{_≡_, refl, sym, ap, subst, _∙_}
 use mathlib.Core.List.{List, [], _∷_, _++_}
 use mathlib.Core.Logic.{_⊎_, inl, inr}
 use native.Mathlib.Omega.{arith}
@@ -21,14 +21,16 @@ use Rattle.rules.specs.Phases.{output, deadline, litAt, atDeadline, setO
 use Rattle.rules.specs.Orders.{on, timedStart, nightFalls, held, switch, timed, recall, learn, scene, nightMode, order}
 use Rattle.rules.specs.Steps.{fresh, ticked, clockMove, step}
 use Rattle.rules.specs.Lists.{Cue, cue, plays}
-use Rattle.rules.specs.Promises.{Rises, Turn, turn, turns, Each, Taken, recallsOn, recallsOff, lights, dims, longestLight, NotBefore, ShowsLight, turnAfter, LightPromise, StrongLightPromise}
+use Rattle.rules.specs.Promises.{Rises, Turn, turn, turns, Each, stateAt, Taken, recallsOn, recallsOff, lights, dims, longestLight, NotBefore, ShowsLight, turnAfter, LightDue, LightPromise, StrongLightPromise}
 use Rattle.rules.proofs.Tests.{no, cond-zero, either-way, by-order}
 use Rattle.rules.proofs.Lasting.{OverBy}
 use Rattle.rules.proofs.Ticks.{Quiet, fired, three-are-enough}
 use Rattle.rules.proofs.Soundness.{move-clock, move-params, step-case, taken-is-the-order, step-clock, step-params}
 use Rattle.rules.proofs.Timers.{the-first-timer-first, no-timer-due-no-move}
 use Rattle.rules.proofs.Prolonging.{Over, move-over, step-over}
-use Rattle.rules.proofs.Moments.{next-is-later, rises-to, rises-from}
+use Rattle.rules.proofs.Plays.{plays-keep-params}
+use Rattle.rules.proofs.Moments.{at-case, at-the-end, next-is-later, rises-to, rises-from, at-after}
+use Rattle.rules.proofs.Stamps.{nothing-due-after-a-step}
 
 -- ---- a moment of light
 
@@ -273,3 +275,122 @@ pub light : (p : Params) (scenes : List Scene) (cues : List Cue) (end : ℕ) →
 light p scenes cues end rises some before a i later whole due =
     strong-light p scenes cues end rises some before a i later whole
     (record { taken = due .taken; lights = due .lights; reached = due .reached; undimmed = counted-or-not (a + p .ondelay) (turns later (turnAfter p scenes before a i .left)) (due .undimmed) })
+
+-- ---- a lamp that is lit when the order is taken
+
+lit-is-on : (p : Params) (timed : Bool) (t : ℕ) → output (litAt p timed t) ≡ true
+unfolding litAt
+lit-is-on p true t = refl
+lit-is-on p false t = refl
+
+on-stays-lit : (p : Params) (night held : Bool) (t : ℕ) (phase : Phase) → output phase ≡ true → output (on p night held t phase) ≡ true
+unfolding on setOn
+on-stays-lit p night held t Dark lit = no lit
+on-stays-lit p night held t (Starting timed d) lit = no lit
+on-stays-lit p night held t Lit lit = refl
+on-stays-lit p night held t (Timed d) lit = lit-is-on p (night && not held) t
+on-stays-lit p night held t (Warning d) lit = lit-is-on p (night && not held) t
+on-stays-lit p night held t (Ending d) lit = lit-is-on p (night && not held) t
+
+timed-start-stays-lit : (p : Params) (t : ℕ) (phase : Phase) → output phase ≡ true → output (timedStart p t phase) ≡ true
+unfolding timedStart
+timed-start-stays-lit p t Dark lit = no lit
+timed-start-stays-lit p t (Starting timed d) lit = no lit
+timed-start-stays-lit p t Lit lit = refl
+timed-start-stays-lit p t (Timed d) lit = refl
+timed-start-stays-lit p t (Warning d) lit = refl
+timed-start-stays-lit p t (Ending d) lit = refl
+
+night-falls-stays-lit : (p : Params) (t : ℕ) (phase : Phase) → output phase ≡ true → output (nightFalls p t phase) ≡ true
+unfolding nightFalls
+night-falls-stays-lit p t Dark lit = no lit
+night-falls-stays-lit p t (Starting timed d) lit = no lit
+night-falls-stays-lit p t Lit lit = refl
+night-falls-stays-lit p t (Timed d) lit = refl
+night-falls-stays-lit p t (Warning d) lit = refl
+night-falls-stays-lit p t (Ending d) lit = refl
+
+module _ (s : State) (lit : output (s .phase) ≡ true) where
+  switch-stays-lit : (value : Bool) → not value ≡ false → output (switch s value .phase) ≡ true
+  unfolding switch
+  switch-stays-lit true e = on-stays-lit (s .params) (s .night) (held s) (s .clock) (s .phase) lit
+  switch-stays-lit false e = no (sym e)
+
+  timed-stays-lit : (value : Bool) → not value ≡ false → output (timed s value .phase) ≡ true
+  unfolding timed
+  timed-stays-lit true e = timed-start-stays-lit (s .params) (s .clock) (s .phase) lit
+  timed-stays-lit false e = no (sym e)
+
+  recall-stays-lit : (found : Recalled) → recallsOff found ≡ false → output (recall s found .phase) ≡ true
+  unfolding recall
+  recall-stays-lit Nothing e = lit
+  recall-stays-lit (Output value) e = switch-stays-lit value e
+
+  learn-stays-lit : (number : ℕ) → output (learn s number .phase) ≡ true
+  unfolding learn
+  learn-stays-lit number = either-way (λ (u : State). output (u .phase) ≡ true) (s .params .learning) _ _ lit lit
+
+  night-stays-lit : (value : Bool) → output (nightMode s value .phase) ≡ true
+  unfolding nightMode
+  night-stays-lit true = either-way (λ (u : State). output (u .phase) ≡ true) (s .night) _ _ lit (night-falls-stays-lit (s .params) (s .clock) (s .phase) lit)
+  night-stays-lit false = lit
+
+  -- no order but one that dims puts it out
+  order-stays-lit : (i : Input) → dims s i ≡ false → output (order s i .phase) ≡ true
+  unfolding order scene
+  order-stays-lit (SwitchOnOff value) e = switch-stays-lit value e
+  order-stays-lit (TimedStartStop value) e = timed-stays-lit value e
+  order-stays-lit (NumberedSceneControl true number) e = learn-stays-lit number
+  order-stays-lit (NumberedSceneControl false number) e = recall-stays-lit (recalled (s .scenes) number) e
+  order-stays-lit (NightMode value) e = night-stays-lit value
+  order-stays-lit (SwitchOnOffForced force) e = no (sym e)
+  order-stays-lit (LockDevice value) e = no (sym e)
+  order-stays-lit (Bus event) e = no (sym e)
+  order-stays-lit (Power event) e = no (sym e)
+
+-- and no step leaves a timer due at its own stamp, so that it stays lit while the clock stands
+step-stays-lit : (s : State) (i : Input) (t : ℕ) → 1 ≤ s .params .timedon → output (clockMove s t .state .phase) ≡ true → (Taken (turn s t i) → dims (clockMove s t .state) i ≡ false) →
+    LitAt t (step s i t .state .phase)
+step-stays-lit s i t some lit undimmed =
+    (step-case (λ (u : State). output (u .phase) ≡ true) s i t (λ way. order-stays-lit (clockMove s t .state) lit i (undimmed way)) lit, nothing-due-after-a-step s i t some)
+
+-- an order that lights does not dim
+recalls-one-way : (found : Recalled) → recallsOn found ≡ true → recallsOff found ≡ false
+recalls-one-way Nothing e = no e
+recalls-one-way (Output value) e = rw e
+
+lights-dims-not : (s : State) (i : Input) → lights s i ≡ true → dims s i ≡ false
+lights-dims-not s (SwitchOnOff value) e = rw e
+lights-dims-not s (TimedStartStop value) e = rw e
+lights-dims-not s (NumberedSceneControl true number) e = no e
+lights-dims-not s (NumberedSceneControl false number) e = recalls-one-way (recalled (s .scenes) number) e
+lights-dims-not s (SwitchOnOffForced force) e = no e
+lights-dims-not s (LockDevice value) e = no e
+lights-dims-not s (NightMode value) e = no e
+lights-dims-not s (Bus event) e = no e
+lights-dims-not s (Power event) e = no e
+
+-- of the inputs that follow, those stamped a too
+ties-stay-lit : (a z end : ℕ) → a < z → (later : List Cue) (s : State) → 1 ≤ s .params .timedon → Rises a later end → LitAt a (s .phase) → Undimmed Taken z (turns later s) →
+    output (stateAt a later s .phase) ≡ true
+unfolding turns
+ties-stay-lit a z end some-delay [] s some r lit undimmed = rw (at-the-end a s) (lit-now s a lit)
+ties-stay-lit a z end some-delay (cue u j ∷ later) s some r lit undimmed =
+    at-case (λ (x : State). output (x .phase) ≡ true) a u j later s
+    (λ past. let now : u ≡ a = omega (arith, r .0) in
+    let met : output (clockMove s u .state .phase) ≡ true = rw now (lit-now s a lit) in
+    let left = step-stays-lit s j u some met (undimmed .0 (omega arith)) in
+    ties-stay-lit a z end some-delay later (step s j u .state) (rw (step-params s j u) some) (rw now at (r .1)) (subst (λ (t : ℕ). LitAt t (step s j u .state .phase)) now left) (undimmed .1))
+    (λ ahead. lit-now s a lit)
+
+-- Where the on delay is not 0, no input stamped a may dim: a lamp that is lit when the order is taken is lit at a.
+pub a-lit-lamp-stays-lit : (p : Params) (scenes : List Scene) (cues : List Cue) (end : ℕ) → Rises 0 cues end → 1 ≤ p .timedon → 1 ≤ p .ondelay →
+    (before : List Cue) (a : ℕ) (i : Input) (later : List Cue) → before ++ (cue a i ∷ later) ≡ cues → LightDue Taken p scenes before a i later end →
+    output (turnAfter p scenes before a i .met .phase) ≡ true → output (stateAt a cues (fresh p scenes) .phase) ≡ true
+a-lit-lamp-stays-lit p scenes cues end rises some delay before a i later whole due lit =
+    let r = rw (← whole) at rises in
+    let s : State = plays before (fresh p scenes) .state in
+    let same : s .params ≡ p = unfold fresh in plays-keep-params before (fresh p scenes) in
+    let here = step-stays-lit s i a (rw same some) lit (λ way. lights-dims-not (clockMove s a .state) i (due .lights)) in
+    rw (← whole, at-after a i later end before 0 r a (omega arith) later (fresh p scenes))
+    (ties-stay-lit a (a + p .ondelay) end (omega arith) later (step s i a .state) (rw (step-params s i a, same) some) (rises-from a i later end before 0 r) here (due .undimmed))

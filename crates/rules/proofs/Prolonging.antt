@@ -20,7 +20,7 @@ use Rattle.rules.specs.Phases.{output}
 use Rattle.rules.specs.Orders.{withPhase, withForce, withLink, withLock, standing, held, settle, plain, byMode, switch, timed, recall, learn, scene, nightMode, forced, locked, unlocked, lockDevice, busMode, bus, powerFails, powerReturns, power, order}
 use Rattle.rules.specs.Barriers.{powerDown, barrier}
 use Rattle.rules.specs.Steps.{tick, ticked, clockMove, step}
-use Rattle.rules.specs.Promises.{recallsOn, lights, busOn, longestLight}
+use Rattle.rules.specs.Promises.{recallsOn, lights, modeOn, busOn, longestLight}
 use Rattle.rules.proofs.Tests.{cond-case, either-way}
 use Rattle.rules.proofs.Lasting.{OverBy, timer-over, off-over, timed-stop-over, night-ends-over, set-on-over, on-over, timed-start-over, night-falls-over}
 use Rattle.rules.proofs.Ticks.{tick-case}
@@ -41,7 +41,7 @@ move-over s t m h = tick-over _ t m (tick-over _ t m (tick-over s t m h))
 -- what an order must be, or meet, to prolong the light
 pub data Prolongs (s : State) (i : Input) : Type 0 where
   lighting : lights s i ≡ true → Prolongs s i
-  busIsOn : busOn (s .params) i ≡ true → Prolongs s i
+  busIsOn : busOn s i ≡ true → Prolongs s i
   byDay : s .night ≡ false → Prolongs s i
   fromLock : s .lock ≡ true → Prolongs s i
   fromForce : standing (s .force) ≡ true → Prolongs s i
@@ -110,7 +110,7 @@ module _ (s : State) (m : ℕ) (over : Over m s) where
   unfolding busMode held
   bus-mode-over link mode room = either-way (Over m) (held s || eqb mode 0) _ _ over (settle-over (withLink s link) (eqb mode 2) m room)
 
-  bus-over : (link : Link) (event : Event) → (busOn (s .params) (Bus event) ≡ true → Room m s) → Over m (bus s link event)
+  bus-over : (link : Link) (event : Event) → (modeOn (s .params) link event ≡ true → Room m s) → Over m (bus s link event)
   unfolding bus
   bus-over Up Failure room = bus-mode-over BusDown _ room
   bus-over Up Return room = over

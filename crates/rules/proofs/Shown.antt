@@ -2,7 +2,7 @@
 -- states, can be read off the records.
 use Prim.Native.Nat.{ℕ, _+_, _≤_, _<_}
 use mathlib.Core.Bool.{Bool, true, false, cond, _&&_}
-use mathlib.Core.Path.{_≡_, refl, ap, _∙_}
+use mathlib.Core.Path.{_≡_, refl, sym, ap, _∙_}
 use mathlib.Core.Logic.{_⊎_, inl, inr}
 use mathlib.Core.List.{List, [], _∷_, _++_, append-assoc, append-nil}
 use native.Mathlib.Omega.{arith}
@@ -18,17 +18,18 @@ use Rattle.rules.specs.Phases.{output}
 use Rattle.rules.specs.Status.{value, attributes, recordOf, byItself, sameStatus, written}
 use Rattle.rules.specs.Steps.{fresh, clockMove, step}
 use Rattle.rules.specs.Lists.{Cue, cue, plays, playsTo, playList}
-use Rattle.rules.specs.Promises.{Rises, stateAt, DarkPromise, NotBefore, turnAfter, StrongLightPromise, shownAt, DarkShown, LitRecord, recordsBefore, recordsFrom, LightShown, shownBefore, LightStamped}
+use Rattle.rules.specs.Promises.{Rises, stateAt, Taken, DarkPromise, NotBefore, turnAfter, LightDue, StrongLightPromise, shownAt, DarkShown, LitRecord, recordsBefore, recordsFrom, LightShown, shownBefore, LightStamped}
 use Rattle.rules.specs.Parameters.{paramsOf, scenesOf}
 use Rattle.rules.specs.Files.{cues, endTime, parametersIn, readFile}
 use Rattle.rules.specs.Runs.{playFile}
-use Rattle.rules.proofs.Tests.{both, cond-case}
+use Rattle.rules.proofs.Tests.{both, cond-case, by-order}
 use Rattle.rules.proofs.Soundness.{step-clock}
 use Rattle.rules.proofs.Timers.{Moves, rest, fire, clock-moves, moves-compose}
 use Rattle.rules.proofs.Ticks.{fired}
 use Rattle.rules.proofs.Plays.{plays-to-append, plays-to-next}
 use Rattle.rules.proofs.Moments.{at-case, at-the-end, rises-from}
-use Rattle.rules.proofs.EveryFile.{list-rises, dark-of-every-accepted-file, strong-light-of-every-accepted-file}
+use Rattle.rules.proofs.Light.{a-lit-lamp-stays-lit}
+use Rattle.rules.proofs.EveryFile.{list-rises, has-some-time, dark-of-every-accepted-file, strong-light-of-every-accepted-file}
 use Rattle.rules.proofs.Stamps.{StampedFrom, stamped-first, move-from, step-records, moved-on-time, from-an-input-on}
 
 -- ---- what records show
@@ -47,6 +48,14 @@ shown-later t u v (r ∷ l) h f = simp (lt-leb (r .stamp) t (omega (arith, f .0)
 lit-is-255 : (s : State) → output (s .phase) ≡ true → value s ≡ 255
 unfolding value
 lit-is-255 s lit = rw lit
+
+255-is-lit : (s : State) → value s ≡ 255 → output (s .phase) ≡ true
+unfolding value
+255-is-lit s = by (output (s .phase))
+  where
+    by : (b : Bool) → _≡_ {A = ℕ} (cond b 255 0) 255 → b ≡ true
+    by true e = refl
+    by false e = absurd (omega arith)
 
 -- a change is recorded when it shows, so that the value follows the state
 shown-written : (t cause : ℕ) (before after : State) → after .clock ≤ t → shownAt t (value before) (written cause before after) ≡ value after
@@ -267,7 +276,7 @@ one-at-or-before a v w r l f = by (leb (r .stamp) a) (leb a (r .stamp)) (eqb (r 
     by false true d e g h = inl f
     by false false d e g h = absurd (omega (arith, leb-false (r .stamp) a e, leb-false a (r .stamp) g))
 
-at-or-before : (a v w : ℕ) (l : List Record) → (v ≡ 255 → w ≡ 255) → shownAt a v l ≡ 255 → (shownBefore a w l ≡ 255) ⊎ LitRecord a a l
+pub at-or-before : (a v w : ℕ) (l : List Record) → (v ≡ 255 → w ≡ 255) → shownAt a v l ≡ 255 → (shownBefore a w l ≡ 255) ⊎ LitRecord a a l
 unfolding shownAt shownBefore
 at-or-before a v w [] f e = inl (f e)
 at-or-before a v w (r ∷ l) f e =
@@ -276,20 +285,35 @@ at-or-before a v w (r ∷ l) f e =
       | inl g ↦ elim (at-or-before a _ _ l g e) [ inl was ↦ inl was | inr x ↦ inr (lit-later a a a (r ∷ []) l (omega arith) x) ]
     ]
 
-pub light-stamped : (p : Params) (scenes : List Scene) (list : List Cue) (end : ℕ) → Rises 0 list end → StrongLightPromise p scenes list end → LightStamped p scenes list end (playList p scenes list end .records)
-light-stamped p scenes list end r light before a i later split due =
+-- with a delay nothing that is stamped a dims, so that a lamp lit when the order is taken shows it in the last record of a
+lit-through-ties : (p : Params) (scenes : List Scene) (list : List Cue) (end : ℕ) → Rises 0 list end → 1 ≤ p .timedon → 1 ≤ p .ondelay →
+    (before : List Cue) (a : ℕ) (i : Input) (later : List Cue) → before ++ (cue a i ∷ later) ≡ list → LightDue Taken p scenes before a i later end →
+    shownAt a 0 (recordsBefore p scenes before a) ≡ 255 → shownAt a 0 (playList p scenes list end .records) ≡ 255
+lit-through-ties p scenes list end r some delay before a i later split due was =
+    let met : State = turnAfter p scenes before a i .met in
+    let whole = rw (← split) at r in
+    let lit = 255-is-lit met (sym (shown-before p scenes before a i (rises-before 0 end before a i later whole)) ∙ was) in
+    the-last-record-shows-the-output p scenes list end a 0 r (omega (arith, due .reached))
+    ∙ lit-is-255 (stateAt a list (fresh p scenes)) (a-lit-lamp-stays-lit p scenes list end r some delay before a i later split due lit)
+
+-- TimedOn is 1 second or more in accepted parameters.
+pub light-stamped : (p : Params) (scenes : List Scene) (list : List Cue) (end : ℕ) → Rises 0 list end → 1 ≤ p .timedon → StrongLightPromise p scenes list end →
+    LightStamped p scenes list end (playList p scenes list end .records)
+light-stamped p scenes list end r some light before a i later split due =
     let early : List Record = recordsBefore p scenes before a in
     let late : List Record = recordsFrom end (turnAfter p scenes before a i) later in
     let stamped = records-from-then end a p scenes before i later (rises-from a i later end before 0 (rw (← split) at r)) in
     let all : playList p scenes list end .records ≡ early ++ late = rw (← split) (records-split p scenes before a i later end) in
-    rw all
-    (elim (light-shown p scenes list end r light before a i later split due) [
-      | inr x ↦ inr (lit-later a (a + p .ondelay) (a + p .ondelay) early late (omega arith) x)
-      | inl was ↦ elim (at-or-before a 0 0 early (λ e. e) was) [
-        | inl e ↦ inl (shown-before-append a 0 early late stamped ∙ e)
-        | inr x ↦ inr (lit-among a a (a + p .ondelay) [] early late (omega arith) x)
-      ]
-    ])
+    elim (light-shown p scenes list end r light before a i later split due) [
+      | inr x ↦ inl (rw all (lit-later a (a + p .ondelay) (a + p .ondelay) early late (omega arith) x))
+      | inl was ↦
+          by-order 1 (p .ondelay)
+          (λ delay. inr (inl (lit-through-ties p scenes list end r some delay before a i later split due was)))
+          (λ none. elim (at-or-before a 0 0 early (λ e. e) was) [
+            | inl e ↦ inr (inr (omega arith, rw all (shown-before-append a 0 early late stamped ∙ e)))
+            | inr x ↦ inl (rw all (lit-among a a (a + p .ondelay) [] early late (omega arith) x))
+          ])
+    ]
 
 -- ---- of every accepted file
 
@@ -313,4 +337,4 @@ module _ (file : List ℕ) (list : List Cue) (read : readFile file ≡ cues list
 
   pub light-stamped-in-every-accepted-file : LightStamped p scenes list (endTime file) (playFile file list .records)
   unfolding playFile
-  light-stamped-in-every-accepted-file = light-stamped p scenes list (endTime file) (list-rises file list read) (strong-light-of-every-accepted-file file list read)
+  light-stamped-in-every-accepted-file = light-stamped p scenes list (endTime file) (list-rises file list read) (has-some-time file list read) (strong-light-of-every-accepted-file file list read)

@@ -4,7 +4,8 @@ use mathlib.Core.Bool.{true, false}
 use mathlib.Core.Path.{_≡_, refl}
 use mathlib.Core.List.{List, [], _∷_}
 use native.Mathlib.Omega.{arith}
-use Rattle.rules.specs.declared.input.Event.the-variants.{Failure}
+use Rattle.rules.specs.declared.parameters.Params.{Params}
+use Rattle.rules.specs.declared.input.Event.the-variants.{Failure, Return}
 use Rattle.rules.specs.declared.input.Input.the-variants.{SwitchOnOff, Bus}
 use Rattle.rules.specs.Phases.{output, litAt, atDeadline}
 use Rattle.rules.specs.Orders.{on, nightFalls, held, switch, nightMode, busMode, bus, order}
@@ -40,6 +41,28 @@ dark-used =
               tt,
             ),
           ),
+        ),
+      );
+    }
+
+-- On 0, night 100, bus return 300 with BusReturnMode On: it meets the bus up and does nothing, so it has no mode, and it is off at
+-- 820 all the same
+abbrev returning : Params
+returning = record { ondelay = 20; offdelay = 50; timedon = 600; prewarning = 100; locking = 0; unlocking = 3; busfailure = 0; busreturn = 2; powerreturn = 0; learning = false }
+
+pub dark-used-past-an-idle-bus-event : output (stateAt 820 (on-at 0 ∷ night-at 100 ∷ cue 300 (Bus Return) ∷ []) (fresh returning noScenes) .phase) ≡ false
+unfolding turns upTo stateAt plays step act meet taken clockMove ticked tick tickAt fresh litAt atDeadline on nightFalls held switch nightMode bus order rows rowOf firstBarrier barrier
+dark-used-past-an-idle-bus-event =
+    dark returning noScenes (on-at 0 ∷ night-at 100 ∷ cue 300 (Bus Return) ∷ []) 1000 (omega arith) 820
+    record {
+      late = omega arith;
+      reached = omega arith;
+      from = record { night = refl; unlocked = refl; unforced = refl; powered = refl };
+      through = (
+        λ after within. absurd (omega arith),
+        (
+          λ after within. absurd (omega arith),
+          (λ after within. record { no-light = λ way. refl; no-bus-on = refl; stays = record { night = refl; unlocked = refl; unforced = refl; powered = refl } }, tt),
         ),
       );
     }

@@ -1,4 +1,5 @@
--- The wrong models that document 01 names ("What may be believed of each call"), and the demand that each of them breaks.
+-- The wrong models that document 01 names ("What may be believed of each call"), and the demand that each of them breaks; at the
+-- end, records that lose an On in a tie.
 use Prim.Native.Nat.{ℕ, zero, suc, _+_, _*_, _≤_}
 use mathlib.Core.Bool.{Bool, true, false, cond, true≢false}
 use mathlib.Core.Path.{_≡_, refl, sym, ap, _∙_}
@@ -13,10 +14,9 @@ use Rattle.rules.specs.declared.parameters.Scene.{Scene}
 use Rattle.rules.specs.declared.input.Input.the-variants.{SwitchOnOff}
 use Rattle.rules.specs.declared.state.State.{State}
 use Rattle.rules.specs.declared.record.Record.{Record}
-use Rattle.rules.specs.declared.refusal.Refusal.the-variants.{WrongLayout}
 use Rattle.rules.specs.Parameters.{delay, paramsOf, sceneAt, scenesOf, greatest, numberAbove, badNumber, badFlags, badOctet}
 use Rattle.rules.specs.Inputs.{zeroOrOne, decoded, stampAt, inputAt}
-use Rattle.rules.specs.Phases.{output, litAt}
+use Rattle.rules.specs.Phases.{output, litAt, atDeadline}
 use Rattle.rules.specs.Orders.{on, off, nightFalls, switch, nightMode, order}
 use Rattle.rules.specs.Barriers.{rows, rowOf, firstBarrier, barrier}
 use Rattle.rules.specs.Status.{value, recordOf, byItself}
@@ -27,10 +27,11 @@ use Rattle.rules.specs.Calls.{leastParams, unused, noScenes}
 use Rattle.rules.specs.Files.{Reading, cues, bad, endTime, parametersIn, layoutRight, readOne, readInputs, readFile, roomy, readCall}
 use Rattle.rules.specs.Runs.{recordsOctets, over, Whole, playFile, accepted, refused, runCall}
 use Rattle.rules.specs.Promises.{turns, upTo, stateAt, Taken, NightRules, DarkDue, LightDue, shownAt, DarkShown, LitRecord, shownBefore, LightStamped}
-use Rattle.rules.specs.Demands.{Model, StaysWithin, Judges, PlaysAll, CountsChanges, recordsOf, Keeps, KeepsDark, KeepsLight}
+use Rattle.rules.specs.Demands.{Model, StaysWithin, Judges, OfEveryAccepted, PlaysAll, CountsChanges, recordsOf, Keeps, KeepsDark, KeepsLight}
 use Rattle.rules.proofs.Tests.{either-way}
 use Rattle.rules.proofs.Worked.{on-at, off-at, night-at}
 use Rattle.rules.proofs.RunLaws.{records-length}
+use Rattle.rules.proofs.Shown.{at-or-before}
 use Rattle.rules.proofs.Demands.{accepted-records, our-run-counts-changes}
 
 -- ---- models that judge a file as the table does, and play it in a way of their own
@@ -110,12 +111,10 @@ on-and-off : readCall (fileOf 2 (octetsOf 0 1 1 ++ octetsOf 0 1 0)) room room �
 unfolding reading
 on-and-off = refl
 
--- what a model that plays in its own way keeps, it keeps of them
-kept : (Promise : Params → List Scene → List Cue → ℕ → List Record → Type 0) (play : List ℕ → List Cue → Played) → Keeps Promise (modelBy play) →
-    (n : ℕ) (inputs : List ℕ) (list : List Cue) → readCall (fileOf n inputs) room room ≡ cues list → Promise leastParams noScenes list 20 (play (fileOf n inputs) list .records)
-kept Promise play keeps n inputs list read =
-    let file : List ℕ = fileOf n inputs in
-    rw (its-records play file room room list read, least-params n inputs, no-scenes n inputs, ends-at-20 n inputs) at (keeps file room room list read)
+-- what any model keeps, it keeps of them
+kept : (Promise : Params → List Scene → List Cue → ℕ → List Record → Type 0) (m : Model) → Keeps Promise m →
+    (n : ℕ) (inputs : List ℕ) (list : List Cue) → readCall (fileOf n inputs) room room ≡ cues list → Promise leastParams noScenes list 20 (recordsOf (m (fileOf n inputs) room room))
+kept Promise m keeps n inputs list read = rw (least-params n inputs, no-scenes n inputs, ends-at-20 n inputs) at (keeps (fileOf n inputs) room room list read)
 
 -- ---- lit records at their stamps
 
@@ -169,14 +168,16 @@ unfolding playing turns
 on-is-due a h = record { taken = refl; lights = refl; reached = omega arith; undimmed = tt }
 
 -- OnDelay is 0, so it shows at a: in a record stamped then, if not before
-on-shows : (play : List ℕ → List Cue → Played) → KeepsLight (modelBy play) → (a : ℕ) → a ≤ 20 →
-    let records : List Record = play (fileOf 1 (octetsOf a 1 1)) (on-at a ∷ []) .records in
+on-shows : (m : Model) → KeepsLight m → (a : ℕ) → a ≤ 20 →
+    let records : List Record = recordsOf (m (fileOf 1 (octetsOf a 1 1)) room room) in
     (shownBefore a 0 records ≡ 255) ⊎ (stampedBefore a records + 1 ≤ stampedBefore (suc a) records)
 unfolding leastParams
-on-shows play light a h =
-    elim (kept LightStamped play light 1 (octetsOf a 1 1) (on-at a ∷ []) (one-on a h) [] a (SwitchOnOff true) [] refl (on-is-due a h)) [
-      | inl was ↦ inl was
-      | inr lit ↦ inr (lit-counts a (a + 0) (play (fileOf 1 (octetsOf a 1 1)) (on-at a ∷ []) .records) (omega arith) lit)
+on-shows m light a h =
+    let records : List Record = recordsOf (m (fileOf 1 (octetsOf a 1 1)) room room) in
+    elim (kept LightStamped m light 1 (octetsOf a 1 1) (on-at a ∷ []) (one-on a h) [] a (SwitchOnOff true) [] refl (on-is-due a h)) [
+      | inl lit ↦ inr (lit-counts a (a + 0) records (omega arith) lit)
+      | inr (inl shows) ↦ elim (at-or-before a 0 0 records (λ e. e) shows) [ inl was ↦ inl was | inr lit ↦ inr (lit-counts a a records (omega arith) lit) ]
+      | inr (inr was) ↦ inl (was .1)
     ]
 
 -- night at 0 leaves all dark from 10 on
@@ -188,32 +189,36 @@ night-is-due : (t : ℕ) → 10 ≤ t → t ≤ 20 → DarkDue leastParams noSce
 unfolding leastParams turns
 night-is-due t late h = record { late = omega arith; reached = h; from = night-stands _; through = (λ after upto. absurd (omega arith), tt) }
 
-night-shows : (play : List ℕ → List Cue → Played) → KeepsDark (modelBy play) → (t : ℕ) → 10 ≤ t → t ≤ 20 → shownAt t 255 (play (fileOf 1 (octetsOf 0 6 1)) (night-at 0 ∷ []) .records) ≡ 0
-night-shows play dark t late h = kept DarkShown play dark 1 (octetsOf 0 6 1) (night-at 0 ∷ []) one-night t (night-is-due t late h)
+night-shows : (m : Model) → KeepsDark m → (t : ℕ) → 10 ≤ t → t ≤ 20 → shownAt t 255 (recordsOf (m (fileOf 1 (octetsOf 0 6 1)) room room)) ≡ 0
+night-shows m dark t late h = kept DarkShown m dark 1 (octetsOf 0 6 1) (night-at 0 ∷ []) one-night t (night-is-due t late h)
 
 -- ---- "A model that refuses all files is shut out by demand 2, which accepts each file outside the table."
 
-unfoldable pub refuses-all : Model
-refuses-all file records answers = refused WrongLayout 0 records answers
-
-pub the-model-that-refuses-all-files-breaks-demand-2 : Judges refuses-all → ⊥
-unfolding refuses-all refused
-the-model-that-refuses-all-files-breaks-demand-2 judges = absurd (omega (arith, rw no-inputs at (judges (fileOf 0 []) room room .0)))
+-- whatever its numbers are
+pub the-model-that-refuses-all-files-breaks-demand-2 : (m : Model) → ((file records answers : List ℕ) → m file records answers .report .code ≡ 0 → ⊥) → Judges m → ⊥
+the-model-that-refuses-all-files-breaks-demand-2 m refuses judges = refuses (fileOf 0 []) room room (rw no-inputs at (judges (fileOf 0 []) room room .0))
 
 -- ---- "A step that changes nothing falls to the Light half of demand 3"
 
--- the start record and the fresh state, and the answer 1 to every input
+-- where a step changes nothing, the start record is the only one; end state and answers may be any
+abbrev pub StartRecordOnly : Model → Type 0
+StartRecordOnly m =
+    OfEveryAccepted (λ file records answers list. recordsOf (m file records answers) ≡ recordOf byItself (fresh (paramsOf (parametersIn file)) (scenesOf (parametersIn file))) ∷ [])
+
+-- as when each input leaves the fresh state as it is and is answered 1
 unfoldable pub playsNothing : List ℕ → List Cue → Played
 playsNothing file list =
     let start : State = fresh (paramsOf (parametersIn file)) (scenesOf (parametersIn file)) in
     record { state = start; answers = replicate (length list) 1; records = recordOf byItself start ∷ [] }
 
-unfoldable pub changes-nothing : Model
-changes-nothing = modelBy playsNothing
+pub it-may-have-the-start-record-only : StartRecordOnly (modelBy playsNothing)
+it-may-have-the-start-record-only file records answers list read = its-records playsNothing file records answers list read ∙ unfold playsNothing in refl
 
-pub the-step-that-changes-nothing-breaks-light : KeepsLight changes-nothing → ⊥
-unfolding changes-nothing playsNothing shownBefore stampedBefore recordOf value fresh
-the-step-that-changes-nothing-breaks-light light = elim (on-shows playsNothing light 11 (omega arith)) [ inl was ↦ omega (arith, was) | inr more ↦ omega (arith, more) ]
+pub the-step-that-changes-nothing-breaks-light : (m : Model) → StartRecordOnly m → KeepsLight m → ⊥
+unfolding shownBefore stampedBefore recordOf value fresh
+the-step-that-changes-nothing-breaks-light m only light =
+    let shown = rw (only (fileOf 1 (octetsOf 11 1 1)) room room (on-at 11 ∷ []) (one-on 11 (omega arith))) at (on-shows m light 11 (omega arith)) in
+    elim shown [ inl was ↦ omega (arith, was) | inr more ↦ omega (arith, more) ]
 
 -- ---- "one fixed trace [falls] to its two halves together"
 
@@ -241,8 +246,10 @@ fixed-trace-grows trace dark light (suc k) h =
     let fewer = fixed-trace-grows trace dark light k (omega arith) in
     let next : 11 + suc k ≡ suc (11 + k) = omega arith in
     let here : 11 + k ≡ suc (10 + k) = omega arith in
-    elim (on-shows (λ file list. trace) light (11 + k) (omega arith)) [
-      | inl was ↦ absurd (not-shown (10 + k) 0 255 (trace .records) (λ x y. omega arith) (rw here at was) (night-shows (λ file list. trace) dark (10 + k) (omega arith) (omega arith)))
+    let lit = rw (its-records (λ file list. trace) (fileOf 1 (octetsOf (11 + k) 1 1)) room room (on-at (11 + k) ∷ []) (one-on (11 + k) (omega arith))) at (on-shows (fixed-trace trace) light (11 + k) (omega arith)) in
+    let unlit = rw (its-records (λ file list. trace) (fileOf 1 (octetsOf 0 6 1)) room room (night-at 0 ∷ []) one-night) at (night-shows (fixed-trace trace) dark (10 + k) (omega arith) (omega arith)) in
+    elim lit [
+      | inl was ↦ absurd (not-shown (10 + k) 0 255 (trace .records) (λ x y. omega arith) (rw here at was) unlit)
       | inr more ↦ rw next (omega arith)
     ]
 
@@ -316,3 +323,41 @@ an-invented-record-count-breaks-demand-2 f file records answers list read other 
 -- one too many
 pub one-record-too-many-breaks-demand-2 : CountsChanges (invented-count suc) → ⊥
 one-record-too-many-breaks-demand-2 = an-invented-record-count-breaks-demand-2 suc (fileOf 0 []) room room [] no-inputs (λ same. omega arith)
+
+-- ---- an On that is lost after an Off of its own stamp, though the lamp was lit before both
+
+-- OnDelay 2 seconds, OffDelay 0
+abbrev slowOn : Params
+slowOn = record { ondelay = 20; offdelay = 0; timedon = 10; prewarning = 0; locking = 0; unlocking = 0; busfailure = 0; busreturn = 0; powerreturn = 0; learning = false }
+
+-- each record from a on is dark
+abbrev DarkFrom : ℕ → List Record → Type 0
+DarkFrom a [] = Unit {0}
+DarkFrom a (r ∷ later) = (a ≤ r .stamp → r .value ≡ 0) × DarkFrom a later
+
+dark-among : (a : ℕ) (early : List Record) (r : Record) (late : List Record) → DarkFrom a (early ++ (r ∷ late)) → a ≤ r .stamp → r .value ≡ 0
+dark-among a [] r late d h = d .0 h
+dark-among a (e ∷ early) r late d h = dark-among a early r late (d .1) h
+
+none-lit : (a z : ℕ) (l : List Record) → DarkFrom a l → LitRecord a z l → ⊥
+none-lit a z l d x = omega (arith, x .shines, dark-among a (x .earlier) (x .lit) (x .later) (rw (← (x .split)) at d) (x .from))
+
+-- On 0, Off 100, On 100: on at 20, off at 100, and nothing more
+abbrev lost : List Record
+lost =
+    record { stamp = 0; value = 0; attributes = 1; cause = 0 }
+    ∷ record { stamp = 20; value = 255; attributes = 1; cause = 0 }
+    ∷ record { stamp = 100; value = 0; attributes = 1; cause = 1 }
+    ∷ []
+
+second-on-is-due : LightDue Taken slowOn noScenes (on-at 0 ∷ off-at 100 ∷ []) 100 (SwitchOnOff true) [] 200
+unfolding playing atDeadline turns
+second-on-is-due = record { taken = refl; lights = refl; reached = omega arith; undimmed = tt }
+
+pub a-lost-on-breaks-light : LightStamped slowOn noScenes (on-at 0 ∷ off-at 100 ∷ on-at 100 ∷ []) 200 lost → ⊥
+a-lost-on-breaks-light light =
+    elim (light (on-at 0 ∷ off-at 100 ∷ []) 100 (SwitchOnOff true) [] refl second-on-is-due) [
+      | inl lit ↦ none-lit 100 120 lost (λ h. absurd (omega arith), (λ h. absurd (omega arith), (λ h. refl, tt))) lit
+      | inr (inl shows) ↦ unfold shownAt in omega (arith, shows)
+      | inr (inr none) ↦ omega (arith, none .0)
+    ]

@@ -3,6 +3,7 @@
 use Prim.Native.Nat.{ℕ, zero, suc, _+_, _≤_}
 use mathlib.Core.Bool.{cond}
 use mathlib.Core.Path.{_≡_}
+use mathlib.Core.Logic.{_⊎_}
 use mathlib.Core.List.{List, [], _∷_}
 use lib.ListN.{length, drop}
 use Rattle.octets.specs.BigEndian.{octet, be32}
@@ -10,12 +11,13 @@ use Rattle.rules.specs.declared.parameters.Params.{Params}
 use Rattle.rules.specs.declared.parameters.Scene.{Scene}
 use Rattle.rules.specs.declared.state.State.{State}
 use Rattle.rules.specs.declared.record.Record.{Record}
+use Rattle.rules.specs.declared.call.Single.{Single}
 use Rattle.rules.specs.Parameters.{paramsOf, scenesOf}
 use Rattle.rules.specs.Status.{sameStatus}
 use Rattle.rules.specs.Steps.{fresh, tick, clockMove, step}
 use Rattle.rules.specs.Lists.{Cue, cue, Played}
 use Rattle.rules.specs.Refusals.{number}
-use Rattle.rules.specs.Calls.{ownState}
+use Rattle.rules.specs.Calls.{ownState, places}
 use Rattle.rules.specs.Files.{Reading, cues, bad, parametersIn, endTime, readCall}
 use Rattle.rules.specs.Runs.{recordsOctets, over, Whole, playFile}
 use Rattle.rules.specs.Promises.{DarkShown, LightStamped}
@@ -27,7 +29,7 @@ Model = List ℕ → List ℕ → List ℕ → Whole
 -- ---- 1
 
 -- "Every octet string offered as a cue file .. gets a numbered answer, with no condition on the caller."
--- (".. and each single input to a state ..": proofs/Calls.antt `single-refused-exactly-when`, `single-refusal-changes-nothing`)
+-- (".. and each single input to a state ..": `SingleAnswers`, below)
 abbrev pub AnswersAll : Model → Type 0
 AnswersAll m = (file records answers : List ℕ) → m file records answers .report .code ≤ 8
 
@@ -46,6 +48,20 @@ RefusesCleanly m = (file records answers : List ℕ) → (m file records answers
 -- 01: "two lent octet buffers": what is lent keeps its length, so that nothing is written past its end
 abbrev pub StaysWithin : Model → Type 0
 StaysWithin m = (file records answers : List ℕ) → (length (m file records answers .records) ≡ length records) × (length (m file records answers .answers) ≡ length answers)
+
+-- the state is the one given, and "Record count, a single input's answer and all by-value records are 0 on refusal"
+pub record HandedBack (given : State) (r : Single) : Type 0 where
+  pub state : r .state ≡ given
+  pub answer : r .answer ≡ 0
+  pub count : r .count ≡ 0
+  pub records : r .records ≡ places 3 []
+
+-- the same of any call that plays a single input, from a state and eight octets by value: ".. and each single input to a state,
+-- gets a numbered answer" ("For a single input 9, 6, 7, place 0."), and a refused one "hands back the state it was given"
+pub record SingleAnswers (call : State → List ℕ → Single) : Type 0 where
+  pub numbered : (s : State) (octets : List ℕ) → (call s octets .code ≡ 0) ⊎ (call s octets .code ≡ 6) ⊎ (call s octets .code ≡ 7) ⊎ (call s octets .code ≡ 9)
+  pub placed : (s : State) (octets : List ℕ) → call s octets .place ≡ 0
+  pub handed-back : (s : State) (octets : List ℕ) → (call s octets .code ≡ 0 → ⊥) → HandedBack s (call s octets)
 
 -- ---- 2: "Records, answers and end state are those of KNX 7/20/2 Supplement 1 .. and of document 01's rules where it is silent,
 -- input by input and timer by timer."

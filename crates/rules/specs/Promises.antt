@@ -12,9 +12,12 @@ use Rattle.rules.specs.declared.parameters.Scene.{Scene}
 use Rattle.rules.specs.declared.parameters.Recalled.{Recalled}
 use Rattle.rules.specs.declared.parameters.Recalled.the-variants.{Nothing, Output}
 use Rattle.rules.specs.declared.input.Force.the-variants.{Free}
+use Rattle.rules.specs.declared.input.Event.{Event}
 use Rattle.rules.specs.declared.input.Event.the-variants.{Failure, Return}
 use Rattle.rules.specs.declared.input.Input.{Input}
 use Rattle.rules.specs.declared.input.Input.the-variants.{SwitchOnOff, TimedStartStop, NumberedSceneControl, SwitchOnOffForced, LockDevice, NightMode, Bus, Power}
+use Rattle.rules.specs.declared.state.Link.{Link}
+use Rattle.rules.specs.declared.state.Link.the-variants.{Up, BusDown, PowerDown}
 use Rattle.rules.specs.declared.state.State.{State}
 use Rattle.rules.specs.declared.barrier.Barrier.the-variants.{Open}
 use Rattle.rules.specs.declared.record.Record.{Record}
@@ -99,17 +102,25 @@ dims s (NightMode value) = false
 dims s (Bus event) = true
 dims s (Power event) = true
 
--- a "bus event [that] has mode On" ("BusFailureMode .. BusReturnMode (0 keep, 1 off, 2 on)")
-abbrev pub busOn : Params → Input → Bool
-busOn p (SwitchOnOff value) = false
-busOn p (TimedStartStop value) = false
-busOn p (NumberedSceneControl learns number) = false
-busOn p (SwitchOnOffForced force) = false
-busOn p (LockDevice value) = false
-busOn p (NightMode value) = false
-busOn p (Bus Failure) = eqb (p .busfailure) 2
-busOn p (Bus Return) = eqb (p .busreturn) 2
-busOn p (Power event) = false
+-- the mode of a bus event is On ("BusFailureMode .. BusReturnMode (0 keep, 1 off, 2 on)"). An event that does nothing has no mode:
+-- "Bus failure from up, return from bus down: the link changes; then the mode, .. Other bus events do nothing."
+abbrev pub modeOn : Params → Link → Event → Bool
+modeOn p Up Failure = eqb (p .busfailure) 2
+modeOn p Up Return = false
+modeOn p BusDown Failure = false
+modeOn p BusDown Return = eqb (p .busreturn) 2
+modeOn p PowerDown event = false
+
+-- a "bus event [that] has mode On", by the link that the input meets
+abbrev pub busOn : State → Input → Bool
+busOn s (SwitchOnOff value) = false
+busOn s (TimedStartStop value) = false
+busOn s (NumberedSceneControl learns number) = false
+busOn s (SwitchOnOffForced force) = false
+busOn s (LockDevice value) = false
+busOn s (NightMode value) = false
+busOn s (Bus event) = modeOn (s .params) (s .link) event
+busOn s (Power event) = false
 
 -- ---- Dark
 
@@ -126,9 +137,9 @@ pub record NightRules (s : State) : Type 0 where
 
 -- an input among those "after t-L and up to t": "no On, timed start or scene-on is taken and no bus event has mode On", and
 -- what "stays" before it stays after it
-pub record LeavesNight (p : Params) (x : Turn) : Type 0 where
+pub record LeavesNight (x : Turn) : Type 0 where
   pub no-light : Taken x → lights (x .met) (x .input) ≡ false
-  pub no-bus-on : busOn p (x .input) ≡ false
+  pub no-bus-on : busOn (x .met) (x .input) ≡ false
   pub stays : NightRules (x .left)
 
 -- "If t is at least L and the list reaches t, night mode stays on, lock and force stay clear and power stays up from after the
@@ -137,7 +148,7 @@ pub record DarkDue (p : Params) (scenes : List Scene) (cues : List Cue) (end t :
   pub late : longestLight p ≤ t
   pub reached : t ≤ end
   pub from : NightRules (stateAt (t - longestLight p) cues (fresh p scenes))
-  pub through : Each (λ x. t - longestLight p < x .stamp → x .stamp ≤ t → LeavesNight p x) (turns cues (fresh p scenes))
+  pub through : Each (λ x. t - longestLight p < x .stamp → x .stamp ≤ t → LeavesNight x) (turns cues (fresh p scenes))
 
 -- "the output is off at t"
 abbrev pub DarkPromise : Params → List Scene → List Cue → ℕ → Type 0
@@ -228,9 +239,10 @@ LightShown p scenes cues end =
     (before : List Cue) (a : ℕ) (i : Input) (later : List Cue) → before ++ (cue a i ∷ later) ≡ cues → LightDue Taken p scenes before a i later end →
     (shownAt a 0 (recordsBefore p scenes before a) ≡ 255) ⊎ LitRecord a (a + p .ondelay) (recordsFrom end (turnAfter p scenes before a i) later)
 
--- by the stamps alone: among the records of the whole run one from a to a plus on delay has value 255, or the last one before a
--- has it. This says less than Light, for stamps do not tell what came first at a: after an Off at a that puts out a lamp lit before
--- a, an On at a that is lost would pass.
+-- by the stamps alone: among the records of the whole run one from a to a plus on delay has value 255, or the last one stamped at
+-- most a has it. Where there is no delay at all it may have been the last one before a that had it, for then inputs stamped a may
+-- dim at once a lamp that was lit when the order was taken. This says less than Light, for stamps do not tell what came first at a:
+-- after an Off at a that puts out a lamp that came on at a, or before a where there is no delay, an On at a that is lost would pass.
 unfoldable pub shownBefore : ℕ → ℕ → List Record → ℕ
 shownBefore a before [] = before
 shownBefore a before (r ∷ later) = shownBefore a (cond (leb a (r .stamp)) before (r .value)) later
@@ -238,4 +250,4 @@ shownBefore a before (r ∷ later) = shownBefore a (cond (leb a (r .stamp)) befo
 abbrev pub LightStamped : Params → List Scene → List Cue → ℕ → List Record → Type 0
 LightStamped p scenes cues end records =
     (before : List Cue) (a : ℕ) (i : Input) (later : List Cue) → before ++ (cue a i ∷ later) ≡ cues → LightDue Taken p scenes before a i later end →
-    (shownBefore a 0 records ≡ 255) ⊎ LitRecord a (a + p .ondelay) records
+    LitRecord a (a + p .ondelay) records ⊎ (shownAt a 0 records ≡ 255) ⊎ ((p .ondelay ≡ 0) × (shownBefore a 0 records ≡ 255))
