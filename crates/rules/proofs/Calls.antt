@@ -59,20 +59,8 @@ single-finds s octets = by (sound s) refl
     by true h = meant (inputAt octets 0) h refl
     by false h = not-sound h
 
--- and the other way round: whatever row fits decides the call
+-- and the other way round: where no row fits, the input is played
 module _ (s : State) (octets : List ℕ) where
-  pub unsound-is-refused : sound s ≡ false → singleCall s octets ≡ singleRefused s UnsoundState
-  unfolding singleCall
-  unsound-is-refused h = rw h
-
-  pub wrong-is-refused : sound s ≡ true → inputAt octets 0 ≡ Wrong → singleCall s octets ≡ singleRefused s BadInput
-  unfolding singleCall singleMeant
-  wrong-is-refused h m = rw (h, m)
-
-  pub untimely-is-refused : (i : Input) → sound s ≡ true → inputAt octets 0 ≡ Meant i → stampInRange (s .clock) (stampAt octets 0) ≡ false → singleCall s octets ≡ singleRefused s BadStamp
-  unfolding singleCall singleMeant
-  untimely-is-refused i h m e = rw (h, m, e)
-
   pub good-is-played : (i : Input) → sound s ≡ true → inputAt octets 0 ≡ Meant i → stampInRange (s .clock) (stampAt octets 0) ≡ true → singleCall s octets ≡ singleDone (step s i (stampAt octets 0))
   unfolding singleCall singleMeant
   good-is-played i h m e = rw (h, m, e)

@@ -24,8 +24,6 @@ use Rattle.rules.specs.Lists.{Cue, cue}
 use Rattle.rules.specs.Refusals.{checkParameters}
 use Rattle.rules.specs.Files.{version, actuators, parametersOffset, inputCount, inputsOffset, endTime, inputPlace, parametersIn, layoutRight, Reading, cues, bad, before, readOne, readInputs, afterCheck, readFile}
 use Rattle.rules.proofs.Tests.{no, both, cond-case}
-use Rattle.rules.proofs.Orders.{sceneNumber}
-use Rattle.rules.proofs.Inputs.{input-number}
 use Rattle.rules.proofs.Accepted as accepted
 use Rattle.rules.proofs.Accepted.{lowest-bad-octet}
 
@@ -347,11 +345,3 @@ cues-are-the-octets file list e =
     let same : r .0 ≡ list = cc in
     let s = rw same at (r .2) in
     (s .count, λ j within. let e : 0 + j ≡ j = omega arith in rw e at (s .each j within))
-
--- "Stamps never fall, and none passes the end time."
-pub cues-rise : (file : List ℕ) → GoodFile file → (j : ℕ) → j + 1 < inputCount file → stampAt file (inputPlace j) ≤ stampAt file (inputPlace (j + 1))
-cues-rise file g j within = rw (next-stamp file j) at (g .good (j + 1) within .risen)
-
--- a scene of an accepted file has a number of six bits
-pub cues-numbers : (file : List ℕ) (g : GoodFile file) (j : ℕ) (within : j < inputCount file) → sceneNumber (g .good j within .input) ≤ 63
-cues-numbers file g j within = let i = g .good j within in input-number file (inputPlace j) (i .input) (i .means)

@@ -61,9 +61,6 @@ decoded-means k value =
 pub meant-kind : (k value : ℕ) (i : Input) → decoded k value ≡ Meant i → kind i ≡ k
 meant-kind k value i e = (rw e at (decoded-means k value)) .0
 
-pub meant-number : (k value : ℕ) (i : Input) → decoded k value ≡ Meant i → sceneNumber i ≤ 63
-meant-number k value i e = (rw e at (decoded-means k value)) .1
-
 -- the input at a place is what its kind and value mean, or wrong
 input-means : (octets : List ℕ) (at : ℕ) → OfKind (octet octets (at + 4)) (inputAt octets at)
 unfolding inputAt

@@ -69,11 +69,6 @@ the-clock-move {t} {s} m = let r = moves-once (clock-moves s t) m in rw (← (r 
 pub no-timer-due-no-move : (s : State) (t : ℕ) → Quiet t (deadline (s .phase)) → clockMove s t ≡ record { state = atMoment s t (s .phase); records = [] }
 no-timer-due-no-move s t q = the-clock-move (rest q)
 
--- the first move has left nothing due
-pub a-second-move-changes-nothing : (s : State) (t : ℕ) → clockMove (clockMove s t .state) t ≡ record { state = clockMove s t .state; records = [] }
-unfolding clockMove ticked
-a-second-move-changes-nothing s t = no-timer-due-no-move (clockMove s t .state) t (three-are-enough s t)
-
 -- ---- two clock moves
 
 -- the clock of a state does not tell which timers are due, nor what they show
