@@ -7,7 +7,7 @@ use Rattle.rules.specs.declared.parameters.Params.{Params}
 use Rattle.rules.specs.declared.phase.Phase.{Phase}
 use Rattle.rules.specs.declared.phase.Deadline.the-variants.{At}
 use Rattle.rules.specs.declared.state.State.{State}
-use Rattle.rules.specs.Time.{lastStamp}
+use Rattle.base.specs.Time.{lastStamp}
 use Rattle.rules.specs.Phases.{deadline}
 use Rattle.rules.specs.Answers.{due}
 use Rattle.rules.specs.Steps.{clockMove}

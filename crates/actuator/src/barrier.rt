@@ -6,7 +6,7 @@ ghost use Rattle.rules.specs.Barriers.{rowOf, powerDown, busDown, firstBarrier,
 ghost use Rattle.orders.specs.Lamps.{alone};
 use orders::lamp::Lamp;
 use orders::lamp::stands;
-use phases::logic::both;
+use base::logic::both;
 use rules::barrier::Barrier;
 use rules::barrier::Row;
 use rules::input::Force;

@@ -6,8 +6,8 @@ ghost use Rattle.rules.specs.Status.{value, bit, attributes, recordOf, sameStat
 use crate::barrier::power_is_down;
 use orders::lamp::Lamp;
 use orders::lamp::stands;
-use phases::logic::both;
-use phases::logic::negated;
+use base::logic::both;
+use base::logic::negated;
 use phases::phase::output_of;
 use phases::phase::staircase_of;
 use rules::record::Record;

@@ -24,7 +24,7 @@ use orders::lamp::Lamp;
 use orders::order::carry_out;
 use orders::order::is_lesson;
 use orders::order::table_after;
-use phases::logic::both;
+use base::logic::both;
 use rules::barrier::Barrier;
 use rules::input::Input;
 use rules::parameters::Params;

@@ -9,13 +9,13 @@ use actuator::status::record_of;
 use cues::check::check_file;
 use cues::header::end_time;
 use cues::header::input_count;
-use decode::refusal::number_of;
+use base::refusal::number_of;
 use live::clock::clock_move;
 use live::fresh::fresh_state;
 use live::single::single_input;
 use orders::lamp::lamp_of;
 use rules::record::Record;
-use rules::refusal::Check;
+use base::refusal::Check;
 use rules::state::State;
 
 // R: stamp, value, attributes, cause.

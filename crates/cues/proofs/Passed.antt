@@ -3,7 +3,7 @@ use mathlib.Core.List.{List}
 use mathlib.Core.Path.{_≡_, refl}
 use Prim.Native.Nat.{ℕ}
 use native.Mathlib.Omega.{arith}
-use Rattle.rules.specs.declared.refusal.Check.the-variants.{Passed}
+use Rattle.base.specs.declared.refusal.Check.the-variants.{Passed}
 use Rattle.rules.specs.Lists.{Cue}
 use Rattle.rules.specs.Files.{Reading, cues, bad, readFile}
 use Rattle.rules.proofs.CueFiles.{GoodFile, good-file}

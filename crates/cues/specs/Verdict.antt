@@ -2,9 +2,9 @@
 use Prim.Native.Nat.{ℕ}
 use mathlib.Core.Bool.{Bool, cond, _&&_}
 use lib.Dec.{leb}
-use Rattle.rules.specs.declared.refusal.Refusal.the-variants.{BadInput, BadStamp}
-use Rattle.rules.specs.declared.refusal.Check.{Check}
-use Rattle.rules.specs.declared.refusal.Check.the-variants.{Passed, Refused}
+use Rattle.base.specs.declared.refusal.Refusal.the-variants.{BadInput, BadStamp}
+use Rattle.base.specs.declared.refusal.Check.{Check}
+use Rattle.base.specs.declared.refusal.Check.the-variants.{Passed, Refused}
 use Rattle.rules.specs.Files.{Reading, cues, bad}
 
 abbrev pub verdict : Reading → Check

@@ -3,7 +3,7 @@ ghost use mathlib.Core.Path.{_≡_};
 ghost use mathlib.Core.Bool.{true};
 ghost use Prim.Native.Nat.{_+_, _*_, _≤_};
 ghost use lib.ListN.{length};
-ghost use Rattle.rules.specs.Refusals.{checkParameters};
+ghost use Rattle.rules.specs.Parameters.{checkParameters};
 ghost use Rattle.rules.specs.Files.{inputCount, endTime, parametersIn, layoutRight, readInputs, afterCheck, readFile};
 ghost use Rattle.cues.specs.Verdict.{verdict, checkOne};
 use crate::header::actuators_of;
@@ -14,9 +14,9 @@ use crate::header::version_of;
 use decode::input::is_input_at;
 use decode::input::stamp_at;
 use decode::parameters::check_parameters;
-use phases::logic::both;
-use rules::refusal::Check;
-use rules::refusal::Refusal;
+use base::logic::both;
+use base::refusal::Check;
+use base::refusal::Refusal;
 
 // The parameters of a file.
 fn check_parameters_in(file: &[u8]) -> Check

@@ -6,7 +6,7 @@ ghost use lib.ListN.{length};
 ghost use Rattle.rules.specs.Files.{version, actuators, inputCount, endTime, layoutRight};
 use octets::read16;
 use octets::read32;
-use phases::logic::both;
+use base::logic::both;
 
 pub fn version_of(file: &[u8]) -> u32
     requires { ⌜ 52 ≤ length (now file) ⌝ }

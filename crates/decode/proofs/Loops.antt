@@ -8,10 +8,9 @@ use lib.ListN.{getD}
 use lib.Dec.{eqb, leb, ltb}
 use borrow.Author.Tests.{eq-eqb, ne-eqb, lt-ltb, le-ltb, leb-true, not-false}
 use Rattle.octets.specs.BigEndian.{octet, be16}
-use Rattle.rules.specs.declared.refusal.Refusal.the-variants.{BadParameter}
-use Rattle.rules.specs.declared.refusal.Check.the-variants.{Passed, Refused}
-use Rattle.rules.specs.Parameters.{greatest, numberAbove, badNumber, badFlags, badOctet}
-use Rattle.rules.specs.Refusals.{lowestBad}
+use Rattle.base.specs.declared.refusal.Refusal.the-variants.{BadParameter}
+use Rattle.base.specs.declared.refusal.Check.the-variants.{Passed, Refused}
+use Rattle.rules.specs.Parameters.{greatest, numberAbove, badNumber, badFlags, badOctet, lowestBad}
 
 -- from the last of the first entries up
 pub above-step : (octets : List ℕ) (number left : ℕ) → 0 < left → numberAbove octets number left ≡ (eqb (octet octets (16 + 2 * (left - 1))) number || numberAbove octets number (left - 1))

@@ -9,7 +9,7 @@ ghost use Rattle.rules.specs.declared.input.Decoded.the-variants.{Meant};
 ghost use Rattle.rules.specs.Inputs.{decoded, stampAt, inputAt};
 ghost use Rattle.decode.specs.Meaning.{isMeant, eventOf, forceOf};
 use octets::read32;
-use phases::logic::both;
+use base::logic::both;
 use rules::input::Decoded;
 use rules::input::Event;
 use rules::input::Force;

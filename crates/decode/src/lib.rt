@@ -2,4 +2,3 @@
 pub mod input;
 pub mod parameters;
 mod range;
-pub mod refusal;

@@ -4,14 +4,13 @@ ghost use Prim.Native.Nat.{_≤_, _<_};
 ghost use mathlib.Core.Bool.{false, cond};
 ghost use lib.Dec.{leb};
 ghost use lib.ListN.{length, getD};
-ghost use Rattle.rules.specs.declared.refusal.Refusal.the-variants.{BadParameter};
-ghost use Rattle.rules.specs.declared.refusal.Check.the-variants.{Refused};
-ghost use Rattle.rules.specs.Parameters.{greatest, numberAbove, badNumber, badFlags};
-ghost use Rattle.rules.specs.Refusals.{lowestBad};
+ghost use Rattle.base.specs.declared.refusal.Refusal.the-variants.{BadParameter};
+ghost use Rattle.base.specs.declared.refusal.Check.the-variants.{Refused};
+ghost use Rattle.rules.specs.Parameters.{greatest, numberAbove, badNumber, badFlags, lowestBad};
 use octets::read16;
-use phases::logic::negated;
-use rules::refusal::Check;
-use rules::refusal::Refusal;
+use base::logic::negated;
+use base::refusal::Check;
+use base::refusal::Refusal;
 
 // The greatest value of each of the octets 8 to 15: five modes, the learning mode, two octets that are zero.
 const GREATEST: [u8; 8] = [2, 3, 2, 2, 2, 1, 0, 0];

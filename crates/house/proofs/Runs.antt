@@ -8,9 +8,9 @@ use native.Mathlib.Omega.{arith}
 use lib.ListN.{length}
 use lib.Dec.{leb}
 use borrow.Author.Tests.{leb-true}
-use Rattle.rules.specs.declared.refusal.Refusal.{Refusal}
-use Rattle.rules.specs.declared.refusal.Refusal.the-variants.{ShortBuffer}
-use Rattle.rules.specs.declared.refusal.Check.the-variants.{Passed, Refused}
+use Rattle.base.specs.declared.refusal.Refusal.{Refusal}
+use Rattle.base.specs.declared.refusal.Refusal.the-variants.{ShortBuffer}
+use Rattle.base.specs.declared.refusal.Check.the-variants.{Passed, Refused}
 use Rattle.rules.specs.Files.{Reading, cues, bad, inputCount, readFile, roomy}
 use Rattle.rules.specs.Runs.{playFile, accepted, refused, runCall}
 use Rattle.rules.proofs.Tests.{both}

@@ -8,7 +8,7 @@ use Rattle.rules.specs.declared.parameters.Params.{Params}
 use Rattle.rules.specs.declared.parameters.Scene.{Scene}
 use Rattle.rules.specs.declared.state.State.{State}
 use Rattle.rules.specs.declared.record.Record.{Record}
-use Rattle.rules.specs.Time.{lastStamp}
+use Rattle.base.specs.Time.{lastStamp}
 use Rattle.rules.specs.Parameters.{paramsOf, scenesOf}
 use Rattle.rules.specs.Steps.{Moved, fresh, clockMove}
 use Rattle.rules.specs.Soundness.{sound}

@@ -1,9 +1,9 @@
 -- What the run hands out.
 use Prim.Native.Nat.{ℕ}
 use mathlib.Core.List.{List}
-use Rattle.rules.specs.declared.refusal.Refusal.{Refusal}
+use Rattle.base.specs.declared.refusal.Refusal.{Refusal}
 use Rattle.rules.specs.declared.call.Ran.{Ran}
-use Rattle.rules.specs.Refusals.{number}
+use Rattle.base.specs.Refusals.{number}
 use Rattle.rules.specs.Calls.{ownState}
 use Rattle.rules.specs.Runs.{Whole, Answered}
 use Rattle.house.specs.declared.play.Ended.{Ended}

@@ -11,11 +11,11 @@ use actuator::fresh::own_state;
 use cues::check::check_file;
 use cues::header::end_time;
 use cues::header::input_count;
-use decode::refusal::number_of;
-use phases::logic::both;
+use base::refusal::number_of;
+use base::logic::both;
 use rules::call::Ran;
-use rules::refusal::Check;
-use rules::refusal::Refusal;
+use base::refusal::Check;
+use base::refusal::Refusal;
 
 fn refused(why: Refusal, place: u16) -> Ran
     ensures { λ r. ⌜ r ≡ refusal why place ⌝ }

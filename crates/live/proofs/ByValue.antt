@@ -4,9 +4,9 @@ use mathlib.Core.List.{List, [], _∷_}
 use mathlib.Core.Path.{_≡_, refl}
 use lib.ListN.{length, getD}
 use Rattle.rules.specs.declared.record.Record.{Record}
-use Rattle.rules.specs.declared.refusal.Check.the-variants.{Passed}
+use Rattle.base.specs.declared.refusal.Check.the-variants.{Passed}
 use Rattle.rules.specs.Steps.{Moved, Stepped}
-use Rattle.rules.specs.Refusals.{checkParameters}
+use Rattle.rules.specs.Parameters.{checkParameters}
 use Rattle.rules.specs.Calls.{blank, places, singleDone, moveDone}
 use Rattle.rules.proofs.Accepted.{lowest-bad-octet}
 use Rattle.actuator.specs.Notes.{notes, clocked, acted}

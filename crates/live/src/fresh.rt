@@ -6,9 +6,9 @@ use actuator::fresh::own_state;
 use decode::parameters::check_parameters;
 use decode::parameters::params_of;
 use decode::parameters::scenes_of;
-use decode::refusal::number_of;
+use base::refusal::number_of;
 use rules::call::Fresh;
-use rules::refusal::Check;
+use base::refusal::Check;
 
 // Any octets: 32 that are in range give the fresh state, all others a refusal with its place and its own state.
 pub fn fresh_state(octets: &[u8]) -> Fresh

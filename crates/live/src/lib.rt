@@ -3,4 +3,3 @@
 pub mod clock;
 pub mod fresh;
 pub mod single;
-mod stamp;

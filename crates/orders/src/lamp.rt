@@ -6,7 +6,7 @@ ghost use Rattle.rules.specs.declared.parameters.Scene.{Scene};
 ghost use Rattle.rules.specs.Orders.{withPhase, withNight, withForce, withLink, withLock, standing, held, settle, plain, byMode};
 ghost use Rattle.phases.specs.Room.{Room};
 ghost use Rattle.orders.specs.Lamps.{lampOf, stateOf, alone};
-use phases::logic;
+use base::logic;
 use phases::phase;
 use rules::input::Force;
 use rules::parameters::Params;

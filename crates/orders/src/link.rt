@@ -7,7 +7,7 @@ ghost use Rattle.phases.specs.Room.{Room};
 ghost use Rattle.orders.specs.Lamps.{lampOf, stateOf, alone};
 use crate::lamp;
 use crate::lamp::Lamp;
-use phases::logic;
+use base::logic;
 use phases::phase;
 use rules::input::Event;
 use rules::input::Force;

@@ -2,7 +2,7 @@
 use Prim.Native.Nat.{ℕ, _≤_}
 use Rattle.rules.specs.declared.parameters.Params.{Params}
 use Rattle.rules.specs.declared.phase.Phase.{Phase}
-use Rattle.rules.specs.Time.{lastStamp, longestDelay}
+use Rattle.base.specs.Time.{lastStamp, longestDelay}
 use Rattle.rules.specs.Answers.{due}
 
 -- the delays of p are in range, and t is a stamp

@@ -4,8 +4,8 @@ ghost use Rattle.rules.specs.Orders.{on, timedStart, offAfterDelay, off, timedS
 ghost use Rattle.phases.specs.Room.{Room, Roomy};
 use crate::phase::lit_at;
 use crate::phase::set_on;
-use crate::time::earlier_of;
-use crate::time::later;
+use base::moment::earlier_of;
+use base::moment::later;
 use rules::parameters::Params;
 use rules::phase::Phase;
 

@@ -4,8 +4,8 @@ ghost use Rattle.rules.specs.Phases.{output, deadline, litAt, atDeadline, setOn
 ghost use Rattle.rules.specs.Status.{staircase};
 ghost use Rattle.rules.specs.Answers.{due};
 ghost use Rattle.phases.specs.Room.{Room};
-use crate::logic;
-use crate::time;
+use base::logic;
+use base::moment;
 use rules::parameters::Params;
 use rules::phase::Deadline;
 use rules::phase::Phase;
@@ -57,7 +57,7 @@ pub fn lit_at(p: Params, timed: bool, t: u32) -> Phase
     ensures { λ r. ⌜ r ≡ litAt p timed t ⌝ }
 {
     if timed {
-        Phase::Timed(time::later(t, p.timedon))
+        Phase::Timed(moment::later(t, p.timedon))
     } else {
         Phase::Lit
     }
@@ -77,7 +77,7 @@ pub fn at_deadline(p: Params, night: bool, phase: Phase) -> Phase
             if none {
                 Phase::Dark
             } else {
-                Phase::Warning(time::later(d, p.prewarning))
+                Phase::Warning(moment::later(d, p.prewarning))
             }
         }
         Phase::Warning(_) => Phase::Dark,

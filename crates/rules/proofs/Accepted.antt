@@ -12,13 +12,12 @@ use borrow.Author.Count.{below-none, below-more}
 use borrow.Author.Tests.{ltb-false, leb-true, eqb-true, eqb-false, not-false, le-leb, le-ltb, eq-eqb, ne-eqb}
 use Rattle.octets.specs.BigEndian.{octet, be16}
 use Rattle.rules.specs.declared.parameters.Scene.{Scene}
-use Rattle.rules.specs.declared.refusal.Refusal.the-variants.{WrongLength, WrongVersion, WrongActuators, WrongLayout, BadParameter, BadInput, BadStamp, ShortBuffer, UnsoundState}
-use Rattle.rules.specs.declared.refusal.Check.{Check}
-use Rattle.rules.specs.declared.refusal.Check.the-variants.{Passed, Refused}
-use Rattle.rules.specs.Time.{tenths}
-use Rattle.rules.specs.Parameters.{delay, paramsOf, sceneAt, scenesOf, greatest, numberAbove, badNumber, badFlags, badOctet, timeInRange, paramsInRange}
+use Rattle.base.specs.declared.refusal.Refusal.the-variants.{WrongLength, WrongVersion, WrongActuators, WrongLayout, BadParameter, BadInput, BadStamp, ShortBuffer, UnsoundState}
+use Rattle.base.specs.declared.refusal.Check.{Check}
+use Rattle.base.specs.declared.refusal.Check.the-variants.{Passed, Refused}
+use Rattle.base.specs.Time.{tenths}
+use Rattle.rules.specs.Parameters.{delay, paramsOf, sceneAt, scenesOf, greatest, numberAbove, badNumber, badFlags, badOctet, timeInRange, paramsInRange, lowestBad, checkParameters}
 use Rattle.rules.specs.Scenes.{entryInRange, absent, scenesInRange}
-use Rattle.rules.specs.Refusals.{lowestBad, checkParameters}
 use Rattle.rules.specs.Steps.{fresh}
 use Rattle.rules.specs.Soundness.{sound}
 use Rattle.rules.proofs.Tests.{no, neither-left, cond-case}

@@ -17,7 +17,7 @@ use Rattle.rules.specs.declared.state.Link.{Link}
 use Rattle.rules.specs.declared.state.Link.the-variants.{Up, BusDown, PowerDown}
 use Rattle.rules.specs.declared.state.State.{State}
 use Rattle.rules.specs.declared.barrier.Barrier.{Barrier}
-use Rattle.rules.specs.declared.barrier.Barrier.the-variants.{Open, NoPower, NoBus, Locked, Forced}
+use Rattle.rules.specs.declared.barrier.Barrier.the-variants.{Open, Stopped}
 use Rattle.rules.specs.Orders.{order}
 use Rattle.rules.specs.Barriers.{barrier}
 use Rattle.rules.specs.Answers.{answer, phaseNumber, due, forceNumber, linkNumber, samePhase, sameScene, sameScenes, sameFlags, sameButClock}
@@ -145,10 +145,7 @@ answered-by-its-barrier m i = go (barrier (m .state) i)
   where
     go : (b : Barrier) → meet b m i .answer ≡ answer b (sameButClock (m .state) (meet b m i .state))
     go Open = unfold meet taken in refl
-    go NoPower = unfold meet in refl
-    go NoBus = unfold meet in refl
-    go Locked = unfold meet in refl
-    go Forced = unfold meet in refl
+    go (Stopped why) = unfold meet in refl
 
 -- whatever the two clocks show
 pub same-but-clock-is-all-but-the-clock : (a b : State) → a .params ≡ b .params → (sameButClock a b ≡ true) ↔ (atMoment a (b .clock) (a .phase) ≡ b)

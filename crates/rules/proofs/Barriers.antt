@@ -10,11 +10,12 @@ use Rattle.rules.specs.declared.input.Input.the-variants.{SwitchOnOff, T
 use Rattle.rules.specs.declared.state.Link.{Link}
 use Rattle.rules.specs.declared.state.State.{State}
 use Rattle.rules.specs.declared.barrier.Row.{Row}
+use Rattle.rules.specs.declared.barrier.Why.the-variants.{NoPower, NoBus, Locked, Forced}
 use Rattle.rules.specs.declared.barrier.Barrier.{Barrier}
-use Rattle.rules.specs.declared.barrier.Barrier.the-variants.{Open, NoPower, NoBus, Locked, Forced}
+use Rattle.rules.specs.declared.barrier.Barrier.the-variants.{Open, Stopped}
 use Rattle.rules.specs.Inputs.{kind}
 use Rattle.rules.specs.Orders.{standing}
-use Rattle.rules.specs.Barriers.{row, byPower, byBus, byLock, byForce, rows, rowOf, powerDown, busDown, firstBarrier, barrier}
+use Rattle.rules.specs.Barriers.{row, rows, rowOf, powerDown, busDown, firstBarrier, barrier}
 use Rattle.rules.specs.Answers.{answer}
 
 -- ---- the table
@@ -40,33 +41,33 @@ eight-rows = refl
 -- ---- "Answer octet, first that fits: 5 power down, 4 bus down, 3 lock, 2 force; then 0 .., else 1"
 
 pub answer-numbers : (same : Bool) →
-    (answer NoPower same ≡ 5) × (answer NoBus same ≡ 4) × (answer Locked same ≡ 3) × (answer Forced same ≡ 2) × (answer Open false ≡ 0) × (answer Open true ≡ 1)
+    (answer (Stopped NoPower) same ≡ 5) × (answer (Stopped NoBus) same ≡ 4) × (answer (Stopped Locked) same ≡ 3) × (answer (Stopped Forced) same ≡ 2) × (answer Open false ≡ 0) × (answer Open true ≡ 1)
 answer-numbers same = (refl, refl, refl, refl, refl, refl)
 
 -- the barrier stands, and the row of the input's kind names it
 abbrev pub powerStops : State → Input → Bool
-powerStops s i = byPower (rowOf (kind i)) && powerDown (s .link)
+powerStops s i = rowOf (kind i) .power && powerDown (s .link)
 
 abbrev pub busStops : State → Input → Bool
-busStops s i = byBus (rowOf (kind i)) && busDown (s .link)
+busStops s i = rowOf (kind i) .bus && busDown (s .link)
 
 abbrev pub lockStops : State → Input → Bool
-lockStops s i = byLock (rowOf (kind i)) && s .lock
+lockStops s i = rowOf (kind i) .lock && s .lock
 
 abbrev pub forceStops : State → Input → Bool
-forceStops s i = byForce (rowOf (kind i)) && standing (s .force)
+forceStops s i = rowOf (kind i) .force && standing (s .force)
 
 -- a barrier fits where it stops the input and none before it does; an input is free where none does
 abbrev pub fits : Barrier → Bool → Bool → Bool → Bool → Bool
-fits NoPower power bus lock force = power
-fits NoBus power bus lock force = not power && bus
-fits Locked power bus lock force = not power && not bus && lock
-fits Forced power bus lock force = not power && not bus && not lock && force
+fits (Stopped NoPower) power bus lock force = power
+fits (Stopped NoBus) power bus lock force = not power && bus
+fits (Stopped Locked) power bus lock force = not power && not bus && lock
+fits (Stopped Forced) power bus lock force = not power && not bus && not lock && force
 fits Open power bus lock force = not power && not bus && not lock && not force
 
 -- the first of the four that stop, as `firstBarrier` chooses it
 abbrev first : Bool → Bool → Bool → Bool → Barrier
-first power bus lock force = cond power NoPower (cond bus NoBus (cond lock Locked (cond force Forced Open)))
+first power bus lock force = cond power (Stopped NoPower) (cond bus (Stopped NoBus) (cond lock (Stopped Locked) (cond force (Stopped Forced) Open)))
 
 first-fits : (power bus lock force : Bool) → T (fits (first power bus lock force) power bus lock force)
 first-fits true bus lock force = tt
@@ -76,10 +77,10 @@ first-fits false false false true = tt
 first-fits false false false false = tt
 
 what-fits-is-first : (b : Barrier) (power bus lock force : Bool) → T (fits b power bus lock force) → first power bus lock force ≡ b
-what-fits-is-first NoPower true bus lock force h = refl
-what-fits-is-first NoBus false true lock force h = refl
-what-fits-is-first Locked false false true force h = refl
-what-fits-is-first Forced false false false true h = refl
+what-fits-is-first (Stopped NoPower) true bus lock force h = refl
+what-fits-is-first (Stopped NoBus) false true lock force h = refl
+what-fits-is-first (Stopped Locked) false false true force h = refl
+what-fits-is-first (Stopped Forced) false false false true h = refl
 what-fits-is-first Open false false false false h = refl
 
 exactly-one-fits : (b : Barrier) (power bus lock force : Bool) → (first power bus lock force ≡ b) ↔ T (fits b power bus lock force)
@@ -111,6 +112,6 @@ none-first false false true force h = record { powered = cc; unlocked = cc; unfo
 none-first false false false true h = record { powered = cc; unlocked = cc; unforced = cc }
 none-first false false false false h = record { powered = refl; unlocked = refl; unforced = refl }
 
-pub open-is-unstopped : (r : Row) (link : Link) (lock : Bool) (force : Force) → firstBarrier r link lock force ≡ Open → Unstopped (byPower r && powerDown link) (byLock r && lock) (byForce r && standing force)
+pub open-is-unstopped : (r : Row) (link : Link) (lock : Bool) (force : Force) → firstBarrier r link lock force ≡ Open → Unstopped (r .power && powerDown link) (r .lock && lock) (r .force && standing force)
 unfolding firstBarrier
-open-is-unstopped r link lock force h = none-first (byPower r && powerDown link) (byBus r && busDown link) (byLock r && lock) (byForce r && standing force) h
+open-is-unstopped r link lock force h = none-first (r .power && powerDown link) (r .bus && busDown link) (r .lock && lock) (r .force && standing force) h

@@ -13,16 +13,17 @@ use Rattle.rules.specs.declared.input.Input.{Input}
 use Rattle.rules.specs.declared.input.Decoded.{Decoded}
 use Rattle.rules.specs.declared.input.Decoded.the-variants.{Meant, Wrong}
 use Rattle.rules.specs.declared.state.State.{State}
-use Rattle.rules.specs.declared.refusal.Refusal.the-variants.{WrongLength, BadParameter, BadInput, BadStamp, UnsoundState}
-use Rattle.rules.specs.declared.refusal.Check.{Check}
-use Rattle.rules.specs.declared.refusal.Check.the-variants.{Passed, Refused}
+use Rattle.base.specs.declared.refusal.Refusal.the-variants.{WrongLength, BadParameter, BadInput, BadStamp, UnsoundState}
+use Rattle.base.specs.declared.refusal.Check.{Check}
+use Rattle.base.specs.declared.refusal.Check.the-variants.{Passed, Refused}
 use Rattle.rules.specs.declared.call.Single.{Single}
 use Rattle.rules.specs.declared.call.Move.{Move}
-use Rattle.rules.specs.Time.{lastStamp}
+use Rattle.base.specs.Time.{lastStamp}
 use Rattle.rules.specs.Inputs.{stampAt, inputAt}
 use Rattle.rules.specs.Steps.{clockMove, step}
 use Rattle.rules.specs.Soundness.{sound}
-use Rattle.rules.specs.Refusals.{checkParameters, stampInRange}
+use Rattle.base.specs.Refusals.{stampInRange}
+use Rattle.rules.specs.Parameters.{checkParameters}
 use Rattle.rules.specs.Calls.{freshBy, freshCall, places, singleDone, singleRefused, singleMeant, singleCall, moveDone, moveRefused, moveCall}
 use Rattle.rules.proofs.Tests.{both, no}
 use Rattle.rules.proofs.Soundness.{own-state-is-sound, move-is-sound, step-is-sound}

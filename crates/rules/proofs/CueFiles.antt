@@ -14,14 +14,14 @@ use borrow.Author.Tests.{leb-true, leb-false, eqb-true, eqb-false, le-leb, lt-le
 use Rattle.rules.specs.declared.input.Input.{Input}
 use Rattle.rules.specs.declared.input.Decoded.{Decoded}
 use Rattle.rules.specs.declared.input.Decoded.the-variants.{Meant, Wrong}
-use Rattle.rules.specs.declared.refusal.Refusal.{Refusal}
-use Rattle.rules.specs.declared.refusal.Refusal.the-variants.{WrongLength, WrongVersion, WrongActuators, WrongLayout, BadParameter, BadInput, BadStamp, ShortBuffer, UnsoundState}
-use Rattle.rules.specs.declared.refusal.Check.{Check}
-use Rattle.rules.specs.declared.refusal.Check.the-variants.{Passed, Refused}
-use Rattle.rules.specs.Time.{lastStamp}
+use Rattle.base.specs.declared.refusal.Refusal.{Refusal}
+use Rattle.base.specs.declared.refusal.Refusal.the-variants.{WrongLength, WrongVersion, WrongActuators, WrongLayout, BadParameter, BadInput, BadStamp, ShortBuffer, UnsoundState}
+use Rattle.base.specs.declared.refusal.Check.{Check}
+use Rattle.base.specs.declared.refusal.Check.the-variants.{Passed, Refused}
+use Rattle.base.specs.Time.{lastStamp}
 use Rattle.rules.specs.Inputs.{inputAt, stampAt}
 use Rattle.rules.specs.Lists.{Cue, cue}
-use Rattle.rules.specs.Refusals.{checkParameters}
+use Rattle.rules.specs.Parameters.{checkParameters}
 use Rattle.rules.specs.Files.{version, actuators, parametersOffset, inputCount, inputsOffset, endTime, inputPlace, parametersIn, layoutRight, Reading, cues, bad, before, readOne, readInputs, afterCheck, readFile}
 use Rattle.rules.proofs.Tests.{no, both, cond-case}
 use Rattle.rules.proofs.Accepted as accepted

@@ -9,7 +9,7 @@ use Rattle.rules.specs.declared.parameters.Params.{Params}
 use Rattle.rules.specs.declared.phase.Phase.{Phase}
 use Rattle.rules.specs.declared.phase.Phase.the-variants.{Dark, Lit, Starting, Timed, Warning, Ending}
 use Rattle.rules.specs.declared.phase.Deadline.the-variants.{At}
-use Rattle.rules.specs.Time.{tenths, longestDelay}
+use Rattle.base.specs.Time.{tenths, longestDelay}
 use Rattle.rules.specs.Parameters.{timeInRange, paramsInRange}
 use Rattle.rules.specs.Phases.{deadline}
 use Rattle.rules.specs.Answers.{due}

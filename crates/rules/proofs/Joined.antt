@@ -12,18 +12,18 @@ use borrow.Author.Tests.{le-leb, leb-true, leb-false}
 use Rattle.octets.specs.BigEndian.{octet}
 use Rattle.rules.specs.declared.input.Input.{Input}
 use Rattle.rules.specs.declared.state.State.{State}
-use Rattle.rules.specs.declared.refusal.Check.the-variants.{Passed}
+use Rattle.base.specs.declared.refusal.Check.the-variants.{Passed}
 use Rattle.rules.specs.declared.call.Fresh.{Fresh}
 use Rattle.rules.specs.declared.call.Single.{Single}
 use Rattle.rules.specs.declared.call.Move.{Move}
-use Rattle.rules.specs.Time.{lastStamp}
-use Rattle.rules.specs.Parameters.{paramsOf, scenesOf}
+use Rattle.base.specs.Time.{lastStamp}
+use Rattle.rules.specs.Parameters.{paramsOf, scenesOf, checkParameters}
 use Rattle.rules.specs.Inputs.{stampAt, inputAt}
 use Rattle.rules.specs.Status.{recordOf, byItself}
 use Rattle.rules.specs.Steps.{fresh, clockMove, step}
 use Rattle.rules.specs.Soundness.{sound}
 use Rattle.rules.specs.Lists.{Cue, Played, andThen, moved, stepped, plays, playsTo, playList}
-use Rattle.rules.specs.Refusals.{checkParameters, stampInRange}
+use Rattle.base.specs.Refusals.{stampInRange}
 use Rattle.rules.specs.Calls.{freshBy, freshCall, singleDone, singleCall, moveDone, moveCall}
 use Rattle.rules.specs.Files.{cues, inputCount, endTime, inputPlace, parametersIn, readInputs, readFile, roomy}
 use Rattle.rules.specs.Runs.{playFile, accepted, runCall}

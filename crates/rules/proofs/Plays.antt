@@ -5,7 +5,7 @@ use Prim.Native.Nat.{ℕ}
 use Rattle.rules.specs.declared.input.Input.{Input}
 use Rattle.rules.specs.declared.state.State.{State}
 use Rattle.rules.specs.declared.barrier.Barrier.{Barrier}
-use Rattle.rules.specs.declared.barrier.Barrier.the-variants.{Open, NoPower, NoBus, Locked, Forced}
+use Rattle.rules.specs.declared.barrier.Barrier.the-variants.{Open, Stopped}
 use Rattle.rules.specs.Barriers.{barrier}
 use Rattle.rules.specs.Steps.{Moved, clockMove, taken, meet, act, step}
 use Rattle.rules.specs.Lists.{Cue, cue, Played, andThen, unplayed, moved, stepped, plays, playsTo}
@@ -55,7 +55,4 @@ acts-after-the-move m i = go (barrier (m .state) i)
   where
     go : (b : Barrier) → stepped (meet b m i) ≡ andThen (moved m) (λ x. stepped (meet b (still x) i))
     go Open = unfold meet taken in refl
-    go NoPower = unfold meet in simp append-nil
-    go NoBus = unfold meet in simp append-nil
-    go Locked = unfold meet in simp append-nil
-    go Forced = unfold meet in simp append-nil
+    go (Stopped why) = unfold meet in simp append-nil

@@ -6,7 +6,7 @@ use mathlib.Core.List.{List, [], _∷_, _++_, append-assoc, append-nil}
 use Rattle.rules.specs.declared.input.Input.{Input}
 use Rattle.rules.specs.declared.state.State.{State}
 use Rattle.rules.specs.declared.barrier.Barrier.{Barrier}
-use Rattle.rules.specs.declared.barrier.Barrier.the-variants.{Open, NoPower, NoBus, Locked, Forced}
+use Rattle.rules.specs.declared.barrier.Barrier.the-variants.{Open, Stopped}
 use Rattle.rules.specs.Orders.{order}
 use Rattle.rules.specs.Barriers.{barrier}
 use Rattle.rules.specs.Status.{written}
@@ -28,10 +28,7 @@ nothing-written cause s = alike-writes-nothing cause s s refl refl
 no-trace : (b : Barrier) (m : Moved) (i : Input) → (b ≡ Open → order (m .state) i ≡ m .state) → (meet b m i .state ≡ m .state) × (meet b m i .records ≡ m .records)
 unfolding meet taken
 no-trace Open m i same = rw (same refl) (refl, simp (nothing-written, append-nil))
-no-trace NoPower m i same = (refl, refl)
-no-trace NoBus m i same = (refl, refl)
-no-trace Locked m i same = (refl, refl)
-no-trace Forced m i same = (refl, refl)
+no-trace (Stopped why) m i same = (refl, refl)
 
 pub unchanged-leaves-no-trace : (s : State) (i : Input) (t : ℕ) →
     (barrier (clockMove s t .state) i ≡ Open → order (clockMove s t .state) i ≡ clockMove s t .state) → LeavesNoTrace s i t

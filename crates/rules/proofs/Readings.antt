@@ -9,7 +9,7 @@ use borrow.Author.Tests.{leb-true}
 use Rattle.rules.specs.declared.input.Input.{Input}
 use Rattle.rules.specs.declared.input.Decoded.{Decoded}
 use Rattle.rules.specs.declared.input.Decoded.the-variants.{Meant, Wrong}
-use Rattle.rules.specs.declared.refusal.Refusal.the-variants.{BadStamp}
+use Rattle.base.specs.declared.refusal.Refusal.the-variants.{BadStamp}
 use Rattle.rules.specs.Inputs.{inputAt, stampAt}
 use Rattle.rules.specs.Lists.{Cue, cue}
 use Rattle.rules.specs.Files.{Reading, cues, bad, inputPlace, before, readOne, readInputs}

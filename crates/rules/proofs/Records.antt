@@ -11,7 +11,7 @@ use Rattle.rules.specs.declared.phase.Phase.the-variants.{Dark, Lit, Sta
 use Rattle.rules.specs.declared.input.Input.{Input}
 use Rattle.rules.specs.declared.state.State.{State}
 use Rattle.rules.specs.declared.barrier.Barrier.{Barrier}
-use Rattle.rules.specs.declared.barrier.Barrier.the-variants.{Open, NoPower, NoBus, Locked, Forced}
+use Rattle.rules.specs.declared.barrier.Barrier.the-variants.{Open, Stopped}
 use Rattle.rules.specs.declared.record.Record.{Record}
 use Rattle.rules.specs.Inputs.{kind}
 use Rattle.rules.specs.Phases.{output, litAt, atDeadline}
@@ -82,10 +82,7 @@ a-move-writes-at-most-two s t = omega (arith, moves-show (clock-moves s t), two-
 meet-writes : (x : Barrier) (m : Moved) (i : Input) → length (meet x m i .records) ≤ length (m .records) + 1
 unfolding meet taken
 meet-writes Open m i = rw length-append (omega (arith, one-record-at-most (kind i) (m .state) (order (m .state) i)))
-meet-writes NoPower m i = omega arith
-meet-writes NoBus m i = omega arith
-meet-writes Locked m i = omega arith
-meet-writes Forced m i = omega arith
+meet-writes (Stopped why) m i = omega arith
 
 -- two of the clock move, and one of the order
 pub an-input-writes-at-most-three : (s : State) (i : Input) (t : ℕ) → length (step s i t .records) ≤ 3

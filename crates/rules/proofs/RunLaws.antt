@@ -8,12 +8,12 @@ use native.Mathlib.Omega.{arith}
 use lib.ListN.{length, drop, length-append}
 use Rattle.rules.specs.declared.state.State.{State}
 use Rattle.rules.specs.declared.record.Record.{Record}
-use Rattle.rules.specs.declared.refusal.Refusal.{Refusal}
-use Rattle.rules.specs.declared.refusal.Refusal.the-variants.{WrongLength, WrongVersion, WrongActuators, WrongLayout, BadParameter, BadInput, BadStamp, ShortBuffer, UnsoundState}
+use Rattle.base.specs.declared.refusal.Refusal.{Refusal}
+use Rattle.base.specs.declared.refusal.Refusal.the-variants.{WrongLength, WrongVersion, WrongActuators, WrongLayout, BadParameter, BadInput, BadStamp, ShortBuffer, UnsoundState}
 use Rattle.rules.specs.Parameters.{paramsOf, scenesOf}
 use Rattle.rules.specs.Steps.{fresh, step}
 use Rattle.rules.specs.Lists.{Cue, cue, plays, playsTo, playList}
-use Rattle.rules.specs.Refusals.{number}
+use Rattle.base.specs.Refusals.{number}
 use Rattle.rules.specs.Calls.{ownState}
 use Rattle.rules.specs.Files.{Reading, cues, bad, inputCount, endTime, parametersIn, readFile, roomy, ifRoomy, readCall}
 use Rattle.rules.specs.Runs.{recordOctets, recordsOctets, over, Whole, playFile, accepted, refused, runBy, runCall}

@@ -13,8 +13,8 @@ use Rattle.rules.specs.declared.phase.Deadline.the-variants.{Never, At}
 use Rattle.rules.specs.declared.input.Input.{Input}
 use Rattle.rules.specs.declared.state.State.{State}
 use Rattle.rules.specs.declared.barrier.Barrier.{Barrier}
-use Rattle.rules.specs.declared.barrier.Barrier.the-variants.{Open, NoPower, NoBus, Locked, Forced}
-use Rattle.rules.specs.Time.{lastStamp}
+use Rattle.rules.specs.declared.barrier.Barrier.the-variants.{Open, Stopped}
+use Rattle.base.specs.Time.{lastStamp}
 use Rattle.rules.specs.Parameters.{timeInRange, paramsInRange}
 use Rattle.rules.specs.Scenes.{entryInRange, scenesInRange}
 use Rattle.rules.specs.Phases.{output, deadline}
@@ -159,10 +159,7 @@ order-is-sound s i small h way =
 meet-case : (P : State → Type 0) (b : Barrier) (m : Moved) (i : Input) → (b ≡ Open → P (order (m .state) i)) → P (m .state) → P (meet b m i .state)
 unfolding meet taken
 meet-case P Open m i f g = f refl
-meet-case P NoPower m i f g = g
-meet-case P NoBus m i f g = g
-meet-case P Locked m i f g = g
-meet-case P Forced m i f g = g
+meet-case P (Stopped why) m i f g = g
 
 -- what holds after the clock move, and after the order where nothing stops it, holds after the step
 pub step-case : (P : State → Type 0) (s : State) (i : Input) (t : ℕ) →

@@ -23,7 +23,7 @@ use Rattle.rules.specs.declared.state.Link.{Link}
 use Rattle.rules.specs.declared.state.Link.the-variants.{Up, BusDown, PowerDown}
 use Rattle.rules.specs.declared.state.State.{State}
 use Rattle.rules.specs.declared.barrier.Barrier.{Barrier}
-use Rattle.rules.specs.declared.barrier.Barrier.the-variants.{Open, NoPower, NoBus, Locked, Forced}
+use Rattle.rules.specs.declared.barrier.Barrier.the-variants.{Open, Stopped}
 use Rattle.rules.specs.declared.record.Record.{Record}
 use Rattle.rules.specs.Inputs.{kind}
 use Rattle.rules.specs.Scenes.{recalled}
@@ -274,10 +274,7 @@ none-of-its-own m i = simp (alike-writes-nothing (kind i) (m .state) (m .state) 
 meet-records : (b : Barrier) (m : Moved) (i : Input) → meet b m i .records ≡ m .records ++ written (kind i) (m .state) (meet b m i .state)
 unfolding meet taken
 meet-records Open m i = refl
-meet-records NoPower m i = none-of-its-own m i
-meet-records NoBus m i = none-of-its-own m i
-meet-records Locked m i = none-of-its-own m i
-meet-records Forced m i = none-of-its-own m i
+meet-records (Stopped why) m i = none-of-its-own m i
 
 pub step-records : (s : State) (i : Input) (t : ℕ) → step s i t .records ≡ clockMove s t .records ++ written (kind i) (clockMove s t .state) (step s i t .state)
 unfolding step act

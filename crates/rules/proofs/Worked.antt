@@ -8,7 +8,7 @@ use Rattle.rules.specs.declared.parameters.Params.{Params}
 use Rattle.rules.specs.declared.input.Force.the-variants as force
 use Rattle.rules.specs.declared.input.Input.the-variants.{SwitchOnOff, TimedStartStop, SwitchOnOffForced, LockDevice, NightMode}
 use Rattle.rules.specs.declared.record.Record.{Record}
-use Rattle.rules.specs.Time.{tenths}
+use Rattle.base.specs.Time.{tenths}
 use Rattle.rules.specs.Phases.{litAt, atDeadline, setOn}
 use Rattle.rules.specs.Orders.{on, timedStart, offAfterDelay, off, nightFalls, held, settle, byMode, switch, timed, nightMode, forced, locked, unlockingOutput, unlocked, lockDevice, order}
 use Rattle.rules.specs.Barriers.{rows, rowOf, firstBarrier, barrier}

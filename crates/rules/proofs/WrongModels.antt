@@ -14,7 +14,7 @@ use Rattle.rules.specs.declared.parameters.Scene.{Scene}
 use Rattle.rules.specs.declared.input.Input.the-variants.{SwitchOnOff}
 use Rattle.rules.specs.declared.state.State.{State}
 use Rattle.rules.specs.declared.record.Record.{Record}
-use Rattle.rules.specs.Parameters.{delay, paramsOf, sceneAt, scenesOf, greatest, numberAbove, badNumber, badFlags, badOctet}
+use Rattle.rules.specs.Parameters.{delay, paramsOf, sceneAt, scenesOf, greatest, numberAbove, badNumber, badFlags, badOctet, lowestBad, checkParameters}
 use Rattle.rules.specs.Inputs.{zeroOrOne, decoded, stampAt, inputAt}
 use Rattle.rules.specs.Phases.{output, litAt, atDeadline}
 use Rattle.rules.specs.Orders.{on, off, nightFalls, switch, nightMode, order}
@@ -22,7 +22,6 @@ use Rattle.rules.specs.Barriers.{rows, rowOf, firstBarrier, barrier}
 use Rattle.rules.specs.Status.{value, recordOf, byItself}
 use Rattle.rules.specs.Steps.{fresh, tickAt, tick, ticked, clockMove, taken, meet, act, step}
 use Rattle.rules.specs.Lists.{Cue, Played, plays, playsTo, playList}
-use Rattle.rules.specs.Refusals.{lowestBad, checkParameters}
 use Rattle.rules.specs.Calls.{leastParams, unused, noScenes}
 use Rattle.rules.specs.Files.{Reading, cues, bad, endTime, parametersIn, layoutRight, readOne, readInputs, readFile, roomy, readCall}
 use Rattle.rules.specs.Runs.{recordsOctets, over, Whole, playFile, accepted, refused, runCall}

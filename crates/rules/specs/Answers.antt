@@ -11,16 +11,21 @@ use Rattle.rules.specs.declared.input.Force.the-variants.{Free, Off, On}
 use Rattle.rules.specs.declared.state.Link.{Link}
 use Rattle.rules.specs.declared.state.Link.the-variants.{Up, BusDown, PowerDown}
 use Rattle.rules.specs.declared.state.State.{State}
+use Rattle.rules.specs.declared.barrier.Why.{Why}
+use Rattle.rules.specs.declared.barrier.Why.the-variants.{NoPower, NoBus, Locked, Forced}
 use Rattle.rules.specs.declared.barrier.Barrier.{Barrier}
-use Rattle.rules.specs.declared.barrier.Barrier.the-variants.{Open, NoPower, NoBus, Locked, Forced}
+use Rattle.rules.specs.declared.barrier.Barrier.the-variants.{Open, Stopped}
 
 -- "Answer octet, first that fits: 5 power down, 4 bus down, 3 lock, 2 force; then 0 if anything but the clock changed after
 -- the due timers had run, else 1." (`same`: nothing but the clock changed)
+abbrev pub stoppedNumber : Why → ℕ
+stoppedNumber NoPower = 5
+stoppedNumber NoBus = 4
+stoppedNumber Locked = 3
+stoppedNumber Forced = 2
+
 abbrev pub answer : Barrier → Bool → ℕ
-answer NoPower same = 5
-answer NoBus same = 4
-answer Locked same = 3
-answer Forced same = 2
+answer (Stopped why) same = stoppedNumber why
 answer Open same = cond same 1 0
 
 -- ---- nothing but the clock differs: proofs/Answers.antt shows that this is equality of all the rest

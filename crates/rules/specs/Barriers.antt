@@ -9,26 +9,15 @@ use Rattle.rules.specs.declared.state.Link.{Link}
 use Rattle.rules.specs.declared.state.Link.the-variants.{Up, BusDown, PowerDown}
 use Rattle.rules.specs.declared.state.State.{State}
 use Rattle.rules.specs.declared.barrier.Row.{Row}
+use Rattle.rules.specs.declared.barrier.Why.the-variants.{NoPower, NoBus, Locked, Forced}
 use Rattle.rules.specs.declared.barrier.Barrier.{Barrier}
-use Rattle.rules.specs.declared.barrier.Barrier.the-variants.{Open, NoPower, NoBus, Locked, Forced}
+use Rattle.rules.specs.declared.barrier.Barrier.the-variants.{Open, Stopped}
 use Rattle.rules.specs.Inputs.{kind}
 use Rattle.rules.specs.Orders.{standing}
 
 -- stopped while power is down, while the bus is down, while locked, while forced
 abbrev pub row : Bool → Bool → Bool → Bool → Row
-row power bus lock force = (power, bus, lock, force)
-
-abbrev pub byPower : Row → Bool
-byPower r = r .0
-
-abbrev pub byBus : Row → Bool
-byBus r = r .1
-
-abbrev pub byLock : Row → Bool
-byLock r = r .2
-
-abbrev pub byForce : Row → Bool
-byForce r = r .3
+row power bus lock force = record { power = power; bus = bus; lock = lock; force = force }
 
 -- "Document 004 lets SwitchOnOffForced override the low inputs: switch, timed, scene, night. Lock stands above force (our
 -- reading). What stops each kind is kept as one table of eight rows that names the barriers of that kind: power down stops 1 to 7;
@@ -63,10 +52,10 @@ busDown PowerDown = false
 -- the first of these barriers that stands: "Answer octet, first that fits: 5 power down, 4 bus down, 3 lock, 2 force"
 unfoldable pub firstBarrier : Row → Link → Bool → Force → Barrier
 firstBarrier r link lock force =
-    cond (byPower r && powerDown link) NoPower
-    (cond (byBus r && busDown link) NoBus
-    (cond (byLock r && lock) Locked
-    (cond (byForce r && standing force) Forced Open)))
+    cond (r .power && powerDown link) (Stopped NoPower)
+    (cond (r .bus && busDown link) (Stopped NoBus)
+    (cond (r .lock && lock) (Stopped Locked)
+    (cond (r .force && standing force) (Stopped Forced) Open)))
 
 -- the first barrier that an input meets in a state
 unfoldable pub barrier : State → Input → Barrier

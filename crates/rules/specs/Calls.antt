@@ -9,19 +9,19 @@ use Rattle.rules.specs.declared.input.Decoded.{Decoded}
 use Rattle.rules.specs.declared.input.Decoded.the-variants.{Meant, Wrong}
 use Rattle.rules.specs.declared.state.State.{State}
 use Rattle.rules.specs.declared.record.Record.{Record}
-use Rattle.rules.specs.declared.refusal.Refusal.{Refusal}
-use Rattle.rules.specs.declared.refusal.Refusal.the-variants.{BadInput, BadStamp, UnsoundState}
-use Rattle.rules.specs.declared.refusal.Check.{Check}
-use Rattle.rules.specs.declared.refusal.Check.the-variants.{Passed, Refused}
+use Rattle.base.specs.declared.refusal.Refusal.{Refusal}
+use Rattle.base.specs.declared.refusal.Refusal.the-variants.{BadInput, BadStamp, UnsoundState}
+use Rattle.base.specs.declared.refusal.Check.{Check}
+use Rattle.base.specs.declared.refusal.Check.the-variants.{Passed, Refused}
 use Rattle.rules.specs.declared.call.Fresh.{Fresh}
 use Rattle.rules.specs.declared.call.Single.{Single}
 use Rattle.rules.specs.declared.call.Move.{Move}
-use Rattle.rules.specs.Time.{tenths}
-use Rattle.rules.specs.Parameters.{paramsOf, scenesOf}
+use Rattle.base.specs.Time.{tenths}
+use Rattle.rules.specs.Parameters.{paramsOf, scenesOf, checkParameters}
 use Rattle.rules.specs.Inputs.{inputAt, stampAt}
 use Rattle.rules.specs.Steps.{Moved, Stepped, fresh, clockMove, step}
 use Rattle.rules.specs.Soundness.{sound}
-use Rattle.rules.specs.Refusals.{number, checkParameters, stampInRange}
+use Rattle.base.specs.Refusals.{number, stampInRange}
 
 -- ---- the fresh state from parameters alone
 

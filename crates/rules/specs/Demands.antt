@@ -16,7 +16,7 @@ use Rattle.rules.specs.Parameters.{paramsOf, scenesOf}
 use Rattle.rules.specs.Status.{sameStatus}
 use Rattle.rules.specs.Steps.{fresh, tick, clockMove, step}
 use Rattle.rules.specs.Lists.{Cue, cue, Played}
-use Rattle.rules.specs.Refusals.{number}
+use Rattle.base.specs.Refusals.{number}
 use Rattle.rules.specs.Calls.{ownState, places}
 use Rattle.rules.specs.Files.{Reading, cues, bad, parametersIn, endTime, readCall}
 use Rattle.rules.specs.Runs.{recordsOctets, over, Whole, playFile}

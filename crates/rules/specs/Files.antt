@@ -7,15 +7,14 @@ use lib.Dec.{eqb, leb}
 use Rattle.octets.specs.BigEndian.{be16, be32}
 use Rattle.rules.specs.declared.input.Decoded.{Decoded}
 use Rattle.rules.specs.declared.input.Decoded.the-variants.{Meant, Wrong}
-use Rattle.rules.specs.declared.refusal.Refusal.{Refusal}
-use Rattle.rules.specs.declared.refusal.Refusal.the-variants.{WrongLength, WrongVersion, WrongActuators, WrongLayout, BadInput, BadStamp, ShortBuffer}
-use Rattle.rules.specs.declared.refusal.Check.{Check}
-use Rattle.rules.specs.declared.refusal.Check.the-variants.{Passed, Refused}
-use Rattle.rules.specs.Time.{lastStamp}
-use Rattle.rules.specs.Parameters.{parametersLength}
+use Rattle.base.specs.declared.refusal.Refusal.{Refusal}
+use Rattle.base.specs.declared.refusal.Refusal.the-variants.{WrongLength, WrongVersion, WrongActuators, WrongLayout, BadInput, BadStamp, ShortBuffer}
+use Rattle.base.specs.declared.refusal.Check.{Check}
+use Rattle.base.specs.declared.refusal.Check.the-variants.{Passed, Refused}
+use Rattle.base.specs.Time.{lastStamp}
+use Rattle.rules.specs.Parameters.{parametersLength, checkParameters}
 use Rattle.rules.specs.Inputs.{inputAt, stampAt}
 use Rattle.rules.specs.Lists.{Cue, cue}
-use Rattle.rules.specs.Refusals.{checkParameters}
 
 -- ---- "Header, 20 octets of counts and offsets"
 

@@ -1,5 +1,4 @@
 -- The rules, one topic to a file, in the order of document 01.
-pub mod Time
 pub mod Parameters
 pub mod Inputs
 pub mod Phases
@@ -13,7 +12,6 @@ pub mod Status
 pub mod Calls
 pub mod Files
 pub mod Runs
-pub mod Refusals
 pub mod Soundness
 pub mod Promises
 pub mod Demands

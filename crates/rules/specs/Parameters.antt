@@ -2,12 +2,15 @@
 use Prim.Native.Nat.{ℕ, zero, suc, _+_, _-_, _*_, _/_, _%_}
 use mathlib.Core.Bool.{Bool, false, cond, not, _&&_, _||_}
 use mathlib.Core.List.{List, [], _∷_}
-use lib.ListN.{getD}
+use lib.ListN.{length, getD}
 use lib.Dec.{eqb, leb, ltb}
 use Rattle.octets.specs.BigEndian.{octet, be16}
 use Rattle.rules.specs.declared.parameters.Params.{Params}
 use Rattle.rules.specs.declared.parameters.Scene.{Scene}
-use Rattle.rules.specs.Time.{tenths, longestDelay}
+use Rattle.base.specs.declared.refusal.Refusal.the-variants.{WrongLength, BadParameter}
+use Rattle.base.specs.declared.refusal.Check.{Check}
+use Rattle.base.specs.declared.refusal.Check.the-variants.{Passed, Refused}
+use Rattle.base.specs.Time.{tenths, longestDelay}
 
 -- 01, "Time and the cue file": "Parameters, 32 octets"
 abbrev pub parametersLength : ℕ
@@ -87,6 +90,17 @@ badOctet octets at =
     (cond (ltb at 16) (ltb (getD greatest (at - 8) 0) (octet octets at))
     (cond (eqb (at % 2) 0) (badNumber octets ((at - 16) / 2))
     (badFlags octets ((at - 16) / 2))))
+
+-- ---- what parameters are refused for: 1, then 5 (01, "Refusal numbers")
+
+-- "lowest bad octet": of this many octets, from this place on
+unfoldable pub lowestBad : List ℕ → ℕ → ℕ → Check
+lowestBad octets zero at = Passed
+lowestBad octets (suc left) at = cond (badOctet octets at) (Refused BadParameter at) (lowestBad octets left (at + 1))
+
+-- "1 .. parameters offered alone not 32"; "5 parameter out of range: lowest bad octet in 0-31"
+unfoldable pub checkParameters : List ℕ → Check
+checkParameters octets = cond (eqb (length octets) parametersLength) (lowestBad octets parametersLength 0) (Refused WrongLength 0)
 
 -- ---- the same ranges, of parameters that a state holds
 

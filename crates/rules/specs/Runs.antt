@@ -3,11 +3,11 @@ use Prim.Native.Nat.{ℕ, _+_, _*_, _^_, _/_, _%_}
 use mathlib.Core.List.{List, [], _∷_, _++_}
 use lib.ListN.{length, drop}
 use Rattle.rules.specs.declared.record.Record.{Record}
-use Rattle.rules.specs.declared.refusal.Refusal.{Refusal}
+use Rattle.base.specs.declared.refusal.Refusal.{Refusal}
 use Rattle.rules.specs.declared.call.Ran.{Ran}
 use Rattle.rules.specs.Parameters.{paramsOf, scenesOf}
 use Rattle.rules.specs.Lists.{Cue, Played, playList}
-use Rattle.rules.specs.Refusals.{number}
+use Rattle.base.specs.Refusals.{number}
 use Rattle.rules.specs.Calls.{ownState}
 use Rattle.rules.specs.Files.{Reading, cues, bad, parametersIn, endTime, readCall}
 

@@ -10,7 +10,7 @@ use Rattle.rules.specs.declared.input.Force.{Force}
 use Rattle.rules.specs.declared.input.Force.the-variants.{Free, Off, On}
 use Rattle.rules.specs.declared.state.Link.{Link}
 use Rattle.rules.specs.declared.state.State.{State}
-use Rattle.rules.specs.Time.{lastStamp, longestDelay}
+use Rattle.base.specs.Time.{lastStamp, longestDelay}
 use Rattle.rules.specs.Parameters.{paramsInRange}
 use Rattle.rules.specs.Scenes.{scenesInRange}
 use Rattle.rules.specs.Phases.{deadline}

@@ -14,7 +14,7 @@ use Rattle.rules.specs.declared.input.Input.{Input}
 use Rattle.rules.specs.declared.state.Link.the-variants.{Up}
 use Rattle.rules.specs.declared.state.State.{State}
 use Rattle.rules.specs.declared.barrier.Barrier.{Barrier}
-use Rattle.rules.specs.declared.barrier.Barrier.the-variants.{Open, NoPower, NoBus, Locked, Forced}
+use Rattle.rules.specs.declared.barrier.Barrier.the-variants.{Open, Stopped}
 use Rattle.rules.specs.declared.record.Record.{Record}
 use Rattle.rules.specs.Inputs.{kind}
 use Rattle.rules.specs.Phases.{deadline, atDeadline}
@@ -86,10 +86,7 @@ taken m i after =
 -- "A stopped input is dropped for good; every other is taken, though it may change nothing."
 unfoldable pub meet : Barrier → Moved → Input → Stepped
 meet Open m i = taken m i (order (m .state) i)
-meet NoPower m i = record { state = m .state; answer = answer NoPower true; records = m .records }
-meet NoBus m i = record { state = m .state; answer = answer NoBus true; records = m .records }
-meet Locked m i = record { state = m .state; answer = answer Locked true; records = m .records }
-meet Forced m i = record { state = m .state; answer = answer Forced true; records = m .records }
+meet (Stopped why) m i = record { state = m .state; answer = answer (Stopped why) true; records = m .records }
 
 unfoldable pub act : Moved → Input → Stepped
 act m i = meet (barrier (m .state) i) m i

@@ -6,5 +6,4 @@ pub mod input;
 pub mod parameters;
 pub mod phase;
 pub mod record;
-pub mod refusal;
 pub mod state;

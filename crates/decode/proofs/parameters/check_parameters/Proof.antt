@@ -1,4 +1,4 @@
-use Rattle.rules.specs.Refusals.{checkParameters}
+use Rattle.rules.specs.Parameters.{checkParameters}
 use borrow.Author.Tests.{eq-eqb, ne-eqb}
 use borrow.Author.Needs.{needs}
 use Rattle.decode.proofs.parameters.check_parameters.Statement.{statement}

@@ -3,7 +3,7 @@ use mathlib.Core.Path.{_≡_, sym, _∙_}
 use native.Mathlib.Omega.{arith}
 use borrow.Author.Tests.{lt-ltb, le-ltb}
 use borrow.Author.Needs.{needs}
-use Rattle.rules.specs.Refusals.{lowestBad}
+use Rattle.rules.specs.Parameters.{lowestBad}
 use Rattle.decode.proofs.Loops.{mode-step}
 use Rattle.decode.proofs.range.lowest_bad_from_modes.Statement.{statement}
 use Rattle.decode.proofs.range.lowest_bad_from_modes.Tie as tie

@@ -2,7 +2,7 @@ use Prim.Native.Nat.{_+_, _-_, _*_, _≤_}
 use mathlib.Core.Path.{_≡_, sym, _∙_}
 use native.Mathlib.Omega.{arith}
 use borrow.Author.Needs.{needs}
-use Rattle.rules.specs.Refusals.{lowestBad}
+use Rattle.rules.specs.Parameters.{lowestBad}
 use Rattle.decode.proofs.Loops.{entry-step, entries-end}
 use Rattle.decode.proofs.range.lowest_bad_from_scenes.Statement.{statement}
 use Rattle.decode.proofs.range.lowest_bad_from_scenes.Tie as tie

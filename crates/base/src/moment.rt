@@ -1,7 +1,9 @@
 // Moments, in tenths of a second.
 ghost use mathlib.Core.Path.{_≡_};
 ghost use Prim.Native.Nat.{_+_, _≤_};
-ghost use Rattle.rules.specs.Time.{earlier};
+ghost use Rattle.base.specs.Time.{earlier};
+ghost use Rattle.base.specs.Refusals.{stampInRange};
+use crate::logic::both;
 
 // A moment, and a delay after it.
 pub fn later(t: u32, delay: u32) -> u32
@@ -16,4 +18,13 @@ pub fn earlier_of(a: u32, b: u32) -> u32
     ensures { λ r. ⌜ r ≡ earlier a b ⌝ }
 {
     if a <= b { a } else { b }
+}
+
+// A stamp is not below the clock and not past the last stamp.
+pub fn stamp_in_range(clock: u32, stamp: u32) -> bool
+    ensures { λ r. ⌜ r ≡ stampInRange clock stamp ⌝ }
+{
+    let risen = clock <= stamp;
+    let timely = stamp <= 864000;
+    both(risen, timely)
 }

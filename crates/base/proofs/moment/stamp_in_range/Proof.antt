@@ -1,7 +1,7 @@
-use Rattle.rules.specs.Refusals.{stampInRange}
+use Rattle.base.specs.Refusals.{stampInRange}
 use borrow.Author.Needs.{needs}
-use Rattle.live.proofs.stamp.stamp_in_range.Statement.{statement}
-use Rattle.live.proofs.stamp.stamp_in_range.Tie as tie
+use Rattle.base.proofs.moment.stamp_in_range.Statement.{statement}
+use Rattle.base.proofs.moment.stamp_in_range.Tie as tie
 
 returns : tie.Need-returns
 unfolding stampInRange

@@ -1,0 +1,3 @@
+-- What the actuator and every sensor beside it share: time, and the table of refusal numbers.
+pub mod Time
+pub mod Refusals
