@@ -13,9 +13,9 @@ use Rattle.rules.specs.Phases.{deadline}
 use Rattle.rules.specs.Status.{byItself, value, attributes, sameStatus, recordOf}
 use Rattle.rules.specs.Steps.{atMoment, tick, clockMove}
 use Rattle.rules.specs.Steps as steps
-use Rattle.rules.proofs.Ticks.{Quiet, tick-case}
-use Rattle.rules.proofs.Timers.{no-timer-due-no-move}
-use Rattle.rules.proofs.Soundness.{move-keeps}
+use Rattle.rules.proofs.Laws.Steps.{Quiet, tick-case}
+use Rattle.rules.proofs.Laws.Timers.{no-timer-due-no-move}
+use Rattle.rules.proofs.Laws.Soundness.{move-keeps}
 use Rattle.orders.specs.declared.lamp.Lamp.{Lamp}
 use Rattle.orders.specs.Lamps.{lampOf, stateOf, alone}
 use Rattle.actuator.specs.declared.clock.Ticked.{Ticked}

@@ -12,8 +12,8 @@ use Rattle.rules.specs.Phases.{deadline}
 use Rattle.rules.specs.Answers.{due}
 use Rattle.rules.specs.Steps.{clockMove}
 use Rattle.rules.specs.Soundness.{sound}
-use Rattle.rules.proofs.Deadlines.{times-bounded, due-is}
-use Rattle.rules.proofs.Soundness.{sound-view, due-bounded, move-is-sound}
+use Rattle.rules.proofs.Laws.Deadlines.{times-bounded, due-is}
+use Rattle.rules.proofs.Laws.Soundness.{sound-view, due-bounded, move-is-sound}
 use Rattle.phases.specs.Room.{Room, Roomy}
 
 -- at an earlier moment

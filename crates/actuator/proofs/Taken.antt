@@ -16,10 +16,10 @@ use Rattle.rules.specs.Barriers.{barrier}
 use Rattle.rules.specs.Status.{sameStatus, recordOf, written}
 use Rattle.rules.specs.Steps.{Stepped, atMoment, clockMove, taken, meet, act, step}
 use Rattle.rules.specs.Lists.{Played}
-use Rattle.rules.proofs.Orders.{order-keeps}
-use Rattle.rules.proofs.Soundness.{move-keeps}
-use Rattle.rules.proofs.Records.{a-move-writes-at-most-two, one-record-at-most}
-use Rattle.rules.proofs.Plays.{still, acts-after-the-move}
+use Rattle.rules.proofs.Laws.Orders.{order-keeps}
+use Rattle.rules.proofs.Laws.Soundness.{move-keeps}
+use Rattle.rules.proofs.Laws.Records.{a-move-writes-at-most-two, one-record-at-most}
+use Rattle.rules.proofs.Laws.Lists.{still, acts-after-the-move}
 use Rattle.orders.specs.declared.lamp.Lamp.{Lamp}
 use Rattle.orders.specs.Lamps.{lampOf, stateOf, alone, teaches}
 use Rattle.orders.proofs.Lamps.{only-a-lesson-teaches}

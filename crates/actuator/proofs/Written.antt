@@ -9,7 +9,7 @@ use Rattle.rules.specs.declared.state.State.{State}
 use Rattle.rules.specs.declared.record.Record.{Record}
 use Rattle.rules.specs.Status.{sameStatus, recordOf, written, byItself}
 use Rattle.rules.specs.Calls.{places}
-use Rattle.rules.proofs.Records.{one-record-at-most}
+use Rattle.rules.proofs.Laws.Records.{one-record-at-most}
 use Rattle.actuator.specs.Notes.{notes, noNotes, noteOf, added, firstOf}
 use Rattle.actuator.specs.declared.notes.Note.the-variants.{Silent, Wrote}
 

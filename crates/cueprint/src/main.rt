@@ -6,16 +6,16 @@ ghost use lib.ListN.{length};
 ghost use mathlib.Core.Path.{_≡_};
 ghost use Rattle.rules.specs.Files.{inputCount};
 use actuator::status::record_of;
+use base::refusal::Check;
+use base::refusal::number_of;
 use cues::check::check_file;
 use cues::header::end_time;
 use cues::header::input_count;
-use base::refusal::number_of;
 use live::clock::clock_move;
 use live::fresh::fresh_state;
 use live::single::single_input;
 use orders::lamp::lamp_of;
 use rules::record::Record;
-use base::refusal::Check;
 use rules::state::State;
 
 // R: stamp, value, attributes, cause.

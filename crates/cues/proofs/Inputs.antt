@@ -13,7 +13,8 @@ use Rattle.base.specs.declared.refusal.Check.{Check}
 use Rattle.base.specs.declared.refusal.Check.the-variants.{Passed, Refused}
 use Rattle.rules.specs.Inputs.{inputAt, stampAt}
 use Rattle.rules.specs.Lists.{cue}
-use Rattle.rules.specs.Files.{Reading, cues, bad, before, inputPlace, readOne, readInputs}
+use Rattle.rules.specs.Layout.{inputPlace}
+use Rattle.rules.specs.Files.{Reading, cues, bad, before, readOne, readInputs}
 use Rattle.decode.specs.Meaning.{isMeant}
 use Rattle.cues.specs.Verdict.{verdict, checkOne}
 

@@ -11,12 +11,12 @@ use crate::header::end_time;
 use crate::header::input_count;
 use crate::header::layout_is_right;
 use crate::header::version_of;
-use decode::input::is_input_at;
-use decode::input::stamp_at;
-use decode::parameters::check_parameters;
 use base::logic::both;
 use base::refusal::Check;
 use base::refusal::Refusal;
+use decode::input::is_input_at;
+use decode::input::stamp_at;
+use decode::parameters::check_parameters;
 
 // The parameters of a file.
 fn check_parameters_in(file: &[u8]) -> Check

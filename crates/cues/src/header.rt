@@ -4,9 +4,9 @@ ghost use Prim.Native.Nat.{_+_, _*_, _≤_};
 ghost use lib.Dec.{eqb};
 ghost use lib.ListN.{length};
 ghost use Rattle.rules.specs.Files.{version, actuators, inputCount, endTime, layoutRight};
+use base::logic::both;
 use octets::read16;
 use octets::read32;
-use base::logic::both;
 
 pub fn version_of(file: &[u8]) -> u32
     requires { ⌜ 52 ≤ length (now file) ⌝ }

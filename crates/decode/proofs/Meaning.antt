@@ -12,8 +12,8 @@ use Rattle.rules.specs.declared.input.Input.the-variants.{NumberedSceneControl,
 use Rattle.rules.specs.declared.input.Decoded.{Decoded}
 use Rattle.rules.specs.declared.input.Decoded.the-variants.{Meant, Wrong}
 use Rattle.rules.specs.Inputs.{zeroOrOne, sceneMeant, forceMeant, decoded, inputAt}
-use Rattle.rules.proofs.Tests.{cond-case, either-way, no}
-use Rattle.rules.proofs.Inputs.{no-other-kind}
+use Rattle.base.proofs.Tests.{cond-case, either-way, no}
+use Rattle.rules.proofs.Laws.Inputs.{no-other-kind}
 use Rattle.decode.specs.Meaning.{isMeant, forceOf}
 
 bit-is-meant : (value : ℕ) (off on : Input) → value ≤ 1 → isMeant (zeroOrOne value off on) ≡ true

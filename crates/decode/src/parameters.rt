@@ -4,11 +4,11 @@ ghost use Prim.Native.Nat.{_+_, _≤_};
 ghost use lib.ListN.{length};
 ghost use Rattle.rules.specs.Parameters.{delay, paramsOf, sceneAt, scenesOf, checkParameters};
 use crate::range::lowest_bad;
+use base::refusal::Check;
+use base::refusal::Refusal;
 use octets::read16;
 use rules::parameters::Params;
 use rules::parameters::Scene;
-use base::refusal::Check;
-use base::refusal::Refusal;
 
 // Whether octets offered as parameters are accepted: first their length, then the lowest octet that is out of range.
 pub fn check_parameters(octets: &[u8]) -> Check

@@ -7,10 +7,10 @@ ghost use lib.ListN.{length, getD};
 ghost use Rattle.base.specs.declared.refusal.Refusal.the-variants.{BadParameter};
 ghost use Rattle.base.specs.declared.refusal.Check.the-variants.{Refused};
 ghost use Rattle.rules.specs.Parameters.{greatest, numberAbove, badNumber, badFlags, lowestBad};
-use octets::read16;
 use base::logic::negated;
 use base::refusal::Check;
 use base::refusal::Refusal;
+use octets::read16;
 
 // The greatest value of each of the octets 8 to 15: five modes, the learning mode, two octets that are zero.
 const GREATEST: [u8; 8] = [2, 3, 2, 2, 2, 1, 0, 0];

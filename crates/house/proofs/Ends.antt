@@ -13,10 +13,9 @@ use Rattle.rules.specs.Status.{value, attributes, recordOf}
 use Rattle.rules.specs.Lists.{Played, plays, playsTo, playList}
 use Rattle.rules.specs.Files.{endTime, parametersIn}
 use Rattle.rules.specs.Runs.{recordOctets, recordsOctets, playFile}
-use Rattle.rules.proofs.Accepted.{passed-is-sound}
-use Rattle.rules.proofs.Records.{a-move-writes-at-most-two, used-places}
-use Rattle.rules.proofs.CueFiles.{good-file, good-start}
-use Rattle.rules.proofs.Joined.{parameters-small}
+use Rattle.rules.proofs.Laws.Parameters.{passed-is-sound}
+use Rattle.rules.proofs.Laws.Records.{a-move-writes-at-most-two, used-places}
+use Rattle.rules.proofs.Files.Files.{good-file, good-start, parameters-small}
 use Rattle.actuator.specs.declared.clock.Ticked.{Ticked}
 use Rattle.actuator.specs.Notes.{notes, ticked}
 use Rattle.orders.specs.Lamps.{lampOf, stateOf, alone}

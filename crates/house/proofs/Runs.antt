@@ -13,8 +13,8 @@ use Rattle.base.specs.declared.refusal.Refusal.the-variants.{ShortBuffer}
 use Rattle.base.specs.declared.refusal.Check.the-variants.{Passed, Refused}
 use Rattle.rules.specs.Files.{Reading, cues, bad, inputCount, readFile, roomy}
 use Rattle.rules.specs.Runs.{playFile, accepted, refused, runCall}
-use Rattle.rules.proofs.Tests.{both}
-use Rattle.rules.proofs.RunLaws.{a-bad-file-is-refused, a-short-buffer-is-refused, a-good-file-is-played}
+use Rattle.base.proofs.Tests.{both}
+use Rattle.rules.proofs.Files.Runs.{a-bad-file-is-refused, a-short-buffer-is-refused, a-good-file-is-played}
 use Rattle.cues.specs.Verdict.{verdict}
 use Rattle.house.specs.declared.play.Ended.{Ended}
 use Rattle.house.specs.Playing.{found, listIn, Filled}

@@ -9,7 +9,7 @@ use lib.ListN.{length, take, drop, getD, set, length-append, take-append-drop}
 use lib.Seq.{take-suc, take-at, drop-at, drop-drop, length-take-le, set-at, drop-cons, append-snoc}
 use Rattle.rules.specs.declared.record.Record.{Record}
 use Rattle.rules.specs.Runs.{recordOctets, recordsOctets, over}
-use Rattle.rules.proofs.RunLaws.{records-length}
+use Rattle.rules.proofs.Files.Runs.{records-length}
 use Rattle.house.specs.Splice.{splice}
 
 -- ---- any octets

@@ -12,7 +12,7 @@ use Rattle.rules.specs.declared.input.Decoded.{Decoded}
 use Rattle.rules.specs.declared.input.Decoded.the-variants.{Meant, Wrong}
 use Rattle.rules.specs.Inputs.{stampAt, inputAt}
 use Rattle.rules.specs.Steps.{Stepped, atMoment, clockMove, act, step}
-use Rattle.rules.proofs.Plays.{still, andThen-assoc}
+use Rattle.rules.proofs.Laws.Lists.{still, andThen-assoc}
 use Rattle.decode.specs.Meaning.{isMeant}
 use Rattle.orders.specs.declared.lamp.Lamp.{Lamp}
 use Rattle.orders.specs.Lamps.{lampOf, stateOf, alone}
@@ -27,12 +27,13 @@ use Rattle.rules.specs.declared.state.State.{State}
 use Rattle.rules.specs.declared.record.Record.{Record}
 use Rattle.rules.specs.Soundness.{sound}
 use Rattle.rules.specs.Lists.{Cue, cue, Played, andThen, stepped, plays}
-use Rattle.rules.specs.Files.{cues, endTime, inputPlace, readInputs}
+use Rattle.rules.specs.Layout.{inputPlace}
+use Rattle.rules.specs.Files.{cues, endTime, readInputs}
 use Rattle.rules.specs.Runs.{recordsOctets}
-use Rattle.rules.proofs.Readings.{First, first-read}
-use Rattle.rules.proofs.Inputs.{input-number}
-use Rattle.rules.proofs.Soundness.{step-is-sound, step-clock}
-use Rattle.rules.proofs.Records.{an-input-writes-at-most-three}
+use Rattle.rules.proofs.Files.Readings.{First, first-read}
+use Rattle.rules.proofs.Laws.Inputs.{input-number}
+use Rattle.rules.proofs.Laws.Soundness.{step-is-sound, step-clock}
+use Rattle.rules.proofs.Laws.Records.{an-input-writes-at-most-three}
 use Rattle.house.specs.Splice.{splice}
 use Rattle.house.proofs.Splices.{splice-none, octet-more, records-none, records-more}
 

@@ -8,14 +8,14 @@ ghost use Rattle.house.specs.Reports.{refusal, report, whole, answered};
 use crate::play::Ended;
 use crate::play::play;
 use actuator::fresh::own_state;
+use base::logic::both;
+use base::refusal::Check;
+use base::refusal::Refusal;
+use base::refusal::number_of;
 use cues::check::check_file;
 use cues::header::end_time;
 use cues::header::input_count;
-use base::refusal::number_of;
-use base::logic::both;
 use rules::call::Ran;
-use base::refusal::Check;
-use base::refusal::Refusal;
 
 fn refused(why: Refusal, place: u16) -> Ran
     ensures { λ r. ⌜ r ≡ refusal why place ⌝ }

@@ -8,7 +8,7 @@ use Rattle.base.specs.declared.refusal.Check.the-variants.{Passed}
 use Rattle.rules.specs.Steps.{Moved, Stepped}
 use Rattle.rules.specs.Parameters.{checkParameters}
 use Rattle.rules.specs.Calls.{blank, places, singleDone, moveDone}
-use Rattle.rules.proofs.Accepted.{lowest-bad-octet}
+use Rattle.rules.proofs.Laws.Parameters.{lowest-bad-octet}
 use Rattle.actuator.specs.Notes.{notes, clocked, acted}
 use Rattle.live.specs.ByValue.{singleOf, moveOf}
 

@@ -3,12 +3,12 @@ ghost use mathlib.Core.Path.{_≡_};
 ghost use Rattle.rules.specs.Calls.{freshCall};
 use actuator::fresh::fresh_with;
 use actuator::fresh::own_state;
+use base::refusal::Check;
+use base::refusal::number_of;
 use decode::parameters::check_parameters;
 use decode::parameters::params_of;
 use decode::parameters::scenes_of;
-use base::refusal::number_of;
 use rules::call::Fresh;
-use base::refusal::Check;
 
 // Any octets: 32 that are in range give the fresh state, all others a refusal with its place and its own state.
 pub fn fresh_state(octets: &[u8]) -> Fresh

@@ -6,18 +6,18 @@ ghost use Rattle.rules.specs.Steps.{step};
 ghost use Rattle.base.specs.Refusals.{stampInRange};
 ghost use Rattle.rules.specs.Calls.{singleDone, singleRefused, singleCall};
 ghost use Rattle.live.specs.ByValue.{singleOf};
-use base::moment::stamp_in_range;
 use actuator::notes;
 use actuator::sound::is_sound;
 use actuator::step::Acted;
 use actuator::step::step_input;
+use base::moment::stamp_in_range;
+use base::refusal::Refusal;
+use base::refusal::number_of;
 use decode::input::input_at;
 use decode::input::stamp_at;
-use base::refusal::number_of;
 use rules::call::Single;
 use rules::input::Decoded;
 use rules::input::Input;
-use base::refusal::Refusal;
 use rules::state::State;
 
 // Eight octets: the state, answer and records that the input gives, or a refusal that hands back the state it was given.

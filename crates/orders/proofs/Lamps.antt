@@ -14,8 +14,8 @@ use Rattle.rules.specs.declared.state.State.{State}
 use Rattle.rules.specs.Phases.{output}
 use Rattle.rules.specs.Scenes.{recalled, learnt}
 use Rattle.rules.specs.Orders.{withScenes, switch, recall, learn, scene, order}
-use Rattle.rules.proofs.Tests.{no}
-use Rattle.rules.proofs.Orders.{other-kinds-keep-scenes}
+use Rattle.base.proofs.Tests.{no}
+use Rattle.rules.proofs.Laws.Orders.{other-kinds-keep-scenes}
 use Rattle.orders.specs.declared.lamp.Lamp.{Lamp}
 use Rattle.orders.specs.Lamps.{lampOf, stateOf, teaches}
 

@@ -12,7 +12,8 @@ use Rattle.base.specs.declared.refusal.Refusal.the-variants.{WrongLength, Wrong
 use Rattle.base.specs.declared.refusal.Check.{Check}
 use Rattle.base.specs.declared.refusal.Check.the-variants.{Passed, Refused}
 use Rattle.base.specs.Time.{lastStamp}
-use Rattle.rules.specs.Parameters.{parametersLength, checkParameters}
+use Rattle.rules.specs.Layout.{parametersAt, parametersSize, inputsAt, mostInputs, inputPlace, recordsRoom}
+use Rattle.rules.specs.Parameters.{checkParameters}
 use Rattle.rules.specs.Inputs.{inputAt, stampAt}
 use Rattle.rules.specs.Lists.{Cue, cue}
 
@@ -38,19 +39,15 @@ inputsOffset file = be32 file 12
 abbrev pub endTime : List ℕ → ℕ
 endTime file = be32 file 16
 
--- where input i stands: eight octets each, from 52 on
-abbrev pub inputPlace : ℕ → ℕ
-inputPlace i = 52 + 8 * i
-
--- the 32 octets of the parameters, from 20 on
+-- the octets of the parameters
 unfoldable pub parametersIn : List ℕ → List ℕ
-parametersIn file = take parametersLength (drop 20 file)
+parametersIn file = take parametersSize (drop parametersAt file)
 
 -- "4 an offset, n, the length or the end time is not as above" ("The file is exactly 52+8n octets.")
 unfoldable pub layoutRight : List ℕ → Bool
 layoutRight file =
-    (eqb (parametersOffset file) 20 && leb (inputCount file) 2048) &&
-    (eqb (inputsOffset file) 52 && leb (endTime file) lastStamp) &&
+    (eqb (parametersOffset file) parametersAt && leb (inputCount file) mostInputs) &&
+    (eqb (inputsOffset file) inputsAt && leb (endTime file) lastStamp) &&
     eqb (length file) (inputPlace (inputCount file))
 
 -- ---- the inputs
@@ -85,7 +82,7 @@ afterCheck (Refused why place) reading = bad why place
 unfoldable pub readFile : List ℕ → Reading
 readFile file =
     let inputs : Reading = readInputs file (inputCount file) 0 0 (endTime file) in
-    cond (leb 52 (length file))
+    cond (leb inputsAt (length file))
     (cond (eqb (version file) 1)
     (cond (eqb (actuators file) 1)
     (cond (layoutRight file) (afterCheck (checkParameters (parametersIn file)) inputs)
@@ -97,7 +94,7 @@ readFile file =
 -- ---- the lent buffers: "records, at least 8(3n+3) octets, and answers, at least n"
 
 unfoldable pub roomy : List ℕ → List ℕ → List ℕ → Bool
-roomy file records answers = leb (8 * (3 * inputCount file + 3)) (length records) && leb (inputCount file) (length answers)
+roomy file records answers = leb (recordsRoom (inputCount file)) (length records) && leb (inputCount file) (length answers)
 
 -- "then 8": "a lent buffer too short"
 abbrev pub ifRoomy : Bool → Reading → Reading

@@ -1,4 +1,5 @@
 -- The rules, one topic to a file, in the order of document 01.
+pub mod Layout
 pub mod Parameters
 pub mod Inputs
 pub mod Phases
@@ -14,4 +15,3 @@ pub mod Files
 pub mod Runs
 pub mod Soundness
 pub mod Promises
-pub mod Demands

@@ -11,10 +11,7 @@ use Rattle.base.specs.declared.refusal.Refusal.the-variants.{WrongLength, BadPa
 use Rattle.base.specs.declared.refusal.Check.{Check}
 use Rattle.base.specs.declared.refusal.Check.the-variants.{Passed, Refused}
 use Rattle.base.specs.Time.{tenths, longestDelay}
-
--- 01, "Time and the cue file": "Parameters, 32 octets"
-abbrev pub parametersLength : ℕ
-parametersLength = 32
+use Rattle.rules.specs.Layout.{parametersSize}
 
 -- "0-1 OnDelay; 2-3 OffDelay; 4-5 TimedOnDuration, 1 or more; 6-7 PrewarningDuration": a delay, read as tenths
 unfoldable pub delay : List ℕ → ℕ → ℕ
@@ -100,7 +97,7 @@ lowestBad octets (suc left) at = cond (badOctet octets at) (Refused BadParameter
 
 -- "1 .. parameters offered alone not 32"; "5 parameter out of range: lowest bad octet in 0-31"
 unfoldable pub checkParameters : List ℕ → Check
-checkParameters octets = cond (eqb (length octets) parametersLength) (lowestBad octets parametersLength 0) (Refused WrongLength 0)
+checkParameters octets = cond (eqb (length octets) parametersSize) (lowestBad octets parametersSize 0) (Refused WrongLength 0)
 
 -- ---- the same ranges, of parameters that a state holds
 

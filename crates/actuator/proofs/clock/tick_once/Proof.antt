@@ -1,6 +1,6 @@
 use Rattle.actuator.proofs.Rooms.{due-room}
-use Rattle.rules.proofs.Timers.{each-timer-at-its-own-moment}
-use Rattle.rules.proofs.Ticks.{tick-rests}
+use Rattle.rules.proofs.Laws.Timers.{each-timer-at-its-own-moment}
+use Rattle.rules.proofs.Laws.Steps.{tick-rests}
 use Rattle.orders.specs.Lamps.{lampOf, stateOf}
 use Rattle.rules.specs.declared.state.State.{State}
 use native.Mathlib.Omega.{arith}

@@ -1,4 +1,4 @@
-use Rattle.rules.proofs.Answers.{scenes-same}
+use Rattle.rules.proofs.Laws.Answers.{scenes-same}
 use Rattle.orders.proofs.Lamps.{only-a-lesson-teaches}
 use mathlib.Core.Path.{sym, _∙_}
 use borrow.Author.Needs.{needs}

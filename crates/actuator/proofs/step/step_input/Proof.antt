@@ -1,7 +1,7 @@
 use Rattle.actuator.specs.Notes.{notes, ticked}
 use Rattle.actuator.proofs.Taken.{step-by-parts}
 use Rattle.actuator.proofs.Rooms.{sound-room, moved-roomy}
-use Rattle.rules.proofs.Records.{a-move-writes-at-most-two}
+use Rattle.rules.proofs.Laws.Records.{a-move-writes-at-most-two}
 use borrow.Author.Needs.{needs}
 use Rattle.actuator.proofs.step.step_input.Statement.{statement}
 use Rattle.actuator.proofs.step.step_input.Tie as tie

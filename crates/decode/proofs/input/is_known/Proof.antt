@@ -1,6 +1,6 @@
 use mathlib.Core.Path.{sym, ap}
 use native.Mathlib.Omega.{arith}
-use Rattle.rules.proofs.Inputs.{no-other-kind}
+use Rattle.rules.proofs.Laws.Inputs.{no-other-kind}
 use Rattle.decode.specs.Meaning.{isMeant}
 use Rattle.decode.proofs.Meaning.{takes-bit, takes-no-more, scene-value, force-value}
 use Rattle.decode.proofs.input.is_known.Statement.{statement}

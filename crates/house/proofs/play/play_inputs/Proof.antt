@@ -2,7 +2,7 @@ use Rattle.house.proofs.Turns.{Going, going-first, turn, turn-meant, go
 use Rattle.house.specs.Playing.{Ready}
 use Rattle.actuator.proofs.Rooms.{sound-room, moved-roomy}
 use Rattle.orders.specs.Lamps.{stateOf}
-use Rattle.rules.proofs.Records.{a-move-writes-at-most-two}
+use Rattle.rules.proofs.Laws.Records.{a-move-writes-at-most-two}
 use borrow.Author.Needs.{needs}
 use denote.Ref.{now}
 use native.Mathlib.Omega.{arith}

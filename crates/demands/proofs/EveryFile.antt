@@ -1,0 +1,39 @@
+-- The promises for every octet string that is accepted as a cue file.
+use Prim.Native.Nat.{ℕ, zero, suc, _+_, _≤_}
+use mathlib.Core.List.{List, []}
+use mathlib.Core.Path.{_≡_, sym, _∙_}
+use native.Mathlib.Omega.{arith}
+use Rattle.rules.specs.Parameters.{paramsOf, scenesOf}
+use Rattle.rules.specs.Inputs.{stampAt}
+use Rattle.rules.specs.Lists.{Cue}
+use Rattle.rules.specs.Layout.{inputPlace}
+use Rattle.rules.specs.Files.{cues, inputCount, endTime, parametersIn, readInputs, readFile}
+use Rattle.rules.specs.Promises.{Rises, DarkPromise, LightPromise, StrongLightPromise}
+use Rattle.rules.proofs.Laws.Parameters.{passed-has-some-time}
+use Rattle.rules.proofs.Files.Files.{good-file, good-start}
+use Rattle.rules.proofs.Files.Readings.{first-read}
+use Rattle.rules.proofs.Promises.Dark.{dark}
+use Rattle.rules.proofs.Promises.Light.{strong-light, light}
+
+-- inputs that are read without fault rise
+inputs-rise : (file : List ℕ) (left i last end : ℕ) (list : List Cue) → last ≤ end → readInputs file left i last end ≡ cues list → Rises last list end
+inputs-rise file zero i last end list early read = let none : list ≡ [] = unfold readInputs in cc in rw none early
+inputs-rise file (suc left) i last end list early read =
+    let f = first-read file left i last end list read in
+    rw (f .starts) (f .risen, inputs-rise file left (i + 1) (stampAt file (inputPlace i)) end (f .later) (f .timely) (f .reads))
+
+module _ (file : List ℕ) (list : List Cue) (read : readFile file ≡ cues list) where
+  pub list-rises : Rises 0 list (endTime file)
+  list-rises = inputs-rise file (inputCount file) 0 0 (endTime file) list (omega arith) (sym (good-start file (good-file file list read .start)) ∙ read)
+
+  pub has-some-time : 1 ≤ paramsOf (parametersIn file) .timedon
+  has-some-time = passed-has-some-time (parametersIn file) (good-file file list read .start .passed)
+
+  pub dark-of-every-accepted-file : DarkPromise (paramsOf (parametersIn file)) (scenesOf (parametersIn file)) list (endTime file)
+  dark-of-every-accepted-file = dark _ _ list (endTime file) list-rises
+
+  pub strong-light-of-every-accepted-file : StrongLightPromise (paramsOf (parametersIn file)) (scenesOf (parametersIn file)) list (endTime file)
+  strong-light-of-every-accepted-file = strong-light _ _ list (endTime file) list-rises has-some-time
+
+  pub light-of-every-accepted-file : LightPromise (paramsOf (parametersIn file)) (scenesOf (parametersIn file)) list (endTime file)
+  light-of-every-accepted-file = light _ _ list (endTime file) list-rises has-some-time

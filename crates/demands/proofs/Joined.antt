@@ -1,0 +1,179 @@
+-- The run is the public calls by value, joined in order: the fresh state of the file's parameters, a start record, a single input for each
+-- eight octets, and a clock move to the end time.
+use Prim.Native.Nat.{ℕ, zero, suc, _+_, _≤_, _<_}
+use mathlib.Core.Bool.{Bool, true, false}
+use mathlib.Core.List.{List, [], _∷_}
+use mathlib.Core.Path.{_≡_, refl, sym, ap, _∙_}
+use native.Mathlib.Omega.{arith}
+use lib.ListN.{take, drop, length-take}
+use lib.Dec.{leb}
+use lib.Seq.{getD-take, getD-drop}
+use borrow.Author.Tests.{le-leb, leb-true, leb-false}
+use Rattle.octets.specs.BigEndian.{octet}
+use Rattle.rules.specs.declared.input.Input.{Input}
+use Rattle.rules.specs.declared.state.State.{State}
+use Rattle.base.specs.declared.refusal.Check.the-variants.{Passed}
+use Rattle.rules.specs.declared.call.Fresh.{Fresh}
+use Rattle.rules.specs.declared.call.Single.{Single}
+use Rattle.rules.specs.declared.call.Move.{Move}
+use Rattle.base.specs.Time.{lastStamp}
+use Rattle.rules.specs.Parameters.{paramsOf, scenesOf, checkParameters}
+use Rattle.rules.specs.Inputs.{stampAt, inputAt}
+use Rattle.rules.specs.Status.{recordOf, byItself}
+use Rattle.rules.specs.Steps.{fresh, clockMove, step}
+use Rattle.rules.specs.Soundness.{sound}
+use Rattle.rules.specs.Lists.{Cue, Played, andThen, moved, stepped, plays, playsTo, playList}
+use Rattle.base.specs.Refusals.{stampInRange}
+use Rattle.rules.specs.Calls.{freshBy, freshCall, singleDone, singleCall, moveDone, moveCall}
+use Rattle.rules.specs.Layout.{inputPlace}
+use Rattle.rules.specs.Files.{cues, inputCount, endTime, parametersIn, readInputs, readFile, roomy}
+use Rattle.rules.specs.Runs.{playFile, accepted, runCall}
+use Rattle.rules.proofs.Laws.Inputs.{input-number}
+use Rattle.rules.proofs.Laws.Soundness.{step-is-sound, step-clock}
+use Rattle.rules.proofs.Laws.Records.{a-move-writes-at-most-two, an-input-writes-at-most-three, used-places}
+use Rattle.rules.proofs.Laws.Lists.{andThen-from, plays-to-next}
+use Rattle.rules.proofs.Laws.Parameters.{passed-is-sound}
+use Rattle.rules.proofs.Files.Calls.{good-is-played}
+use Rattle.rules.proofs.Files.Files.{good-file, good-start, parameters-small}
+use Rattle.rules.proofs.Files.Readings.{First, first-read}
+use Rattle.rules.proofs.Files.Runs.{a-good-file-is-played}
+
+-- ---- the calls, joined
+
+-- the eight octets of an input
+unfoldable pub inputIn : List ℕ → ℕ → List ℕ
+inputIn file i = take 8 (drop (inputPlace i) file)
+
+-- these many inputs from index i on
+unfoldable pub inputsIn : List ℕ → ℕ → ℕ → List (List ℕ)
+inputsIn file zero i = []
+inputsIn file (suc left) i = inputIn file i ∷ inputsIn file left (i + 1)
+
+-- what a call gave: the records it counts, and the answer of a single input
+abbrev pub singlePlayed : Single → Played
+singlePlayed r = record { state = r .state; answers = r .answer ∷ []; records = take (r .count) (r .records) }
+
+abbrev pub movePlayed : Move → Played
+movePlayed r = record { state = r .state; answers = []; records = take (r .count) (r .records) }
+
+-- single inputs one after the other, each handed the state that the one before gave, then a clock move
+unfoldable pub calls : ℕ → List (List ℕ) → State → Played
+calls end [] s = movePlayed (moveCall s end)
+calls end (octets ∷ later) s = andThen (singlePlayed (singleCall s octets)) (calls end later)
+
+-- none of them is refused
+abbrev pub NoneRefused : ℕ → List (List ℕ) → State → Type 0
+NoneRefused end [] s = moveCall s end .code ≡ 0
+NoneRefused end (octets ∷ later) s = (singleCall s octets .code ≡ 0) × NoneRefused end later (singleCall s octets .state)
+
+-- the calls of a whole file
+unfoldable pub startOf : List ℕ → State
+startOf file = freshCall (parametersIn file) .state
+
+unfoldable pub callsOf : List ℕ → Played
+callsOf file =
+    andThen (record { state = startOf file; answers = []; records = recordOf byItself (startOf file) ∷ [] })
+    (calls (endTime file) (inputsIn file (inputCount file) 0))
+
+-- ---- one call
+
+-- the eight octets say what the file says at their place
+input-octet : (file : List ℕ) (i j : ℕ) → j < 8 → octet (inputIn file i) j ≡ octet file (inputPlace i + j)
+unfolding inputIn
+input-octet file i j h = getD-take 8 (drop (inputPlace i) file) j 0 h ∙ getD-drop (inputPlace i) file j 0
+
+same-stamp : (file : List ℕ) (i : ℕ) → stampAt (inputIn file i) 0 ≡ stampAt file (inputPlace i)
+unfolding stampAt
+same-stamp file i =
+    let e3 : inputPlace i + 3 ≡ inputPlace i + 2 + 1 = omega arith in
+    let e0 : inputPlace i + 0 ≡ inputPlace i = omega arith in
+    rw (input-octet file i 0 (omega arith), input-octet file i 1 (omega arith), input-octet file i 2 (omega arith), input-octet file i 3 (omega arith), e3, e0)
+
+same-input : (file : List ℕ) (i : ℕ) → inputAt (inputIn file i) 0 ≡ inputAt file (inputPlace i)
+unfolding inputAt
+same-input file i =
+    rw (input-octet file i 4 (omega arith), input-octet file i 5 (omega arith), input-octet file i 6 (omega arith), input-octet file i 7 (omega arith))
+
+-- an input that is read without fault is a single input that is not refused
+first-call : (file : List ℕ) (left i end : ℕ) (s : State) (list : List Cue) (f : First file left i (s .clock) end list) → sound s ≡ true → end ≤ lastStamp →
+    singleCall s (inputIn file i) ≡ singleDone (step s (f .input) (stampAt file (inputPlace i)))
+unfolding stampInRange
+first-call file left i end s list f safe timely =
+    let low = le-leb (s .clock) (stampAt file (inputPlace i)) (f .risen) in
+    let high = le-leb (stampAt file (inputPlace i)) lastStamp (omega (arith, f .timely, timely)) in
+    good-is-played s (inputIn file i) (f .input) safe (same-input file i ∙ f .meant) (rw (same-stamp file i) (simp (low, high))) ∙ rw (same-stamp file i)
+
+-- what it gives by value is what the step gives
+step-played : (s : State) (i : Input) (t : ℕ) → singlePlayed (singleDone (step s i t)) ≡ stepped (step s i t)
+unfolding singleDone
+step-played s i t = rw (used-places 3 (step s i t .records) (an-input-writes-at-most-three s i t))
+
+-- the move to the end is a clock move that is not refused
+move-played : (s : State) (end : ℕ) → sound s ≡ true → s .clock ≤ end → end ≤ lastStamp → (movePlayed (moveCall s end) ≡ moved (clockMove s end)) × (moveCall s end .code ≡ 0)
+unfolding moveCall stampInRange moveDone
+move-played s end safe later timely =
+    let low = le-leb (s .clock) end later in
+    let high = le-leb end lastStamp timely in
+    let all = used-places 2 (clockMove s end .records) (a-move-writes-at-most-two s end) in
+    (simp (safe, low, high, all), simp (safe, low, high))
+
+-- ---- all of them
+
+joins : (file : List ℕ) (left i : ℕ) (s : State) (list : List Cue) → endTime file ≤ lastStamp → sound s ≡ true → s .clock ≤ endTime file → readInputs file left i (s .clock) (endTime file) ≡ cues list →
+    (playsTo (endTime file) list s ≡ calls (endTime file) (inputsIn file left i) s) × NoneRefused (endTime file) (inputsIn file left i) s
+unfolding calls inputsIn singleDone
+joins file zero i s list timely safe early read =
+    let none : list ≡ [] = unfold readInputs in cc in
+    let m = move-played s (endTime file) safe early timely in
+    (rw (none, m .0) (unfold playsTo plays in refl), m .1)
+joins file (suc left) i s list timely safe early read =
+    let f = first-read file left i (s .clock) (endTime file) list read in
+    let t : ℕ = stampAt file (inputPlace i) in
+    let d = step s (f .input) t in
+    let call = first-call file left i (endTime file) s list f safe timely in
+    let clock = step-clock s (f .input) t in
+    let safely = step-is-sound s (f .input) t (input-number file (inputPlace i) (f .input) (f .meant)) safe (f .risen) (omega (arith, f .timely, timely)) in
+    let rest = joins file left (i + 1) (d .state) (f .later) timely safely (rw clock (f .timely)) (rw clock (f .reads)) in
+    let same : singlePlayed (singleCall s (inputIn file i)) ≡ stepped d = ap singlePlayed call ∙ step-played s (f .input) t in (
+      ap (λ l. playsTo (endTime file) l s) (f .starts)
+          ∙ plays-to-next (endTime file) t (f .input) (f .later) s
+          ∙ andThen-from (stepped d) (playsTo (endTime file) (f .later)) (calls (endTime file) (inputsIn file left (i + 1))) (rest .0)
+          ∙ sym (ap (λ a. andThen a (calls (endTime file) (inputsIn file left (i + 1)))) same),
+      (rw call, rw call (rest .1)),
+    )
+
+-- accepted parameters give the fresh state
+fresh-played : (octets : List ℕ) → checkParameters octets ≡ Passed → freshCall octets ≡ record { state = fresh (paramsOf octets) (scenesOf octets); code = 0; place = 0 }
+unfolding freshCall freshBy
+fresh-played octets passed = rw passed
+
+start-is-fresh : (file : List ℕ) → checkParameters (parametersIn file) ≡ Passed → startOf file ≡ fresh (paramsOf (parametersIn file)) (scenesOf (parametersIn file))
+unfolding startOf
+start-is-fresh file passed = ap (λ (r : Fresh). r .state) (fresh-played (parametersIn file) passed)
+
+-- what the run of an accepted file has to do with the public calls
+pub record Joined (file : List ℕ) (list : List Cue) : Type 0 where
+  pub fresh : freshCall (parametersIn file) .code ≡ 0
+  pub accepted : NoneRefused (endTime file) (inputsIn file (inputCount file) 0) (startOf file)
+  pub joined : playFile file list ≡ callsOf file
+
+-- for any file of octets, which are below 256
+pub file-is-the-calls-joined : (file : List ℕ) (list : List Cue) → ((i : ℕ) → octet file i < 256) → readFile file ≡ cues list → Joined file list
+unfolding callsOf playFile playList
+file-is-the-calls-joined file list small read =
+    let start = good-file file list read .start in
+    let s : State = fresh (paramsOf (parametersIn file)) (scenesOf (parametersIn file)) in
+    let first = start-is-fresh file (start .passed) in
+    let safe = passed-is-sound (parametersIn file) (parameters-small file small) (start .passed) in
+    let all = joins file (inputCount file) 0 s list (start .header .layout .end) safe (unfold fresh in omega arith) (unfold fresh in sym (good-start file start) ∙ read) in
+    record {
+      fresh = rw (fresh-played (parametersIn file) (start .passed));
+      accepted = rw first (all .1);
+      joined = rw first (andThen-from (record { state = s; answers = []; records = recordOf byItself s ∷ [] }) (playsTo (endTime file) list) (calls (endTime file) (inputsIn file (inputCount file) 0)) (all .0));
+    }
+
+-- the accepted run, whole: report and both buffers are those of the calls
+pub run-is-the-calls-joined : (file records answers : List ℕ) (list : List Cue) → ((i : ℕ) → octet file i < 256) → readFile file ≡ cues list → roomy file records answers ≡ true →
+    runCall file records answers ≡ accepted (callsOf file) records answers
+run-is-the-calls-joined file records answers list small read room =
+    a-good-file-is-played file records answers list read room ∙ ap (λ p. accepted p records answers) (file-is-the-calls-joined file list small read .joined)

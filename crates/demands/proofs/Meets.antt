@@ -1,0 +1,228 @@
+-- Our model of the run meets every demand, and no other model does.
+use Prim.Native.Nat.{ℕ, _+_, _*_, _/_, _%_, _≤_}
+use mathlib.Core.Bool.{Bool, true, false, cond}
+use mathlib.Core.Path.{_≡_, refl, sym, ap, _∙_}
+use mathlib.Core.Logic.{_⊎_, inl, inr}
+use mathlib.Core.List.{List, [], _∷_, _++_, append-assoc}
+use native.Mathlib.Omega.{arith}
+use lib.ListN.{length, drop, length-append, length-drop}
+use lib.Dec.{leb}
+use borrow.Author.Tests.{leb-true}
+use Rattle.rules.specs.declared.parameters.Params.{Params}
+use Rattle.rules.specs.declared.parameters.Scene.{Scene}
+use Rattle.rules.specs.declared.state.State.{State}
+use Rattle.rules.specs.declared.record.Record.{Record}
+use Rattle.base.specs.declared.refusal.Refusal.{Refusal}
+use Rattle.base.specs.declared.refusal.Refusal.the-variants.{WrongLength, WrongVersion, WrongActuators, WrongLayout, BadParameter, BadInput, BadStamp}
+use Rattle.rules.specs.declared.call.Single.{Single}
+use Rattle.rules.specs.Parameters.{paramsOf, scenesOf}
+use Rattle.rules.specs.Status.{recordOf, sameStatus, written}
+use Rattle.rules.specs.Steps.{fresh, ticked, clockMove, step}
+use Rattle.rules.specs.Lists.{Cue, cue, Played, plays, playsTo}
+use Rattle.base.specs.Refusals.{number}
+use Rattle.rules.specs.Calls.{singleDone, singleRefused, singleCall}
+use Rattle.rules.specs.Files.{Reading, cues, bad, inputCount, endTime, parametersIn, readFile, roomy, ifRoomy, readCall}
+use Rattle.rules.specs.Runs.{recordOctets, recordsOctets, over, Whole, playFile, accepted, refused, runBy, runCall}
+use Rattle.rules.specs.Promises.{DarkShown, LightStamped}
+use Rattle.demands.specs.Demands.{Model, AnswersAll, RefusesCleanly, StaysWithin, HandedBack, SingleAnswers, Judges, PlaysAll, changed, changedByTimers, changes, CountsChanges, recordsIn, recordsOf, Keeps, Meets, tableCode, tablePlace}
+use Rattle.base.proofs.Tests.{both}
+use Rattle.rules.proofs.Files.Calls.{SingleFinds, single-finds, single-refusal-changes-nothing, single-place-is-zero}
+use Rattle.rules.proofs.Files.Files.{GivenWhen, refused-exactly-when}
+use Rattle.rules.proofs.Files.Runs.{RunFinds, at-fault, no-room, played, run-finds, a-good-file-is-played, some-number, a-refused-run-writes-nothing, records-length, record-count-is-one-plus-changes, answers-are-n}
+use Rattle.rules.proofs.Laws.Lists.{plays-to-next}
+use Rattle.rules.proofs.Laws.Stamps.{step-records}
+use Rattle.demands.proofs.Shown.{dark-shown-in-every-accepted-file, light-stamped-in-every-accepted-file}
+
+-- ---- records out of their octets
+
+read-back : (l : List Record) (rest : List ℕ) → recordsIn (length l) (recordsOctets l ++ rest) ≡ l
+unfolding recordsIn recordsOctets recordOctets
+read-back [] rest = refl
+read-back (r ∷ l) rest =
+    let stamp : 65536 * (256 * (r .stamp / 16777216) + r .stamp / 65536 % 256) + (256 * (r .stamp / 256 % 256) + r .stamp % 256) ≡ r .stamp = omega arith in
+    rw (stamp, read-back l rest)
+
+records-read-back : (l : List Record) (buffer : List ℕ) → recordsIn (length l) (over (recordsOctets l) buffer) ≡ l
+unfolding over
+records-read-back l buffer = read-back l (drop (length (recordsOctets l)) buffer)
+
+pub accepted-records : (p : Played) (records answers : List ℕ) → recordsOf (accepted p records answers) ≡ p .records
+unfolding accepted
+accepted-records p records answers = records-read-back (p .records) records
+
+-- ---- 1 and the judgement of 2: of every file
+
+-- a run has the numbers 1 to 8, and 9 is for a state that was handed in
+numbered : (file : List ℕ) (why : Refusal) (place : ℕ) → GivenWhen file why place → number why ≤ 8
+numbered file WrongLength place g = omega arith
+numbered file WrongVersion place g = omega arith
+numbered file WrongActuators place g = omega arith
+numbered file WrongLayout place g = omega arith
+numbered file BadParameter place g = omega arith
+numbered file BadInput place g = omega arith
+numbered file BadStamp place g = omega arith
+
+our-run-answers-all : AnswersAll runCall
+our-run-answers-all file records answers = by (run-finds file records answers)
+  where
+    by : {w : Whole} → RunFinds file records answers w → w .report .code ≤ 8
+    by (at-fault why place read) = unfold refused in numbered file why place (refused-exactly-when file why place .0 read)
+    by (no-room list read room) = unfold refused in omega arith
+    by (played list read room) = unfold accepted in omega arith
+
+our-run-refuses-cleanly : RefusesCleanly runCall
+our-run-refuses-cleanly file records answers refused =
+    rw (a-refused-run-writes-nothing file records answers refused) (record { records = refl; answers = refl; count = refl; state = refl })
+
+our-run-judges : Judges runCall
+unfolding runCall runBy accepted refused
+our-run-judges file records answers = by (readCall file records answers)
+  where
+    by : (x : Reading) → (runBy x file records answers .report .code ≡ tableCode x) × (runBy x file records answers .report .place ≡ tablePlace x)
+    by (cues list) = (refl, refl)
+    by (bad why place) = (refl, refl)
+
+-- ---- 1, of every single input
+
+our-single-input-is-numbered : (s : State) (octets : List ℕ) →
+    (singleCall s octets .code ≡ 0) ⊎ (singleCall s octets .code ≡ 6) ⊎ (singleCall s octets .code ≡ 7) ⊎ (singleCall s octets .code ≡ 9)
+our-single-input-is-numbered s octets = by (single-finds s octets)
+  where
+    by : {r : Single} → SingleFinds s octets r → (r .code ≡ 0) ⊎ (r .code ≡ 6) ⊎ (r .code ≡ 7) ⊎ (r .code ≡ 9)
+    by (SingleFinds.plays i h m t) = unfold singleDone in inl refl
+    by (SingleFinds.wrong h m) = unfold singleRefused in inr (inl refl)
+    by (SingleFinds.untimely i h m t) = unfold singleRefused in inr (inr (inl refl))
+    by (SingleFinds.not-sound h) = unfold singleRefused in inr (inr (inr refl))
+
+our-single-input-is-handed-back : (s : State) (octets : List ℕ) → (singleCall s octets .code ≡ 0 → ⊥) → HandedBack s (singleCall s octets)
+our-single-input-is-handed-back s octets refused =
+    let same = single-refusal-changes-nothing s octets refused in
+    record { state = ap (λ (r : Single). r .state) same; answer = ap (λ (r : Single). r .answer) same; count = ap (λ (r : Single). r .count) same; records = ap (λ (r : Single). r .records) same }
+
+pub our-single-input-meets-demand-1 : SingleAnswers singleCall
+our-single-input-meets-demand-1 = record { numbered = our-single-input-is-numbered; placed = single-place-is-zero; handed-back = our-single-input-is-handed-back }
+
+-- ---- of every accepted run
+
+module _ (file records answers : List ℕ) (list : List Cue) (read : readCall file records answers ≡ cues list) where
+  -- the file is accepted, and there is room
+  call-accepted : (readFile file ≡ cues list) × (roomy file records answers ≡ true)
+  unfolding readCall
+  call-accepted = by (roomy file records answers) (readFile file) read
+    where
+      by : (b : Bool) (x : Reading) → ifRoomy b x ≡ cues list → (x ≡ cues list) × (b ≡ true)
+      by true x e = (e, refl)
+      by false (cues list) e = absurd (let z : _≡_ {A = ℕ} 0 1 = cc in omega arith)
+      by false (bad why place) e = absurd (let z : _≡_ {A = ℕ} 0 1 = cc in omega arith)
+
+  our-run-is-played : runCall file records answers ≡ accepted (playFile file list) records answers
+  our-run-is-played = a-good-file-is-played file records answers list (call-accepted .0) (call-accepted .1)
+
+  -- the records in its buffer are those of the list
+  our-records : recordsOf (runCall file records answers) ≡ playFile file list .records
+  our-records = ap recordsOf our-run-is-played ∙ accepted-records (playFile file list) records answers
+
+  -- three records for each input and three more fit into the buffer that is asked for, and so does an answer for each
+  our-run-fits : (length (recordsOctets (playFile file list .records)) ≤ length records) × (length (playFile file list .answers) ≤ length answers)
+  unfolding roomy accepted
+  our-run-fits =
+      let e = call-accepted in
+      let room = both (leb (8 * (3 * inputCount file + 3)) (length records)) (leb (inputCount file) (length answers)) (e .1) in
+      let few = rw our-run-is-played at (record-count-is-one-plus-changes file records answers list (e .0) (e .1) .1) in (
+        omega (arith, records-length (playFile file list .records), few, leb-true (8 * (3 * inputCount file + 3)) (length records) (room .0)),
+        omega (arith, answers-are-n file records answers list (e .0) (e .1) .0, leb-true (inputCount file) (length answers) (room .1)),
+      )
+
+over-length : (octets buffer : List ℕ) → length octets ≤ length buffer → length (over octets buffer) ≡ length buffer
+unfolding over
+over-length octets buffer fits = rw (length-append, length-drop (length octets) buffer) (omega arith)
+
+our-run-stays-within : StaysWithin runCall
+unfolding runCall runBy accepted refused
+our-run-stays-within file records answers = by (readCall file records answers) refl
+  where
+    by : (x : Reading) → readCall file records answers ≡ x → (length (runBy x file records answers .records) ≡ length records) × (length (runBy x file records answers .answers) ≡ length answers)
+    by (bad why place) e = (refl, refl)
+    by (cues list) e = let fits = our-run-fits file records answers list e in (over-length _ records (fits .0), over-length _ answers (fits .1))
+
+our-run-plays-all : PlaysAll runCall
+unfolding accepted
+our-run-plays-all file records answers list read = rw (our-run-is-played file records answers list read) (record { state = refl; records = refl; answers = refl })
+
+-- a record for each change
+written-count : (cause : ℕ) (before after : State) → length (written cause before after) ≡ changed before after
+unfolding written changed
+written-count cause before after = by (sameStatus before after)
+  where
+    by : (b : Bool) → length (cond b [] (recordOf cause after ∷ [])) ≡ cond b 0 1
+    by true = refl
+    by false = refl
+
+move-count : (s : State) (t : ℕ) → length (clockMove s t .records) ≡ changedByTimers s t
+unfolding clockMove ticked changedByTimers
+move-count s t = simp (length-append, written-count)
+
+plays-to-count : (end : ℕ) (list : List Cue) (s : State) → length (playsTo end list s .records) ≡ changes end list s
+unfolding changes
+plays-to-count end [] s = unfold playsTo plays in move-count s end
+plays-to-count end (cue t i ∷ later) s =
+    rw (plays-to-next end t i later s, step-records s i t, append-assoc, length-append, length-append, move-count, written-count, plays-to-count end later (step s i t .state))
+
+pub our-run-counts-changes : CountsChanges runCall
+our-run-counts-changes file records answers list read =
+    let e = call-accepted file records answers list read in
+    rw (← (plays-to-count (endTime file) list (fresh (paramsOf (parametersIn file)) (scenesOf (parametersIn file)))))
+    (record-count-is-one-plus-changes file records answers list (e .0) (e .1) .0)
+
+-- what the records of every accepted file keep
+our-run-keeps : (Promise : Params → List Scene → List Cue → ℕ → List Record → Type 0) →
+    ((file : List ℕ) (list : List Cue) → readFile file ≡ cues list → Promise (paramsOf (parametersIn file)) (scenesOf (parametersIn file)) list (endTime file) (playFile file list .records)) →
+    Keeps Promise runCall
+our-run-keeps Promise kept file records answers list read = rw (our-records file records answers list read) (kept file list (call-accepted file records answers list read .0))
+
+pub our-model-meets-every-demand : Meets runCall
+our-model-meets-every-demand =
+    record {
+      answers-all = our-run-answers-all;
+      refuses-cleanly = our-run-refuses-cleanly;
+      stays-within = our-run-stays-within;
+      judges = our-run-judges;
+      plays-all = our-run-plays-all;
+      counts-changes = our-run-counts-changes;
+      keeps-dark = our-run-keeps DarkShown dark-shown-in-every-accepted-file;
+      keeps-light = our-run-keeps LightStamped light-stamped-in-every-accepted-file;
+    }
+
+-- ---- and no other model does
+
+-- results that agree in every part are one
+same-whole : (w x : Whole) → w .report .state ≡ x .report .state → w .report .code ≡ x .report .code → w .report .place ≡ x .report .place → w .report .count ≡ x .report .count →
+    w .records ≡ x .records → w .answers ≡ x .answers → w ≡ x
+same-whole w x state code place count records answers =
+    λ i. record { report = record { state = state i; code = code i; place = place i; count = count i }; records = records i; answers = answers i }
+
+-- Demands 1 and 2 leave no part of a result open: the table gives code and place; a refused call leaves the rest as it was, and an
+-- accepted one is played.
+two-models-agree : (m n : Model) → Meets m → Meets n → (file records answers : List ℕ) → m file records answers ≡ n file records answers
+two-models-agree m n f g file records answers = by (readCall file records answers) refl
+  where
+    code : m file records answers .report .code ≡ n file records answers .report .code
+    code = f .judges file records answers .0 ∙ sym (g .judges file records answers .0)
+
+    place : m file records answers .report .place ≡ n file records answers .report .place
+    place = f .judges file records answers .1 ∙ sym (g .judges file records answers .1)
+
+    by : (x : Reading) → readCall file records answers ≡ x → m file records answers ≡ n file records answers
+    by (cues list) read =
+        let a = f .plays-all file records answers list read in
+        let b = g .plays-all file records answers list read in
+        let count = f .counts-changes file records answers list read ∙ sym (g .counts-changes file records answers list read) in
+        same-whole (m file records answers) (n file records answers) (a .state ∙ sym (b .state)) code place count (a .records ∙ sym (b .records)) (a .answers ∙ sym (b .answers))
+    by (bad why x) read =
+        let table : tableCode (readCall file records answers) ≡ number why = ap tableCode read in
+        let a = f .refuses-cleanly file records answers (λ zero. omega (arith, f .judges file records answers .0, table, zero, some-number why)) in
+        let b = g .refuses-cleanly file records answers (λ zero. omega (arith, g .judges file records answers .0, table, zero, some-number why)) in
+        same-whole (m file records answers) (n file records answers) (a .state ∙ sym (b .state)) code place (a .count ∙ sym (b .count)) (a .records ∙ sym (b .records)) (a .answers ∙ sym (b .answers))
+
+pub no-other-model-meets-every-demand : (m : Model) → Meets m → (file records answers : List ℕ) → m file records answers ≡ runCall file records answers
+no-other-model-meets-every-demand m meets = two-models-agree m runCall meets our-model-meets-every-demand

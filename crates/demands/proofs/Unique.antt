@@ -1,0 +1,25 @@
+-- No second result fits a public call: its contract is one equation for its whole result, so two results that meet it are equal.
+use Prim.Native.Nat.{ℕ}
+use mathlib.Core.List.{List}
+use mathlib.Core.Path.{_≡_, sym, _∙_}
+use Rattle.rules.specs.declared.state.State.{State}
+use Rattle.rules.specs.declared.call.Fresh.{Fresh}
+use Rattle.rules.specs.declared.call.Single.{Single}
+use Rattle.rules.specs.declared.call.Move.{Move}
+use Rattle.rules.specs.Calls.{freshCall, singleCall, moveCall}
+use Rattle.rules.specs.Runs.{Whole, Answered, runCall, houseRun}
+
+pub no-second-fresh-state : (octets : List ℕ) (one other : Fresh) → one ≡ freshCall octets → other ≡ freshCall octets → one ≡ other
+no-second-fresh-state octets one other p q = p ∙ sym q
+
+pub no-second-single-input : (s : State) (octets : List ℕ) (one other : Single) → one ≡ singleCall s octets → other ≡ singleCall s octets → one ≡ other
+no-second-single-input s octets one other p q = p ∙ sym q
+
+pub no-second-clock-move : (s : State) (stamp : ℕ) (one other : Move) → one ≡ moveCall s stamp → other ≡ moveCall s stamp → one ≡ other
+no-second-clock-move s stamp one other p q = p ∙ sym q
+
+pub no-second-run : (file records answers : List ℕ) (one other : Whole) → one ≡ runCall file records answers → other ≡ runCall file records answers → one ≡ other
+no-second-run file records answers one other p q = p ∙ sym q
+
+pub no-second-house-run : (file records answers : List ℕ) (one other : Answered) → one ≡ houseRun file records answers → other ≡ houseRun file records answers → one ≡ other
+no-second-house-run file records answers one other p q = p ∙ sym q

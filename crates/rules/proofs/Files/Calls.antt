@@ -1,0 +1,285 @@
+-- The public calls: from a sound state they return a sound one, they refuse exactly when the table says, and a refusal changes nothing.
+use Prim.Native.Nat.{ℕ, _-_, _≤_, _<_}
+use mathlib.Core.Bool.{Bool, true, false, cond}
+use mathlib.Core.List.{List, [], _++_}
+use mathlib.Core.Path.{_≡_, refl, sym, _∙_}
+use mathlib.Core.Logic.{_↔_}
+use lib.ListN.{length}
+use native.Mathlib.Omega.{arith}
+use lib.Dec.{leb}
+use borrow.Author.Tests.{leb-true}
+use Rattle.octets.specs.BigEndian.{octet}
+use Rattle.rules.specs.declared.input.Input.{Input}
+use Rattle.rules.specs.declared.input.Decoded.{Decoded}
+use Rattle.rules.specs.declared.input.Decoded.the-variants.{Meant, Wrong}
+use Rattle.rules.specs.declared.state.State.{State}
+use Rattle.base.specs.declared.refusal.Refusal.the-variants.{WrongLength, BadParameter, BadInput, BadStamp, UnsoundState}
+use Rattle.base.specs.declared.refusal.Check.{Check}
+use Rattle.base.specs.declared.refusal.Check.the-variants.{Passed, Refused}
+use Rattle.rules.specs.declared.call.Single.{Single}
+use Rattle.rules.specs.declared.call.Move.{Move}
+use Rattle.base.specs.Time.{lastStamp}
+use Rattle.rules.specs.Inputs.{stampAt, inputAt}
+use Rattle.rules.specs.Steps.{clockMove, step}
+use Rattle.rules.specs.Soundness.{sound}
+use Rattle.base.specs.Refusals.{stampInRange}
+use Rattle.rules.specs.Parameters.{checkParameters}
+use Rattle.rules.specs.Calls.{freshBy, freshCall, places, singleDone, singleRefused, singleMeant, singleCall, moveDone, moveRefused, moveCall}
+use Rattle.base.proofs.Tests.{both, no}
+use Rattle.rules.proofs.Laws.Soundness.{own-state-is-sound, move-is-sound, step-is-sound}
+use Rattle.rules.proofs.Laws.Inputs.{input-number}
+use Rattle.rules.proofs.Laws.Parameters.{Accepted, FirstBad, GivenWhen, lowest-bad-octet, passed-is-sound}
+use Rattle.rules.proofs.Laws.Records.{a-move-writes-at-most-two, an-input-writes-at-most-three, places-hold-all}
+
+not-meant : {A : Type 0} {i : Input} → Wrong ≡ Meant i → A
+not-meant e = absurd (let z : _≡_ {A = ℕ} 0 1 = cc in omega arith)
+
+-- ---- a single input
+
+-- What a single input finds: the first of the table's rows 9, 6, 7 that fits, or an input that is played.
+pub data SingleFinds (s : State) (octets : List ℕ) : Single → Type 0 where
+  not-sound : sound s ≡ false → SingleFinds s octets (singleRefused s UnsoundState)
+  wrong : sound s ≡ true → inputAt octets 0 ≡ Wrong → SingleFinds s octets (singleRefused s BadInput)
+  untimely : (i : Input) → sound s ≡ true → inputAt octets 0 ≡ Meant i → stampInRange (s .clock) (stampAt octets 0) ≡ false → SingleFinds s octets (singleRefused s BadStamp)
+  plays : (i : Input) → sound s ≡ true → inputAt octets 0 ≡ Meant i → stampInRange (s .clock) (stampAt octets 0) ≡ true → SingleFinds s octets (singleDone (step s i (stampAt octets 0)))
+
+-- each test of the call decides one row
+pub single-finds : (s : State) (octets : List ℕ) → SingleFinds s octets (singleCall s octets)
+unfolding singleCall
+single-finds s octets = by (sound s) refl
+  where
+    timely : (i : Input) (b : Bool) → sound s ≡ true → inputAt octets 0 ≡ Meant i → stampInRange (s .clock) (stampAt octets 0) ≡ b → SingleFinds s octets (cond b (singleDone (step s i (stampAt octets 0))) (singleRefused s BadStamp))
+    timely i true h m e = plays i h m e
+    timely i false h m e = untimely i h m e
+
+    meant : (d : Decoded) → sound s ≡ true → inputAt octets 0 ≡ d → SingleFinds s octets (singleMeant s (stampAt octets 0) d)
+    meant Wrong h m = unfold singleMeant in wrong h m
+    meant (Meant i) h m = unfold singleMeant in timely i (stampInRange (s .clock) (stampAt octets 0)) h m refl
+
+    by : (b : Bool) → sound s ≡ b → SingleFinds s octets (cond b (singleMeant s (stampAt octets 0) (inputAt octets 0)) (singleRefused s UnsoundState))
+    by true h = meant (inputAt octets 0) h refl
+    by false h = not-sound h
+
+-- and the other way round: where no row fits, the input is played
+module _ (s : State) (octets : List ℕ) where
+  pub good-is-played : (i : Input) → sound s ≡ true → inputAt octets 0 ≡ Meant i → stampInRange (s .clock) (stampAt octets 0) ≡ true → singleCall s octets ≡ singleDone (step s i (stampAt octets 0))
+  unfolding singleCall singleMeant
+  good-is-played i h m e = rw (h, m, e)
+
+-- each code of a single input, exactly when the table gives it
+pub record SingleCodes (s : State) (octets : List ℕ) (code : ℕ) : Type 0 where
+  pub nine : (code ≡ 9) ↔ (sound s ≡ false)
+  pub six : (code ≡ 6) ↔ ((sound s ≡ true) × (inputAt octets 0 ≡ Wrong))
+  pub seven : (code ≡ 7) ↔ ((i : Input) × (sound s ≡ true) × (inputAt octets 0 ≡ Meant i) × (stampInRange (s .clock) (stampAt octets 0) ≡ false))
+  pub zero : (code ≡ 0) ↔ ((i : Input) × (sound s ≡ true) × (inputAt octets 0 ≡ Meant i) × (stampInRange (s .clock) (stampAt octets 0) ≡ true))
+
+pub single-refused-exactly-when : (s : State) (octets : List ℕ) → SingleCodes s octets (singleCall s octets .code)
+single-refused-exactly-when s octets = by (single-finds s octets)
+  where
+    by : {r : Single} → SingleFinds s octets r → SingleCodes s octets (r .code)
+    by (not-sound h) =
+        unfold singleRefused in
+        record {
+          nine = (λ e. h, λ e. refl);
+          six = (λ e. absurd (omega arith), λ e. no (sym h ∙ e .0));
+          seven = (λ e. absurd (omega arith), λ e. no (sym h ∙ e .1));
+          zero = (λ e. absurd (omega arith), λ e. no (sym h ∙ e .1));
+        }
+    by (wrong h m) =
+        unfold singleRefused in
+        record {
+          nine = (λ e. absurd (omega arith), λ e. no (sym e ∙ h));
+          six = (λ e. (h, m), λ e. refl);
+          seven = (λ e. absurd (omega arith), λ e. not-meant (sym m ∙ e .2));
+          zero = (λ e. absurd (omega arith), λ e. not-meant (sym m ∙ e .2));
+        }
+    by (untimely i h m t) =
+        unfold singleRefused in
+        record {
+          nine = (λ e. absurd (omega arith), λ e. no (sym e ∙ h));
+          six = (λ e. absurd (omega arith), λ e. not-meant (sym (e .1) ∙ m));
+          seven = (λ e. (i, h, m, t), λ e. refl);
+          zero = (λ e. absurd (omega arith), λ e. no (sym t ∙ e .3));
+        }
+    by (plays i h m t) =
+        unfold singleDone in
+        record {
+          nine = (λ e. absurd (omega arith), λ e. no (sym e ∙ h));
+          six = (λ e. absurd (omega arith), λ e. not-meant (sym (e .1) ∙ m));
+          seven = (λ e. absurd (omega arith), λ e. no (sym (e .3) ∙ t));
+          zero = (λ e. (i, h, m, t), λ e. refl);
+        }
+
+-- "A refused call .. hands back the state it was given"; answer, count and records are 0, and so is the place
+pub single-refusal-changes-nothing : (s : State) (octets : List ℕ) → (singleCall s octets .code ≡ 0 → ⊥) →
+    singleCall s octets ≡ record { state = s; code = singleCall s octets .code; place = 0; answer = 0; count = 0; records = places 3 [] }
+single-refusal-changes-nothing s octets refused = by (single-finds s octets) refused
+  where
+    by : {r : Single} → SingleFinds s octets r → (r .code ≡ 0 → ⊥) → r ≡ record { state = s; code = r .code; place = 0; answer = 0; count = 0; records = places 3 [] }
+    by (not-sound h) f = unfold singleRefused in refl
+    by (wrong h m) f = unfold singleRefused in refl
+    by (untimely i h m t) f = unfold singleRefused in refl
+    by (plays i h m t) f = absurd (f (unfold singleDone in refl))
+
+-- the records by value are the whole list of the step's records, then blank ones, and the count is their number
+pub single-records-are-all : (s : State) (i : Input) (t : ℕ) →
+    (singleDone (step s i t) .count ≡ length (step s i t .records)) × (singleDone (step s i t) .records ≡ step s i t .records ++ places (3 - length (step s i t .records)) [])
+unfolding singleDone
+single-records-are-all s i t = (refl, places-hold-all 3 (step s i t .records) (an-input-writes-at-most-three s i t))
+
+-- ---- a clock move
+
+-- What a clock move finds: 9, 7, or it is made.
+pub data MoveFinds (s : State) (stamp : ℕ) : Move → Type 0 where
+  not-sound : sound s ≡ false → MoveFinds s stamp (moveRefused s UnsoundState)
+  untimely : sound s ≡ true → stampInRange (s .clock) stamp ≡ false → MoveFinds s stamp (moveRefused s BadStamp)
+  moves : sound s ≡ true → stampInRange (s .clock) stamp ≡ true → MoveFinds s stamp (moveDone (clockMove s stamp))
+
+pub move-finds : (s : State) (stamp : ℕ) → MoveFinds s stamp (moveCall s stamp)
+unfolding moveCall
+move-finds s stamp = by (sound s) (stampInRange (s .clock) stamp) refl refl
+  where
+    by : (b c : Bool) → sound s ≡ b → stampInRange (s .clock) stamp ≡ c → MoveFinds s stamp (cond b (cond c (moveDone (clockMove s stamp)) (moveRefused s BadStamp)) (moveRefused s UnsoundState))
+    by false c h e = MoveFinds.not-sound h
+    by true false h e = MoveFinds.untimely h e
+    by true true h e = moves h e
+
+-- each code of a clock move, exactly when the table gives it
+pub record MoveCodes (s : State) (stamp code : ℕ) : Type 0 where
+  pub nine : (code ≡ 9) ↔ (sound s ≡ false)
+  pub seven : (code ≡ 7) ↔ ((sound s ≡ true) × (stampInRange (s .clock) stamp ≡ false))
+  pub zero : (code ≡ 0) ↔ ((sound s ≡ true) × (stampInRange (s .clock) stamp ≡ true))
+
+pub move-refused-exactly-when : (s : State) (stamp : ℕ) → MoveCodes s stamp (moveCall s stamp .code)
+move-refused-exactly-when s stamp = by (move-finds s stamp)
+  where
+    by : {r : Move} → MoveFinds s stamp r → MoveCodes s stamp (r .code)
+    by (MoveFinds.not-sound h) =
+        unfold moveRefused in
+        record {
+          nine = (λ e. h, λ e. refl);
+          seven = (λ e. absurd (omega arith), λ e. no (sym h ∙ e .0));
+          zero = (λ e. absurd (omega arith), λ e. no (sym h ∙ e .0));
+        }
+    by (MoveFinds.untimely h t) =
+        unfold moveRefused in
+        record {
+          nine = (λ e. absurd (omega arith), λ e. no (sym e ∙ h));
+          seven = (λ e. (h, t), λ e. refl);
+          zero = (λ e. absurd (omega arith), λ e. no (sym t ∙ e .1));
+        }
+    by (moves h t) =
+        unfold moveDone in
+        record {
+          nine = (λ e. absurd (omega arith), λ e. no (sym e ∙ h));
+          seven = (λ e. absurd (omega arith), λ e. no (sym (e .1) ∙ t));
+          zero = (λ e. (h, t), λ e. refl);
+        }
+
+pub move-refusal-changes-nothing : (s : State) (stamp : ℕ) → (moveCall s stamp .code ≡ 0 → ⊥) →
+    moveCall s stamp ≡ record { state = s; code = moveCall s stamp .code; place = 0; count = 0; records = places 2 [] }
+move-refusal-changes-nothing s stamp refused = by (move-finds s stamp) refused
+  where
+    by : {r : Move} → MoveFinds s stamp r → (r .code ≡ 0 → ⊥) → r ≡ record { state = s; code = r .code; place = 0; count = 0; records = places 2 [] }
+    by (MoveFinds.not-sound h) f = unfold moveRefused in refl
+    by (MoveFinds.untimely h t) f = unfold moveRefused in refl
+    by (moves h t) f = absurd (f (unfold moveDone in refl))
+
+pub move-records-are-all : (s : State) (t : ℕ) →
+    (moveDone (clockMove s t) .count ≡ length (clockMove s t .records)) × (moveDone (clockMove s t) .records ≡ clockMove s t .records ++ places (2 - length (clockMove s t .records)) [])
+unfolding moveDone
+move-records-are-all s t = (refl, places-hold-all 2 (clockMove s t .records) (a-move-writes-at-most-two s t))
+
+-- a stamp in range is from the clock to the last stamp
+pub timely : (clock stamp : ℕ) → stampInRange clock stamp ≡ true → (clock ≤ stamp) × (stamp ≤ lastStamp)
+unfolding stampInRange
+timely clock stamp h = let e = both (leb clock stamp) (leb stamp lastStamp) h in (leb-true clock stamp (e .0), leb-true stamp lastStamp (e .1))
+
+pub move-call-keeps-sound : (s : State) (stamp : ℕ) → sound s ≡ true → sound (moveCall s stamp .state) ≡ true
+move-call-keeps-sound s stamp safe = by (move-finds s stamp)
+  where
+    by : {r : Move} → MoveFinds s stamp r → sound (r .state) ≡ true
+    by (MoveFinds.not-sound h) = unfold moveRefused in safe
+    by (MoveFinds.untimely h t) = unfold moveRefused in safe
+    by (moves h t) = let e = timely (s .clock) stamp t in unfold moveDone in move-is-sound s stamp safe (e .0) (e .1)
+
+pub single-call-keeps-sound : (s : State) (octets : List ℕ) → sound s ≡ true → sound (singleCall s octets .state) ≡ true
+single-call-keeps-sound s octets safe = by (single-finds s octets)
+  where
+    by : {r : Single} → SingleFinds s octets r → sound (r .state) ≡ true
+    by (SingleFinds.not-sound h) = unfold singleRefused in safe
+    by (wrong h m) = unfold singleRefused in safe
+    by (SingleFinds.untimely i h m t) = unfold singleRefused in safe
+    by (plays i h m t) =
+        let e = timely (s .clock) (stampAt octets 0) t in
+        unfold singleDone in
+        step-is-sound s i (stampAt octets 0) (input-number octets 0 i m) safe (e .0) (e .1)
+
+-- ---- the fresh state from parameters alone
+
+-- accepted parameters give a sound state, and so does a refusal
+pub fresh-call-is-sound : (octets : List ℕ) → ((i : ℕ) → octet octets i < 256) → sound (freshCall octets .state) ≡ true
+unfolding freshCall
+fresh-call-is-sound octets small = by (checkParameters octets) refl
+  where
+    by : (c : Check) → checkParameters octets ≡ c → sound (freshBy octets c .state) ≡ true
+    by Passed h = unfold freshBy in passed-is-sound octets small h
+    by (Refused why place) h = unfold freshBy in own-state-is-sound
+
+-- each code of parameters alone, exactly when the table gives it, with its place
+pub record FreshCodes (octets : List ℕ) (code place : ℕ) : Type 0 where
+  pub one : (code ≡ 1) ↔ (length octets ≡ 32 → ⊥)
+  pub five : (code ≡ 5) ↔ FirstBad octets place
+  pub zero : (code ≡ 0) ↔ Accepted octets
+  pub no-place : (code ≡ 5 → ⊥) → place ≡ 0
+
+pub fresh-refused-exactly-when : (octets : List ℕ) → FreshCodes octets (freshCall octets .code) (freshCall octets .place)
+unfolding freshCall
+fresh-refused-exactly-when octets = by (checkParameters octets) (lowest-bad-octet octets (checkParameters octets) .0 refl)
+  where
+    good-is-not-bad : (at : ℕ) → Accepted octets → FirstBad octets at → ⊥
+    good-is-not-bad at a f = no (sym (a .good at (f .within)) ∙ f .bad)
+
+    by : (c : Check) → GivenWhen octets c → FreshCodes octets (freshBy octets c .code) (freshBy octets c .place)
+    by Passed a =
+        unfold freshBy in
+        record {
+          one = (λ e. absurd (omega arith), λ short. absurd (short (a .whole)));
+          five = (λ e. absurd (omega arith), λ f. absurd (good-is-not-bad _ a f));
+          zero = (λ e. a, λ e. refl);
+          no-place = λ e. refl;
+        }
+    by (Refused WrongLength place) g =
+        unfold freshBy in
+        record {
+          one = (λ e. g .1, λ e. refl);
+          five = (λ e. absurd (omega arith), λ f. absurd (g .1 (f .whole)));
+          zero = (λ e. absurd (omega arith), λ a. absurd (g .1 (a .whole)));
+          no-place = λ e. g .0;
+        }
+    by (Refused BadParameter place) f =
+        unfold freshBy in
+        record {
+          one = (λ e. absurd (omega arith), λ short. absurd (short (f .whole)));
+          five = (λ e. f, λ e. refl);
+          zero = (λ e. absurd (omega arith), λ a. absurd (good-is-not-bad place a f));
+          no-place = λ e. absurd (e refl);
+        }
+
+-- "place 0", accepted or refused
+pub single-place-is-zero : (s : State) (octets : List ℕ) → singleCall s octets .place ≡ 0
+single-place-is-zero s octets = by (single-finds s octets)
+  where
+    by : {r : Single} → SingleFinds s octets r → r .place ≡ 0
+    by (SingleFinds.not-sound h) = unfold singleRefused in refl
+    by (wrong h m) = unfold singleRefused in refl
+    by (SingleFinds.untimely i h m t) = unfold singleRefused in refl
+    by (plays i h m t) = unfold singleDone in refl
+
+pub move-place-is-zero : (s : State) (stamp : ℕ) → moveCall s stamp .place ≡ 0
+move-place-is-zero s stamp = by (move-finds s stamp)
+  where
+    by : {r : Move} → MoveFinds s stamp r → r .place ≡ 0
+    by (MoveFinds.not-sound h) = unfold moveRefused in refl
+    by (MoveFinds.untimely h t) = unfold moveRefused in refl
+    by (moves h t) = unfold moveDone in refl

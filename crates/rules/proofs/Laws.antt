@@ -1,0 +1,18 @@
+-- Laws of the definitions, which the code and the theorems cite: one file for each file of definitions, and a few for what several share.
+pub mod Deadlines
+pub mod Parameters
+pub mod Inputs
+pub mod Phases
+pub mod Holding
+pub mod Scenes
+pub mod Barriers
+pub mod Fitting
+pub mod Orders
+pub mod Steps
+pub mod Soundness
+pub mod Timers
+pub mod Records
+pub mod Answers
+pub mod Moments
+pub mod Lists
+pub mod Stamps

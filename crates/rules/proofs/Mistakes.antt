@@ -1,0 +1,4 @@
+-- The three mistakes that others made: rank, delays, ties.
+pub mod Rank
+pub mod Delays
+pub mod Ties

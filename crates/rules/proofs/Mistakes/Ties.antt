@@ -1,0 +1,37 @@
+-- "Two cues at one stamp are not a set. They run in list order, and a timer due at that stamp runs before both."
+use Prim.Native.Nat.{ℕ, _≤_}
+use mathlib.Core.Path.{_≡_, sym, ap, _∙_}
+use mathlib.Core.List.{List, [], _∷_}
+use Rattle.rules.specs.declared.input.Input.{Input}
+use Rattle.rules.specs.declared.state.State.{State}
+use Rattle.rules.specs.Steps.{atMoment, Moved, clockMove, act, step}
+use Rattle.rules.specs.Lists.{Cue, cue, Played, andThen, moved, stepped, plays}
+use Rattle.rules.proofs.Laws.Soundness.{step-clock, step-params}
+use Rattle.rules.proofs.Laws.Timers.{no-timer-due-no-move}
+use Rattle.rules.proofs.Laws.Lists.{still, acts, andThen-assoc, andThen-from, acts-after-the-move}
+use Rattle.rules.proofs.Laws.Stamps.{nothing-due-after-a-step}
+
+-- these inputs, all at the one stamp
+abbrev pub ties : ℕ → List Input → List Cue
+ties t [] = []
+ties t (i ∷ is) = cue t i ∷ ties t is
+
+-- what acts after a step acts after that step's clock move and its input
+after-the-move : (s : State) (i : Input) (t : ℕ) (is : List Input) → andThen (stepped (step s i t)) (acts is) ≡ andThen (moved (clockMove s t)) (acts (i ∷ is))
+unfolding acts step
+after-the-move s i t is =
+    ap (λ (a : Played). andThen a (acts is)) (acts-after-the-move (clockMove s t) i)
+    ∙ andThen-assoc (moved (clockMove s t)) (λ x. stepped (act (still x) i)) (acts is)
+
+-- The first of them brings the clock to t, by all timers due up to then. The others find it there, and no step leaves a timer
+-- due at its own stamp. (With TimedOn 0 one would: a timed start at t would be over at t, before the next input.)
+pub ties-run-in-list-order-after-the-timers : (s : State) (t : ℕ) (i : Input) (is : List Input) → 1 ≤ s .params .timedon →
+    plays (ties t (i ∷ is)) s ≡ andThen (moved (clockMove s t)) (acts (i ∷ is))
+unfolding plays acts
+ties-run-in-list-order-after-the-timers s t i [] some = after-the-move s i t []
+ties-run-in-list-order-after-the-timers s t i (j ∷ is) some =
+    let next : State = step s i t .state in
+    let quiet : clockMove next t ≡ still next = no-timer-due-no-move next t (nothing-due-after-a-step s i t some) ∙ ap (λ (u : ℕ). still (atMoment next u (next .phase))) (sym (step-clock s i t)) in
+    let rest = ties-run-in-list-order-after-the-timers next t j is (rw (step-params s i t) some) in
+    andThen-from (stepped (step s i t)) (plays (ties t (j ∷ is))) (acts (j ∷ is)) (rest ∙ ap (λ (m : Moved). andThen (moved m) (acts (j ∷ is))) quiet)
+    ∙ after-the-move s i t (j ∷ is)

@@ -1,0 +1,6 @@
+-- "Nobody waits for ever": Dark and Light, and the cases worked on paper.
+pub mod Lasting
+pub mod Prolonging
+pub mod Dark
+pub mod Light
+pub mod Worked

@@ -1,0 +1,34 @@
+-- Where the parts of a cue file stand and how long they are (01, "Time and the cue file"): the numbers are here and nowhere else.
+use Prim.Native.Nat.{ℕ, _+_, _*_}
+
+-- "Header, 20 octets of counts and offsets"; "offset of parameters (20)"
+abbrev pub parametersAt : ℕ
+parametersAt = 20
+
+-- "Parameters, 32 octets"
+abbrev pub parametersSize : ℕ
+parametersSize = 32
+
+-- "offset of inputs (52)": they follow the parameters, and a file without any ends there: "file under 52 octets"
+abbrev pub inputsAt : ℕ
+inputsAt = 52
+
+-- "Input, 8 octets"
+abbrev pub inputSize : ℕ
+inputSize = 8
+
+-- "count n of inputs (0 to 2,048)"
+abbrev pub mostInputs : ℕ
+mostInputs = 2048
+
+-- where input i stands, and so, for the count of all inputs, where the file ends: "The file is exactly 52+8n octets."
+abbrev pub inputPlace : ℕ → ℕ
+inputPlace i = inputsAt + inputSize * i
+
+-- "A record is 8 octets"
+abbrev pub recordSize : ℕ
+recordSize = 8
+
+-- "records, at least 8(3n+3) octets"
+abbrev pub recordsRoom : ℕ → ℕ
+recordsRoom n = recordSize * (3 * n + 3)
