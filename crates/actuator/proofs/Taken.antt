@@ -8,8 +8,9 @@ use native.Mathlib.Omega.{arith}
 use Rattle.rules.specs.declared.parameters.Scene.{Scene}
 use Rattle.rules.specs.declared.input.Input.{Input}
 use Rattle.rules.specs.declared.state.State.{State}
+use Rattle.rules.specs.declared.barrier.Why.{Why}
 use Rattle.rules.specs.declared.barrier.Barrier.{Barrier}
-use Rattle.rules.specs.declared.barrier.Barrier.the-variants.{Open, NoPower, NoBus, Locked, Forced}
+use Rattle.rules.specs.declared.barrier.Barrier.the-variants.{Open, Stopped}
 use Rattle.rules.specs.Inputs.{kind}
 use Rattle.rules.specs.Orders.{order}
 use Rattle.rules.specs.Barriers.{barrier}
@@ -20,15 +21,18 @@ use Rattle.rules.proofs.Laws.Orders.{order-keeps}
 use Rattle.rules.proofs.Laws.Soundness.{move-keeps}
 use Rattle.rules.proofs.Laws.Records.{a-move-writes-at-most-two, one-record-at-most}
 use Rattle.rules.proofs.Laws.Lists.{still, acts-after-the-move}
-use Rattle.orders.specs.declared.lamp.Lamp.{Lamp}
-use Rattle.orders.specs.Lamps.{lampOf, stateOf, alone, teaches}
+use Rattle.lamps.specs.declared.lamp.Lamp.{Lamp}
+use Rattle.lamps.specs.Lamps.{lampOf, stateOf, alone}
+use Rattle.orders.specs.Lessons.{teaches}
 use Rattle.orders.proofs.Lamps.{only-a-lesson-teaches}
-use Rattle.actuator.specs.declared.clock.Ticked.{Ticked}
+use Rattle.clock.specs.declared.timers.Ticked.{Ticked}
 use Rattle.actuator.specs.declared.step.Done.{Done}
-use Rattle.actuator.specs.declared.notes.Note.the-variants.{Silent, Wrote}
-use Rattle.actuator.specs.Notes.{noteOf, added, notes, ticked, firstOf, done, doneBy, stoppedBy, acted}
-use Rattle.actuator.proofs.Moves.{joined, moved-lamp}
-use Rattle.actuator.proofs.Written.{added-first}
+use Rattle.records.specs.declared.notes.Note.the-variants.{Silent, Wrote}
+use Rattle.records.specs.Notes.{noteOf, added, notes, firstOf}
+use Rattle.clock.specs.Ticks.{ticked}
+use Rattle.actuator.specs.Acts.{done, doneBy, stoppedBy, acted}
+use Rattle.clock.proofs.Moves.{joined, moved-lamp}
+use Rattle.records.proofs.Written.{added-first}
 
 -- ---- at the moved clock
 
@@ -45,40 +49,18 @@ module _ (s : State) (i : Input) where
   unfolding doneBy done act meet taken
   open-is-taken free = rw (free, first-written (kind i) s (order s i)) refl
 
-  -- a barrier that stops
-  abbrev pub Stops : Barrier → Type 0
-  Stops Open = ⊥
-  Stops NoPower = Unit
-  Stops NoBus = Unit
-  Stops Locked = Unit
-  Stops Forced = Unit
-
-  met : (b : Barrier) → Stops b → stoppedBy s b ≡ done (meet b (still s) i)
-  unfolding stoppedBy done meet
-  met NoPower stops = refl
-  met NoBus stops = refl
-  met Locked stops = refl
-  met Forced stops = refl
-
-  pub barred-is-stopped : (b : Barrier) → Stops b → barrier s i ≡ b → stoppedBy s b ≡ done (act (still s) i)
-  unfolding act
-  barred-is-stopped b stops bars = rw bars (met b stops)
+  pub barred-is-stopped : (why : Why) → barrier s i ≡ Stopped why → stoppedBy s why ≡ done (act (still s) i)
+  unfolding stoppedBy done act meet
+  barred-is-stopped why bars = rw bars refl
 
   -- the scene table is that of the order, or stays
   pub open-teaches : barrier s i ≡ Open → order s i .scenes ≡ act (still s) i .state .scenes
   unfolding act meet taken
   open-teaches free = rw free refl
 
-  kept : (b : Barrier) → Stops b → s .scenes ≡ meet b (still s) i .state .scenes
-  unfolding meet
-  kept NoPower stops = refl
-  kept NoBus stops = refl
-  kept Locked stops = refl
-  kept Forced stops = refl
-
-  pub barred-keeps : (b : Barrier) → Stops b → barrier s i ≡ b → s .scenes ≡ act (still s) i .state .scenes
-  unfolding act
-  barred-keeps b stops bars = rw bars (kept b stops)
+  pub barred-keeps : (why : Why) → barrier s i ≡ Stopped why → s .scenes ≡ act (still s) i .state .scenes
+  unfolding act meet
+  barred-keeps why bars = rw bars refl
 
   -- the parameters stay in any case, and one record is written at most
   pub acting-keeps : (act (still s) i .state .params ≡ s .params) × (length (act (still s) i .records) ≤ 1)
@@ -87,10 +69,7 @@ module _ (s : State) (i : Input) where
     where
       go : (b : Barrier) → (meet b (still s) i .state .params ≡ s .params) × (length (meet b (still s) i .records) ≤ 1)
       go Open = unfold meet taken in (order-keeps s i .params, one-record-at-most (kind i) s (order s i))
-      go NoPower = unfold meet in (refl, omega arith)
-      go NoBus = unfold meet in (refl, omega arith)
-      go Locked = unfold meet in (refl, omega arith)
-      go Forced = unfold meet in (refl, omega arith)
+      go (Stopped why) = unfold meet in (refl, omega arith)
 
   -- no table changes by an input that is not a lesson
   pub no-lesson-keeps : teaches i ≡ false → s .scenes ≡ act (still s) i .state .scenes
@@ -99,10 +78,7 @@ module _ (s : State) (i : Input) where
     where
       go : (b : Barrier) → s .scenes ≡ meet b (still s) i .state .scenes
       go Open = unfold meet taken in sym (only-a-lesson-teaches s i e)
-      go NoPower = unfold meet in refl
-      go NoBus = unfold meet in refl
-      go Locked = unfold meet in refl
-      go Forced = unfold meet in refl
+      go (Stopped why) = unfold meet in refl
 
 -- ---- the whole step
 

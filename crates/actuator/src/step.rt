@@ -2,34 +2,34 @@
 ghost use mathlib.Core.Path.{_≡_};
 ghost use mathlib.Core.Bool.{true};
 ghost use Prim.Native.Nat.{_≤_};
-ghost use Rattle.rules.specs.Answers.{answer, sameScenes};
+ghost use Rattle.rules.specs.Answers.{stoppedNumber, answer, sameScenes};
 ghost use Rattle.rules.specs.Orders.{order};
 ghost use Rattle.rules.specs.Steps.{act, step};
 ghost use Rattle.rules.specs.Soundness.{sound};
 ghost use Rattle.rules.proofs.Laws.Lists.{still};
 ghost use Rattle.phases.specs.Room.{Roomy};
-ghost use Rattle.orders.specs.Lamps.{stateOf, alone};
-ghost use Rattle.actuator.specs.Notes.{doneBy, stoppedBy, done, acted};
-use crate::barrier::barrier_to;
-use crate::barrier::kind_of;
-use crate::clock::at_moment;
-use crate::clock::due_timers;
-use crate::notes;
-use crate::notes::Note;
-use crate::notes::Notes;
-use crate::same::same_lamp;
-use crate::same::same_scenes;
+ghost use Rattle.lamps.specs.Lamps.{stateOf, alone};
+ghost use Rattle.actuator.specs.Acts.{doneBy, stoppedBy, done, acted};
+use barriers::barrier::barrier_to;
+use barriers::barrier::kind_of;
 use base::logic::both;
-use orders::lamp;
-use orders::lamp::Lamp;
+use clock::timers::due_timers;
+use lamps::lamp;
+use lamps::lamp::Lamp;
 use orders::order::carry_out;
 use orders::order::is_lesson;
 use orders::order::table_after;
+use records::notes;
+use records::notes::Note;
+use records::notes::Notes;
 use rules::barrier::Barrier;
+use rules::barrier::Why;
 use rules::input::Input;
 use rules::parameters::Params;
 use rules::parameters::Scene;
 use rules::state::State;
+use scenes::same::same_scenes;
+use states::same::same_lamp;
 
 // What an input does at the moved clock, but for the scene table.
 pub struct Done {
@@ -45,17 +45,23 @@ pub struct Acted {
     pub notes: Notes,
 }
 
-// The answer octet: the barrier that stopped the input, or whether anything changed.
-fn answer_number(b: Barrier, same: bool) -> u8
-    ensures { λ r. ⌜ r ≡ answer b same ⌝ }
+// The answer octet of an input that is stopped.
+fn stopped_number(why: Why) -> u8
+    ensures { λ r. ⌜ r ≡ stoppedNumber why ⌝ }
 {
-    match b {
-        Barrier::NoPower => 5,
-        Barrier::NoBus => 4,
-        Barrier::Locked => 3,
-        Barrier::Forced => 2,
-        Barrier::Open => { if same { 1 } else { 0 } }
+    match why {
+        Why::NoPower => 5,
+        Why::NoBus => 4,
+        Why::Locked => 3,
+        Why::Forced => 2,
     }
+}
+
+// The answer octet of an input that is taken.
+fn taken_number(same: bool) -> u8
+    ensures { λ r. ⌜ r ≡ answer Barrier.Open same ⌝ }
+{
+    if same { 1 } else { 0 }
 }
 
 // Whether an input leaves the scene table as it is. Only a lesson can change it, so no other input pays for comparing it.
@@ -76,21 +82,21 @@ fn take(p: Params, k: [Scene; 8], l: Lamp, i: Input) -> Done
 {
     let after = carry_out(p, k, l, i);
     let same = both(same_lamp(l, after), same_table(p, k, l, i));
-    let note = notes::noted(kind_of(i), l, after);
+    let note = notes::written(kind_of(i), l, after);
     Done {
         lamp: after,
-        answer: answer_number(Barrier::Open, same),
+        answer: taken_number(same),
         note,
     }
 }
 
 // An input that a barrier stops: it leaves what the clock move left.
-fn stop(l: Lamp, b: Barrier) -> Done
-    ensures { λ r. ⌜ r ≡ stoppedBy (alone l) b ⌝ }
+fn stop(l: Lamp, why: Why) -> Done
+    ensures { λ r. ⌜ r ≡ stoppedBy (alone l) why ⌝ }
 {
     Done {
         lamp: l,
-        answer: answer_number(b, true),
+        answer: stopped_number(why),
         note: Note::Silent,
     }
 }
@@ -103,10 +109,7 @@ pub fn act_on(p: Params, k: [Scene; 8], l: Lamp, i: Input) -> Done
     let b = barrier_to(l, i);
     match b {
         Barrier::Open => take(p, k, l, i),
-        Barrier::NoPower => stop(l, b),
-        Barrier::NoBus => stop(l, b),
-        Barrier::Locked => stop(l, b),
-        Barrier::Forced => stop(l, b),
+        Barrier::Stopped(why) => stop(l, why),
     }
 }
 
@@ -117,10 +120,7 @@ fn scenes_taught(p: Params, k: [Scene; 8], l: Lamp, i: Input) -> [Scene; 8]
     let b = barrier_to(l, i);
     match b {
         Barrier::Open => table_after(p, k, l, i),
-        Barrier::NoPower => k,
-        Barrier::NoBus => k,
-        Barrier::Locked => k,
-        Barrier::Forced => k,
+        Barrier::Stopped(_) => k,
     }
 }
 
@@ -146,7 +146,7 @@ pub fn step_input(s: State, i: Input, t: u32) -> Acted
     let m = due_timers(p, l, t);
     let ph = m.phase;
     let timers = m.notes;
-    let moved = at_moment(l, t, ph);
+    let moved = lamp::at_moment(l, t, ph);
     let d = act_on(p, k, moved, i);
     let after = d.lamp;
     let note = d.note;

@@ -5,16 +5,16 @@ ghost use Prim.Native.Nat.{_+_, _*_, _≤_};
 ghost use lib.ListN.{length};
 ghost use mathlib.Core.Path.{_≡_};
 ghost use Rattle.rules.specs.Files.{inputCount};
-use actuator::status::record_of;
 use base::refusal::Check;
 use base::refusal::number_of;
 use cues::check::check_file;
 use cues::header::end_time;
 use cues::header::input_count;
+use lamps::lamp::lamp_of;
 use live::clock::clock_move;
 use live::fresh::fresh_state;
 use live::single::single_input;
-use orders::lamp::lamp_of;
+use records::status::record_of;
 use rules::record::Record;
 use rules::state::State;
 

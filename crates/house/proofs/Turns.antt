@@ -14,11 +14,12 @@ use Rattle.rules.specs.Inputs.{stampAt, inputAt}
 use Rattle.rules.specs.Steps.{Stepped, atMoment, clockMove, act, step}
 use Rattle.rules.proofs.Laws.Lists.{still, andThen-assoc}
 use Rattle.decode.specs.Meaning.{isMeant}
-use Rattle.orders.specs.declared.lamp.Lamp.{Lamp}
-use Rattle.orders.specs.Lamps.{lampOf, stateOf, alone}
+use Rattle.lamps.specs.declared.lamp.Lamp.{Lamp}
+use Rattle.lamps.specs.Lamps.{lampOf, stateOf, alone}
 use Rattle.actuator.specs.declared.step.Done.{Done}
-use Rattle.actuator.specs.Notes.{firstOf, done}
-use Rattle.actuator.proofs.Moves.{moved-lamp}
+use Rattle.records.specs.Notes.{firstOf}
+use Rattle.actuator.specs.Acts.{done}
+use Rattle.clock.proofs.Moves.{moved-lamp}
 use Rattle.actuator.proofs.Taken.{acting-keeps, later, step-splits, later-joined}
 use Rattle.house.specs.declared.play.Moment.{Moment}
 use Rattle.house.specs.Playing.{found, listIn, Ready, Filled, listed, Advanced}

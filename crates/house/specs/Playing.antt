@@ -15,10 +15,10 @@ use Rattle.rules.specs.Soundness.{sound}
 use Rattle.rules.specs.Lists.{Cue, Played}
 use Rattle.rules.specs.Files.{Reading, cues, bad, inputCount, endTime, parametersIn, readInputs, readFile}
 use Rattle.rules.specs.Runs.{recordsOctets}
-use Rattle.orders.specs.declared.lamp.Lamp.{Lamp}
-use Rattle.orders.specs.Lamps.{stateOf}
-use Rattle.actuator.specs.declared.notes.Note.{Note}
-use Rattle.actuator.specs.declared.notes.Note.the-variants.{Silent, Wrote}
+use Rattle.lamps.specs.declared.lamp.Lamp.{Lamp}
+use Rattle.lamps.specs.Lamps.{stateOf}
+use Rattle.records.specs.declared.notes.Note.{Note}
+use Rattle.records.specs.declared.notes.Note.the-variants.{Silent, Wrote}
 use Rattle.house.specs.Splice.{splice}
 use Rattle.house.specs.declared.play.Ended.{Ended}
 use Rattle.house.specs.declared.play.Moment.{Moment}

@@ -11,24 +11,24 @@ ghost use Rattle.house.specs.Playing.{listIn, freshIn, Ready, Fit, Fille
 use crate::put::put_note;
 use crate::put::put_notes;
 use crate::put::put_record;
-use actuator::clock::at_moment;
-use actuator::clock::due_timers;
-use actuator::clock::is_due;
-use actuator::clock::run_timers;
-use actuator::fresh::fresh_with;
-use actuator::status::record_of;
 use actuator::step::act_on;
 use actuator::step::scenes_left;
+use clock::timers::due_timers;
+use clock::timers::is_due;
+use clock::timers::run_timers;
 use decode::input::known_input_at;
 use decode::input::stamp_at;
 use decode::parameters::params_of;
 use decode::parameters::scenes_of;
-use orders::lamp::Lamp;
-use orders::lamp::lamp_of;
-use orders::lamp::state_of;
+use lamps::lamp::Lamp;
+use lamps::lamp::at_moment;
+use lamps::lamp::lamp_of;
+use lamps::lamp::state_of;
+use records::status::record_of;
 use rules::parameters::Params;
 use rules::phase::Phase;
 use rules::state::State;
+use states::fresh::fresh_with;
 
 // Where playing has come to: the state, and how many records stand in the buffer.
 pub struct Ended {

@@ -5,8 +5,8 @@ ghost use lib.ListN.{length, take};
 ghost use Rattle.rules.specs.Runs.{recordOctets, recordsOctets};
 ghost use Rattle.house.specs.Splice.{splice};
 ghost use Rattle.house.specs.Playing.{listed};
-use actuator::notes::Note;
-use actuator::notes::Notes;
+use records::notes::Note;
+use records::notes::Notes;
 use rules::record::Record;
 
 // One record: the stamp most significant octet first, value, attributes, cause, zero.

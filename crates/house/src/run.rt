@@ -7,7 +7,6 @@ ghost use Rattle.rules.specs.Runs.{runCall, houseRun};
 ghost use Rattle.house.specs.Reports.{refusal, report, whole, answered};
 use crate::play::Ended;
 use crate::play::play;
-use actuator::fresh::own_state;
 use base::logic::both;
 use base::refusal::Check;
 use base::refusal::Refusal;
@@ -16,6 +15,7 @@ use cues::check::check_file;
 use cues::header::end_time;
 use cues::header::input_count;
 use rules::call::Ran;
+use states::fresh::own_state;
 
 fn refused(why: Refusal, place: u16) -> Ran
     ensures { λ r. ⌜ r ≡ refusal why place ⌝ }

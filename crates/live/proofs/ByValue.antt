@@ -9,7 +9,9 @@ use Rattle.rules.specs.Steps.{Moved, Stepped}
 use Rattle.rules.specs.Parameters.{checkParameters}
 use Rattle.rules.specs.Calls.{blank, places, singleDone, moveDone}
 use Rattle.rules.proofs.Laws.Parameters.{lowest-bad-octet}
-use Rattle.actuator.specs.Notes.{notes, clocked, acted}
+use Rattle.records.specs.Notes.{notes}
+use Rattle.clock.specs.Ticks.{clocked}
+use Rattle.actuator.specs.Acts.{acted}
 use Rattle.live.specs.ByValue.{singleOf, moveOf}
 
 pub acted-is-done : (d : Stepped) → singleOf (acted d) ≡ singleDone d

@@ -1,14 +1,14 @@
 // The fresh state from parameters alone.
 ghost use mathlib.Core.Path.{_≡_};
 ghost use Rattle.rules.specs.Calls.{freshCall};
-use actuator::fresh::fresh_with;
-use actuator::fresh::own_state;
 use base::refusal::Check;
 use base::refusal::number_of;
 use decode::parameters::check_parameters;
 use decode::parameters::params_of;
 use decode::parameters::scenes_of;
 use rules::call::Fresh;
+use states::fresh::fresh_with;
+use states::fresh::own_state;
 
 // Any octets: 32 that are in range give the fresh state, all others a refusal with its place and its own state.
 pub fn fresh_state(octets: &[u8]) -> Fresh

@@ -6,8 +6,6 @@ ghost use Rattle.rules.specs.Steps.{step};
 ghost use Rattle.base.specs.Refusals.{stampInRange};
 ghost use Rattle.rules.specs.Calls.{singleDone, singleRefused, singleCall};
 ghost use Rattle.live.specs.ByValue.{singleOf};
-use actuator::notes;
-use actuator::sound::is_sound;
 use actuator::step::Acted;
 use actuator::step::step_input;
 use base::moment::stamp_in_range;
@@ -15,10 +13,12 @@ use base::refusal::Refusal;
 use base::refusal::number_of;
 use decode::input::input_at;
 use decode::input::stamp_at;
+use records::notes;
 use rules::call::Single;
 use rules::input::Decoded;
 use rules::input::Input;
 use rules::state::State;
+use states::sound::is_sound;
 
 // Eight octets: the state, answer and records that the input gives, or a refusal that hands back the state it was given.
 pub fn single_input(s: State, octets: [u8; 8]) -> Single

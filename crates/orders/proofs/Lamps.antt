@@ -16,8 +16,9 @@ use Rattle.rules.specs.Scenes.{recalled, learnt}
 use Rattle.rules.specs.Orders.{withScenes, switch, recall, learn, scene, order}
 use Rattle.base.proofs.Tests.{no}
 use Rattle.rules.proofs.Laws.Orders.{other-kinds-keep-scenes}
-use Rattle.orders.specs.declared.lamp.Lamp.{Lamp}
-use Rattle.orders.specs.Lamps.{lampOf, stateOf, teaches}
+use Rattle.lamps.specs.declared.lamp.Lamp.{Lamp}
+use Rattle.lamps.specs.Lamps.{lampOf, stateOf}
+use Rattle.orders.specs.Lessons.{teaches}
 
 module _ (p : Params) (k : List Scene) (l : Lamp) (changed : State) where
   pub kept-if : (b : Bool) → b ≡ true → l ≡ lampOf (cond b (stateOf p k l) changed)

@@ -4,9 +4,10 @@ ghost use mathlib.Core.List.{List};
 ghost use Rattle.rules.specs.declared.parameters.Scene.{Scene};
 ghost use Rattle.rules.specs.Orders.{forced};
 ghost use Rattle.phases.specs.Room.{Room};
-ghost use Rattle.orders.specs.Lamps.{lampOf, stateOf};
-use crate::lamp;
-use crate::lamp::Lamp;
+ghost use Rattle.lamps.specs.Lamps.{lampOf, stateOf};
+use lamps::flags::stands;
+use lamps::lamp;
+use lamps::lamp::Lamp;
 use phases::phase;
 use rules::input::Force;
 use rules::parameters::Params;
@@ -22,7 +23,7 @@ pub fn force_order(p: Params, l: Lamp, f: Force) -> Lamp
         Force::Off => lamp::with_phase(lamp::with_force(l, Force::Off), Phase::Dark),
         Force::On => lamp::with_phase(lamp::with_force(l, Force::On), Phase::Lit),
         Force::Free => {
-            if lamp::stands(standing) {
+            if stands(standing) {
                 lamp::settled(p, lamp::with_force(l, Force::Free), phase::output_of(ph))
             } else {
                 l

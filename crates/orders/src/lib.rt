@@ -1,6 +1,5 @@
 // What each order makes of the lamp, at the lamp's own clock, and of the scene table.
 pub mod force;
-pub mod lamp;
 pub mod light;
 pub mod link;
 pub mod lock;

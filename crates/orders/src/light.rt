@@ -4,14 +4,14 @@ ghost use mathlib.Core.List.{List};
 ghost use Rattle.rules.specs.declared.parameters.Scene.{Scene};
 ghost use Rattle.rules.specs.Orders.{switch, timed, recall, scene, nightMode};
 ghost use Rattle.phases.specs.Room.{Room, Roomy};
-ghost use Rattle.orders.specs.Lamps.{lampOf, stateOf};
-use crate::lamp;
-use crate::lamp::Lamp;
-use crate::scene;
+ghost use Rattle.lamps.specs.Lamps.{lampOf, stateOf};
+use lamps::lamp;
+use lamps::lamp::Lamp;
 use phases::order;
 use rules::parameters::Params;
 use rules::parameters::Recalled;
 use rules::parameters::Scene;
+use scenes::table::recalls;
 
 pub fn switched(p: Params, l: Lamp, on: bool) -> Lamp
     requires { ⌜ Roomy p (l .clock) (l .phase) ⌝ }
@@ -58,7 +58,7 @@ pub fn scene_order(p: Params, k: [Scene; 8], l: Lamp, learn: bool, number: u8) -
     if learn {
         l
     } else {
-        recall_order(p, l, scene::recalls(k, number))
+        recall_order(p, l, recalls(k, number))
     }
 }
 

@@ -2,13 +2,14 @@
 ghost use mathlib.Core.Path.{_≡_};
 ghost use Rattle.rules.specs.Orders.{order};
 ghost use Rattle.phases.specs.Room.{Roomy};
-ghost use Rattle.orders.specs.Lamps.{lampOf, stateOf, teaches};
+ghost use Rattle.lamps.specs.Lamps.{lampOf, stateOf};
+ghost use Rattle.orders.specs.Lessons.{teaches};
 use crate::force;
-use crate::lamp::Lamp;
 use crate::light;
 use crate::link;
 use crate::lock;
 use crate::scene;
+use lamps::lamp::Lamp;
 use rules::input::Input;
 use rules::parameters::Params;
 use rules::parameters::Scene;

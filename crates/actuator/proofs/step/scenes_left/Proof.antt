@@ -1,5 +1,5 @@
 use Rattle.actuator.proofs.Taken.{no-lesson-keeps}
-use Rattle.orders.specs.Lamps.{stateOf}
+use Rattle.lamps.specs.Lamps.{stateOf}
 use mathlib.Core.Path.{sym, _∙_}
 use borrow.Author.Needs.{needs}
 use Rattle.actuator.proofs.step.scenes_left.Statement.{statement}

@@ -1,6 +1,6 @@
 use Rattle.actuator.proofs.Taken.{open-teaches, barred-keeps}
 use Rattle.rules.specs.Barriers.{barrier}
-use Rattle.orders.specs.Lamps.{stateOf}
+use Rattle.lamps.specs.Lamps.{stateOf}
 use mathlib.Core.Path.{sym, _∙_}
 use borrow.Author.Needs.{needs}
 use Rattle.actuator.proofs.step.scenes_taught.Statement.{statement}
@@ -16,39 +16,8 @@ returns-2 : tie.Need-returns-2
 unfolding barrier
 returns-2 c =
     let a = c .before .before .before .args in
-    barred-keeps (stateOf (a .p) (a .k) (a .l)) (a .i) _ tt (sym (c .before .before .barrier-to .ensures) ∙ c .enum-told2 .given .1)
-
-returns-3 : tie.Need-returns-3
-unfolding barrier
-returns-3 c =
-    let a = c .before .before .before .args in
-    barred-keeps (stateOf (a .p) (a .k) (a .l)) (a .i) _ tt (sym (c .before .before .barrier-to .ensures) ∙ c .enum-told3 .given .1)
-
-returns-4 : tie.Need-returns-4
-unfolding barrier
-returns-4 c =
-    let a = c .before .before .before .args in
-    barred-keeps (stateOf (a .p) (a .k) (a .l)) (a .i) _ tt (sym (c .before .before .barrier-to .ensures) ∙ c .enum-told4 .given .1)
-
-returns-5 : tie.Need-returns-5
-unfolding barrier
-returns-5 c =
-    let a = c .before .before .before .args in
-    barred-keeps (stateOf (a .p) (a .k) (a .l)) (a .i) _ tt (sym (c .before .before .barrier-to .ensures) ∙ c .enum-told5 .given .1)
+    barred-keeps (stateOf (a .p) (a .k) (a .l)) (a .i) _ (sym (c .before .before .barrier-to .ensures) ∙ c .enum-told2 .given .1)
 
 pub scenes-taught-spec : {M : Type 1} → statement M
 scenes-taught-spec =
-    tie.close
-    (tie.spec
-    (λ c κs. search needs)
-    (λ c. search needs)
-    (λ c κs. search needs)
-    (λ c. search needs)
-    (λ c. search needs)
-    (λ c. search needs)
-    (λ c. search needs)
-    returns
-    returns-2
-    returns-3
-    returns-4
-    returns-5)
+    tie.close (tie.spec (λ c κs. search needs) (λ c. search needs) (λ c κs. search needs) (λ c. search needs) returns returns-2)

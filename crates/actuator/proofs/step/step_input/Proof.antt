@@ -1,6 +1,7 @@
-use Rattle.actuator.specs.Notes.{notes, ticked}
+use Rattle.records.specs.Notes.{notes}
+use Rattle.clock.specs.Ticks.{ticked}
 use Rattle.actuator.proofs.Taken.{step-by-parts}
-use Rattle.actuator.proofs.Rooms.{sound-room, moved-roomy}
+use Rattle.phases.proofs.Rooms.{sound-room, moved-roomy}
 use Rattle.rules.proofs.Laws.Records.{a-move-writes-at-most-two}
 use borrow.Author.Needs.{needs}
 use Rattle.actuator.proofs.step.step_input.Statement.{statement}

@@ -1,7 +1,7 @@
 use Rattle.house.proofs.Ends.{fit-ready, record-alone, move-few, ended}
 use Rattle.house.specs.Playing.{freshIn, Ready}
 use Rattle.house.specs.Splice.{splice}
-use Rattle.actuator.proofs.Rooms.{sound-room}
+use Rattle.phases.proofs.Rooms.{sound-room}
 use Rattle.rules.proofs.Files.Files.{good-file}
 use Rattle.rules.specs.Runs.{recordOctets}
 use Rattle.rules.specs.Status.{recordOf}

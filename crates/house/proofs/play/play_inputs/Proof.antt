@@ -1,7 +1,7 @@
 use Rattle.house.proofs.Turns.{Going, going-first, turn, turn-meant, going-on, going-last}
 use Rattle.house.specs.Playing.{Ready}
-use Rattle.actuator.proofs.Rooms.{sound-room, moved-roomy}
-use Rattle.orders.specs.Lamps.{stateOf}
+use Rattle.phases.proofs.Rooms.{sound-room, moved-roomy}
+use Rattle.lamps.specs.Lamps.{stateOf}
 use Rattle.rules.proofs.Laws.Records.{a-move-writes-at-most-two}
 use borrow.Author.Needs.{needs}
 use denote.Ref.{now}

@@ -1,7 +1,7 @@
 use mathlib.Core.Path.{sym, _∙_}
 use Rattle.rules.specs.Steps.{clockMove}
 use Rattle.rules.proofs.Files.Calls.{timely}
-use Rattle.actuator.proofs.Rooms.{sound-room}
+use Rattle.phases.proofs.Rooms.{sound-room}
 use Rattle.live.proofs.ByValue.{clocked-is-done}
 use Rattle.rules.specs.Calls.{moveCall}
 use borrow.Author.Needs.{needs}

@@ -1,5 +1,5 @@
 use Rattle.rules.specs.Calls.{singleRefused}
-use Rattle.actuator.specs.Notes.{noNotes, notes}
+use Rattle.records.specs.Notes.{noNotes, notes}
 use borrow.Author.Needs.{needs}
 use Rattle.live.proofs.single.refused.Statement.{statement}
 use Rattle.live.proofs.single.refused.Tie as tie

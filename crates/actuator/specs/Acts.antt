@@ -1,0 +1,28 @@
+-- What an input came to, as the code has it.
+use Rattle.rules.specs.declared.input.Input.{Input}
+use Rattle.rules.specs.declared.state.State.{State}
+use Rattle.rules.specs.declared.barrier.Why.{Why}
+use Rattle.rules.specs.declared.barrier.Barrier.the-variants.{Open}
+use Rattle.rules.specs.Inputs.{kind}
+use Rattle.rules.specs.Answers.{stoppedNumber, answer, sameButClock}
+use Rattle.rules.specs.Steps.{Stepped}
+use Rattle.records.specs.declared.notes.Note.the-variants.{Silent}
+use Rattle.lamps.specs.Lamps.{lampOf}
+use Rattle.actuator.specs.declared.step.Acted.{Acted}
+use Rattle.actuator.specs.declared.step.Done.{Done}
+use Rattle.records.specs.Notes.{notes, noteOf, firstOf}
+
+-- a whole step
+unfoldable pub acted : Stepped → Acted
+acted d = record { state = d .state; answer = d .answer; notes = notes (d .records) }
+
+-- an input at the moved clock, but for the scene table: it writes at most one record
+unfoldable pub done : Stepped → Done
+done d = record { lamp = lampOf (d .state); answer = d .answer; note = firstOf (d .records) }
+
+-- one that is taken, and one that is stopped
+unfoldable pub doneBy : State → Input → State → Done
+doneBy s i after = record { lamp = lampOf after; answer = answer Open (sameButClock s after); note = noteOf (kind i) s after }
+
+unfoldable pub stoppedBy : State → Why → Done
+stoppedBy s why = record { lamp = lampOf s; answer = stoppedNumber why; note = Silent }

@@ -1,0 +1,3 @@
+// The status octets, the record that shows them, and the records of one call by value.
+pub mod notes;
+pub mod status;
