@@ -25,13 +25,13 @@ use Rattle.lamps.specs.declared.lamp.Lamp.{Lamp}
 use Rattle.lamps.specs.Lamps.{lampOf, stateOf, alone}
 use Rattle.orders.specs.Lessons.{teaches}
 use Rattle.orders.proofs.Lamps.{only-a-lesson-teaches}
-use Rattle.clock.specs.declared.timers.Ticked.{Ticked}
+use Rattle.timers.specs.declared.clock.Ticked.{Ticked}
 use Rattle.actuator.specs.declared.step.Done.{Done}
 use Rattle.records.specs.declared.notes.Note.the-variants.{Silent, Wrote}
 use Rattle.records.specs.Notes.{noteOf, added, notes, firstOf}
-use Rattle.clock.specs.Ticks.{ticked}
+use Rattle.timers.specs.Ticks.{ticked}
 use Rattle.actuator.specs.Acts.{done, doneBy, stoppedBy, acted}
-use Rattle.clock.proofs.Moves.{joined, moved-lamp}
+use Rattle.timers.proofs.Moves.{joined, moved-lamp}
 use Rattle.records.proofs.Written.{added-first}
 
 -- ---- at the moved clock

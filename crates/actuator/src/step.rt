@@ -13,7 +13,6 @@ ghost use Rattle.actuator.specs.Acts.{doneBy, stoppedBy, done, acted};
 use barriers::barrier::barrier_to;
 use barriers::barrier::kind_of;
 use base::logic::both;
-use clock::timers::due_timers;
 use lamps::lamp;
 use lamps::lamp::Lamp;
 use orders::order::carry_out;
@@ -30,6 +29,7 @@ use rules::parameters::Scene;
 use rules::state::State;
 use scenes::same::same_scenes;
 use states::same::same_lamp;
+use timers::clock::due_timers;
 
 // What an input does at the moved clock, but for the scene table.
 pub struct Done {

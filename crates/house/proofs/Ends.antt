@@ -16,11 +16,11 @@ use Rattle.rules.specs.Runs.{recordOctets, recordsOctets, playFile}
 use Rattle.rules.proofs.Laws.Parameters.{passed-is-sound}
 use Rattle.rules.proofs.Laws.Records.{a-move-writes-at-most-two, used-places}
 use Rattle.rules.proofs.Files.Files.{good-file, good-start, parameters-small}
-use Rattle.clock.specs.declared.timers.Ticked.{Ticked}
+use Rattle.timers.specs.declared.clock.Ticked.{Ticked}
 use Rattle.records.specs.Notes.{notes}
-use Rattle.clock.specs.Ticks.{ticked}
+use Rattle.timers.specs.Ticks.{ticked}
 use Rattle.lamps.specs.Lamps.{lampOf, stateOf, alone}
-use Rattle.clock.proofs.Moves.{moved-lamp}
+use Rattle.timers.proofs.Moves.{moved-lamp}
 use Rattle.house.specs.declared.play.Ended.{Ended}
 use Rattle.house.specs.Splice.{splice}
 use Rattle.house.specs.Playing.{listIn, freshIn, Fit, Ready, Filled}

@@ -19,7 +19,7 @@ use Rattle.lamps.specs.Lamps.{lampOf, stateOf, alone}
 use Rattle.actuator.specs.declared.step.Done.{Done}
 use Rattle.records.specs.Notes.{firstOf}
 use Rattle.actuator.specs.Acts.{done}
-use Rattle.clock.proofs.Moves.{moved-lamp}
+use Rattle.timers.proofs.Moves.{moved-lamp}
 use Rattle.actuator.proofs.Taken.{acting-keeps, later, step-splits, later-joined}
 use Rattle.house.specs.declared.play.Moment.{Moment}
 use Rattle.house.specs.Playing.{found, listIn, Ready, Filled, listed, Advanced}

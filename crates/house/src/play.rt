@@ -13,9 +13,6 @@ use crate::put::put_notes;
 use crate::put::put_record;
 use actuator::step::act_on;
 use actuator::step::scenes_left;
-use clock::timers::due_timers;
-use clock::timers::is_due;
-use clock::timers::run_timers;
 use decode::input::known_input_at;
 use decode::input::stamp_at;
 use decode::parameters::params_of;
@@ -29,6 +26,9 @@ use rules::parameters::Params;
 use rules::phase::Phase;
 use rules::state::State;
 use states::fresh::fresh_with;
+use timers::clock::due_timers;
+use timers::clock::is_due;
+use timers::clock::run_timers;
 
 // Where playing has come to: the state, and how many records stand in the buffer.
 pub struct Ended {

@@ -10,7 +10,7 @@ use Rattle.rules.specs.Parameters.{checkParameters}
 use Rattle.rules.specs.Calls.{blank, places, singleDone, moveDone}
 use Rattle.rules.proofs.Laws.Parameters.{lowest-bad-octet}
 use Rattle.records.specs.Notes.{notes}
-use Rattle.clock.specs.Ticks.{clocked}
+use Rattle.timers.specs.Ticks.{clocked}
 use Rattle.actuator.specs.Acts.{acted}
 use Rattle.live.specs.ByValue.{singleOf, moveOf}
 

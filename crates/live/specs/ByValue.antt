@@ -5,7 +5,7 @@ use Rattle.rules.specs.declared.call.Single.{Single}
 use Rattle.rules.specs.declared.call.Move.{Move}
 use Rattle.rules.specs.Calls.{blank}
 use Rattle.actuator.specs.declared.step.Acted.{Acted}
-use Rattle.clock.specs.declared.timers.Clocked.{Clocked}
+use Rattle.timers.specs.declared.clock.Clocked.{Clocked}
 
 unfoldable pub singleOf : Acted → Single
 singleOf d =

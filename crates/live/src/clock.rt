@@ -5,12 +5,12 @@ ghost use Rattle.live.specs.ByValue.{moveOf};
 use base::moment::stamp_in_range;
 use base::refusal::Refusal;
 use base::refusal::number_of;
-use clock::timers::Clocked;
-use clock::timers::move_clock;
 use rules::call::Move;
 use rules::record::Record;
 use rules::state::State;
 use states::sound::is_sound;
+use timers::clock::Clocked;
+use timers::clock::move_clock;
 
 // The state at a later moment and the records of its timers, or a refusal that hands back the state it was given.
 pub fn clock_move(s: State, stamp: u32) -> Move

@@ -1,5 +1,5 @@
 use Rattle.records.specs.Notes.{notes}
-use Rattle.clock.specs.Ticks.{ticked}
+use Rattle.timers.specs.Ticks.{ticked}
 use Rattle.actuator.proofs.Taken.{step-by-parts}
 use Rattle.phases.proofs.Rooms.{sound-room, moved-roomy}
 use Rattle.rules.proofs.Laws.Records.{a-move-writes-at-most-two}

@@ -1,7 +1,7 @@
 use Rattle.house.proofs.Ends.{move-records, move-few}
 use Rattle.house.proofs.Splices.{records-none}
-use Rattle.clock.proofs.Moves.{nothing-due}
-use Rattle.clock.specs.Ticks.{ticked}
+use Rattle.timers.proofs.Moves.{nothing-due}
+use Rattle.timers.specs.Ticks.{ticked}
 use native.Mathlib.Omega.{arith}
 use mathlib.Core.List.{[]}
 use mathlib.Core.Path.{refl, sym, _∙_}

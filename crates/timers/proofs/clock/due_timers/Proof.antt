@@ -1,8 +1,8 @@
-use Rattle.clock.proofs.Moves.{nothing-ticked}
+use Rattle.timers.proofs.Moves.{nothing-ticked}
 use mathlib.Core.Path.{sym, _∙_}
 use borrow.Author.Needs.{needs}
-use Rattle.clock.proofs.timers.due_timers.Statement.{statement}
-use Rattle.clock.proofs.timers.due_timers.Tie as tie
+use Rattle.timers.proofs.clock.due_timers.Statement.{statement}
+use Rattle.timers.proofs.clock.due_timers.Tie as tie
 
 returns-2 : tie.Need-returns-2
 returns-2 c = λ k.

@@ -5,8 +5,8 @@ use lib.Dec.{leb}
 use Rattle.rules.specs.declared.phase.Deadline.{Deadline}
 use Rattle.rules.specs.declared.phase.Deadline.the-variants.{Never, At}
 use Rattle.rules.specs.Steps.{Moved}
-use Rattle.clock.specs.declared.timers.Ticked.{Ticked}
-use Rattle.clock.specs.declared.timers.Clocked.{Clocked}
+use Rattle.timers.specs.declared.clock.Ticked.{Ticked}
+use Rattle.timers.specs.declared.clock.Clocked.{Clocked}
 use Rattle.records.specs.Notes.{notes}
 
 -- the timers of a clock move, and the whole move

@@ -18,9 +18,9 @@ use Rattle.rules.proofs.Laws.Timers.{no-timer-due-no-move}
 use Rattle.rules.proofs.Laws.Soundness.{move-keeps}
 use Rattle.lamps.specs.declared.lamp.Lamp.{Lamp}
 use Rattle.lamps.specs.Lamps.{lampOf, stateOf, alone}
-use Rattle.clock.specs.declared.timers.Ticked.{Ticked}
+use Rattle.timers.specs.declared.clock.Ticked.{Ticked}
 use Rattle.records.specs.Notes.{noNotes, noteOf, added}
-use Rattle.clock.specs.Ticks.{ticked, dueBy}
+use Rattle.timers.specs.Ticks.{ticked, dueBy}
 use Rattle.records.proofs.Written.{three-written}
 
 -- a state is its parameters, its scenes and its lamp

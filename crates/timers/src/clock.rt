@@ -6,7 +6,7 @@ ghost use Rattle.rules.specs.Phases.{deadline};
 ghost use Rattle.rules.specs.Steps.{tick, clockMove};
 ghost use Rattle.phases.specs.Room.{Room};
 ghost use Rattle.lamps.specs.Lamps.{lampOf, stateOf};
-ghost use Rattle.clock.specs.Ticks.{dueBy, ticked, clocked};
+ghost use Rattle.timers.specs.Ticks.{dueBy, ticked, clocked};
 use lamps::lamp;
 use lamps::lamp::Lamp;
 use phases::phase;

@@ -1,2 +1,2 @@
 // The clock moves: every timer that is due runs at its own moment.
-pub mod timers;
+pub mod clock;

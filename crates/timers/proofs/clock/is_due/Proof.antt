@@ -1,7 +1,7 @@
 use mathlib.Core.Path.{refl}
 use borrow.Author.Needs.{needs}
-use Rattle.clock.proofs.timers.is_due.Statement.{statement}
-use Rattle.clock.proofs.timers.is_due.Tie as tie
+use Rattle.timers.proofs.clock.is_due.Statement.{statement}
+use Rattle.timers.proofs.clock.is_due.Tie as tie
 
 returns-2 : tie.Need-returns-2
 returns-2 c = rw (← c .before .before .before .deadline-of .ensures, c .before .deadline .given .1) refl

@@ -6,8 +6,8 @@ use Rattle.rules.specs.declared.state.State.{State}
 use native.Mathlib.Omega.{arith}
 use mathlib.Core.Path.{sym, _∙_, ap}
 use borrow.Author.Needs.{needs}
-use Rattle.clock.proofs.timers.tick_once.Statement.{statement}
-use Rattle.clock.proofs.timers.tick_once.Tie as tie
+use Rattle.timers.proofs.clock.tick_once.Statement.{statement}
+use Rattle.timers.proofs.clock.tick_once.Tie as tie
 
 at-deadline-requires : tie.Need-at-deadline-requires
 at-deadline-requires c κs =

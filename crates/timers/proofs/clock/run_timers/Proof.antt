@@ -1,8 +1,8 @@
 use Rattle.records.proofs.Written.{none-fits, one-fits, two-fit}
-use Rattle.clock.proofs.Moves.{three-timers}
+use Rattle.timers.proofs.Moves.{three-timers}
 use borrow.Author.Needs.{needs}
-use Rattle.clock.proofs.timers.run_timers.Statement.{statement}
-use Rattle.clock.proofs.timers.run_timers.Tie as tie
+use Rattle.timers.proofs.clock.run_timers.Statement.{statement}
+use Rattle.timers.proofs.clock.run_timers.Tie as tie
 
 add-requires : tie.Need-add-requires
 add-requires c κs = rw (c .before .none .ensures) none-fits

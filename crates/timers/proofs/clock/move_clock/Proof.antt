@@ -1,10 +1,10 @@
-use Rattle.clock.specs.Ticks.{ticked, clocked}
+use Rattle.timers.specs.Ticks.{ticked, clocked}
 use Rattle.lamps.specs.Lamps.{lampOf}
-use Rattle.clock.proofs.Moves.{moved-lamp}
+use Rattle.timers.proofs.Moves.{moved-lamp}
 use mathlib.Core.Path.{refl}
 use borrow.Author.Needs.{needs}
-use Rattle.clock.proofs.timers.move_clock.Statement.{statement}
-use Rattle.clock.proofs.timers.move_clock.Tie as tie
+use Rattle.timers.proofs.clock.move_clock.Statement.{statement}
+use Rattle.timers.proofs.clock.move_clock.Tie as tie
 
 returns : tie.Need-returns
 unfolding ticked clocked
