@@ -6,6 +6,7 @@ ghost use lib.Dec.{eqb};
 ghost use lib.ListN.{length};
 ghost use Rattle.octets.specs.BigEndian.{octet};
 ghost use Rattle.rules.specs.declared.input.Decoded.the-variants.{Meant};
+ghost use Rattle.rules.specs.Layout.{inputSize};
 ghost use Rattle.rules.specs.Inputs.{decoded, stampAt, inputAt};
 ghost use Rattle.decode.specs.Meaning.{isMeant, eventOf, forceOf};
 use base::logic::both;
@@ -72,7 +73,7 @@ fn known_input(kind: u8, value: u8) -> Input
 
 // The stamp of the input that starts at a place.
 pub fn stamp_at(octets: &[u8], at: usize) -> u32
-    requires { ⌜ at + 8 ≤ length (now octets) ⌝ }
+    requires { ⌜ at + inputSize ≤ length (now octets) ⌝ }
     ensures { λ r. ⌜ r ≡ stampAt (now (octets .entry)) at ⌝ }
 {
     read32(octets, at)
@@ -80,7 +81,7 @@ pub fn stamp_at(octets: &[u8], at: usize) -> u32
 
 // The last two octets of an input must be zero.
 fn ends_in_zeros(octets: &[u8], at: usize) -> bool
-    requires { ⌜ at + 8 ≤ length (now octets) ⌝ }
+    requires { ⌜ at + inputSize ≤ length (now octets) ⌝ }
     ensures { λ r. ⌜ r ≡ (eqb (octet (now (octets .entry)) (at + 6)) 0 && eqb (octet (now (octets .entry)) (at + 7)) 0) ⌝ }
 {
     let first = octets[at + 6] == 0;
@@ -90,7 +91,7 @@ fn ends_in_zeros(octets: &[u8], at: usize) -> bool
 
 // Whether an input starts at a place.
 pub fn is_input_at(octets: &[u8], at: usize) -> bool
-    requires { ⌜ at + 8 ≤ length (now octets) ⌝ }
+    requires { ⌜ at + inputSize ≤ length (now octets) ⌝ }
     ensures { λ r. ⌜ r ≡ isMeant (inputAt (now (octets .entry)) at) ⌝ }
 {
     if ends_in_zeros(octets, at) {
@@ -102,7 +103,7 @@ pub fn is_input_at(octets: &[u8], at: usize) -> bool
 
 // The input that starts at a place where one does.
 pub fn known_input_at(octets: &[u8], at: usize) -> Input
-    requires { ⌜ (at + 8 ≤ length (now octets)) × (isMeant (inputAt (now octets) at) ≡ true) ⌝ }
+    requires { ⌜ (at + inputSize ≤ length (now octets)) × (isMeant (inputAt (now octets) at) ≡ true) ⌝ }
     ensures { λ r. ⌜ inputAt (now (octets .entry)) at ≡ Meant r ⌝ }
 {
     known_input(octets[at + 4], octets[at + 5])
@@ -110,7 +111,7 @@ pub fn known_input_at(octets: &[u8], at: usize) -> Input
 
 // What the input that starts at a place means.
 pub fn input_at(octets: &[u8], at: usize) -> Decoded
-    requires { ⌜ at + 8 ≤ length (now octets) ⌝ }
+    requires { ⌜ at + inputSize ≤ length (now octets) ⌝ }
     ensures { λ r. ⌜ r ≡ inputAt (now (octets .entry)) at ⌝ }
 {
     if is_input_at(octets, at) {

@@ -1,8 +1,12 @@
-// The parameters and the scene table: whether octets are accepted as such, and what 32 octets say.
+// The parameters and the scene table: whether octets are accepted as such, and what they say.
 ghost use mathlib.Core.Path.{_≡_};
-ghost use Prim.Native.Nat.{_+_, _≤_};
+ghost use Prim.Native.Nat.{_+_, _≤_, _<_};
 ghost use lib.ListN.{length};
+ghost use Rattle.rules.specs.Layout.{parametersSize, scenePlace};
 ghost use Rattle.rules.specs.Parameters.{delay, paramsOf, sceneAt, scenesOf, checkParameters};
+use crate::layout::MODES_AT;
+use crate::layout::PARAMETERS_SIZE;
+use crate::layout::SCENES_AT;
 use crate::range::lowest_bad;
 use base::refusal::Check;
 use base::refusal::Refusal;
@@ -14,7 +18,7 @@ use rules::parameters::Scene;
 pub fn check_parameters(octets: &[u8]) -> Check
     ensures { λ r. ⌜ r ≡ checkParameters (now (octets .entry)) ⌝ }
 {
-    if octets.len() == 32 {
+    if octets.len() == PARAMETERS_SIZE {
         lowest_bad(octets)
     } else {
         Check::Refused {
@@ -32,9 +36,9 @@ fn delay_at(octets: &[u8], at: usize) -> u32
     10 * read16(octets, at)
 }
 
-// The parameters that 32 octets say, accepted or not.
+// The parameters that octets say, accepted or not.
 pub fn params_of(octets: &[u8]) -> Params
-    requires { ⌜ length (now octets) ≡ 32 ⌝ }
+    requires { ⌜ length (now octets) ≡ parametersSize ⌝ }
     ensures { λ r. ⌜ r ≡ paramsOf (now (octets .entry)) ⌝ }
 {
     Params {
@@ -42,40 +46,42 @@ pub fn params_of(octets: &[u8]) -> Params
         offdelay: delay_at(octets, 2),
         timedon: delay_at(octets, 4),
         prewarning: delay_at(octets, 6),
-        locking: octets[8],
-        unlocking: octets[9],
-        busfailure: octets[10],
-        busreturn: octets[11],
-        powerreturn: octets[12],
-        learning: octets[13] == 1,
+        locking: octets[MODES_AT],
+        unlocking: octets[MODES_AT + 1],
+        busfailure: octets[MODES_AT + 2],
+        busreturn: octets[MODES_AT + 3],
+        powerreturn: octets[MODES_AT + 4],
+        learning: octets[MODES_AT + 5] == 1,
     }
 }
 
-// A scene entry: its number, then its flags, of which bit 0 is the value and bit 1 says that it was taught in.
-fn scene_at(octets: &[u8], at: usize) -> Scene
-    requires { ⌜ at + 2 ≤ length (now octets) ⌝ }
-    ensures { λ r. ⌜ r ≡ sceneAt (now (octets .entry)) at ⌝ }
+// Scene entry n: its number, then its flags, of which bit 0 is the value and bit 1 says that it was taught in.
+fn scene_at(octets: &[u8], n: usize) -> Scene
+    requires { ⌜ (length (now octets) ≡ parametersSize) × (n < 8) ⌝ }
+    ensures { λ r. ⌜ r ≡ sceneAt (now (octets .entry)) (scenePlace n) ⌝ }
 {
+    let at = SCENES_AT + 2 * n;
+    let flags = octets[at + 1];
     Scene {
         number: octets[at],
-        value: octets[at + 1] % 2 == 1,
-        taught: octets[at + 1] / 2 % 2 == 1,
+        value: flags % 2 == 1,
+        taught: flags / 2 % 2 == 1,
     }
 }
 
-// The eight scene entries that 32 octets say, accepted or not.
+// The eight scene entries that octets say, accepted or not.
 pub fn scenes_of(octets: &[u8]) -> [Scene; 8]
-    requires { ⌜ length (now octets) ≡ 32 ⌝ }
+    requires { ⌜ length (now octets) ≡ parametersSize ⌝ }
     ensures { λ r. ⌜ r ≡ scenesOf (now (octets .entry)) ⌝ }
 {
     [
-        scene_at(octets, 16),
-        scene_at(octets, 18),
-        scene_at(octets, 20),
-        scene_at(octets, 22),
-        scene_at(octets, 24),
-        scene_at(octets, 26),
-        scene_at(octets, 28),
-        scene_at(octets, 30),
+        scene_at(octets, 0),
+        scene_at(octets, 1),
+        scene_at(octets, 2),
+        scene_at(octets, 3),
+        scene_at(octets, 4),
+        scene_at(octets, 5),
+        scene_at(octets, 6),
+        scene_at(octets, 7),
     ]
 }

@@ -9,6 +9,21 @@ parametersAt = 20
 abbrev pub parametersSize : ℕ
 parametersSize = 32
 
+-- of the parameters: "8 BehaviourAtLocking .." to "14-15 zero"
+abbrev pub modesAt : ℕ
+modesAt = 8
+
+-- "then eight scene entries of two octets: number .. and flags"
+abbrev pub scenesAt : ℕ
+scenesAt = 16
+
+-- where the number and the flags of entry n stand
+abbrev pub scenePlace : ℕ → ℕ
+scenePlace n = scenesAt + 2 * n
+
+abbrev pub flagsPlace : ℕ → ℕ
+flagsPlace n = scenesAt + 1 + 2 * n
+
 -- "offset of inputs (52)": they follow the parameters, and a file without any ends there: "file under 52 octets"
 abbrev pub inputsAt : ℕ
 inputsAt = 52

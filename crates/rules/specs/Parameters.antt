@@ -11,7 +11,7 @@ use Rattle.base.specs.declared.refusal.Refusal.the-variants.{WrongLength, BadPa
 use Rattle.base.specs.declared.refusal.Check.{Check}
 use Rattle.base.specs.declared.refusal.Check.the-variants.{Passed, Refused}
 use Rattle.base.specs.Time.{tenths, longestDelay}
-use Rattle.rules.specs.Layout.{parametersSize}
+use Rattle.rules.specs.Layout.{parametersSize, modesAt, scenesAt, scenePlace, flagsPlace}
 
 -- "0-1 OnDelay; 2-3 OffDelay; 4-5 TimedOnDuration, 1 or more; 6-7 PrewarningDuration": a delay, read as tenths
 unfoldable pub delay : List ℕ → ℕ → ℕ
@@ -26,12 +26,12 @@ paramsOf octets =
       offdelay = delay octets 2;
       timedon = delay octets 4;
       prewarning = delay octets 6;
-      locking = octet octets 8;
-      unlocking = octet octets 9;
-      busfailure = octet octets 10;
-      busreturn = octet octets 11;
-      powerreturn = octet octets 12;
-      learning = eqb (octet octets 13) 1;
+      locking = octet octets modesAt;
+      unlocking = octet octets (modesAt + 1);
+      busfailure = octet octets (modesAt + 2);
+      busreturn = octet octets (modesAt + 3);
+      powerreturn = octet octets (modesAt + 4);
+      learning = eqb (octet octets (modesAt + 5)) 1;
     }
 
 -- "then eight scene entries of two octets: number (0 to 63, or 255 for unused) and flags (bit 0 value, bit 1 taught in ..)"
@@ -45,14 +45,14 @@ sceneAt octets at =
 
 unfoldable pub scenesOf : List ℕ → List Scene
 scenesOf octets =
-    sceneAt octets 16 ∷
-    sceneAt octets 18 ∷
-    sceneAt octets 20 ∷
-    sceneAt octets 22 ∷
-    sceneAt octets 24 ∷
-    sceneAt octets 26 ∷
-    sceneAt octets 28 ∷
-    sceneAt octets 30 ∷
+    sceneAt octets (scenePlace 0) ∷
+    sceneAt octets (scenePlace 1) ∷
+    sceneAt octets (scenePlace 2) ∷
+    sceneAt octets (scenePlace 3) ∷
+    sceneAt octets (scenePlace 4) ∷
+    sceneAt octets (scenePlace 5) ∷
+    sceneAt octets (scenePlace 6) ∷
+    sceneAt octets (scenePlace 7) ∷
     []
 
 -- ---- which octets are out of range
@@ -66,27 +66,27 @@ greatest = 2 ∷ 3 ∷ 2 ∷ 2 ∷ 2 ∷ 1 ∷ 0 ∷ 0 ∷ []
 -- a scene number stands in one of the first n entries
 unfoldable pub numberAbove : List ℕ → ℕ → ℕ → Bool
 numberAbove octets number zero = false
-numberAbove octets number (suc n) = eqb (octet octets (16 + 2 * n)) number || numberAbove octets number n
+numberAbove octets number (suc n) = eqb (octet octets (scenePlace n)) number || numberAbove octets number n
 
 -- the number of entry n: "0 to 63, or 255 for unused", and "Used numbers are distinct" ("a repeated scene: the later entry's number")
 unfoldable pub badNumber : List ℕ → ℕ → Bool
 badNumber octets n =
-    let number = octet octets (16 + 2 * n) in
+    let number = octet octets (scenePlace n) in
     cond (leb number 63) (numberAbove octets number n) (not (eqb number 255))
 
 -- the flags of entry n: "bit 0 value, bit 1 taught in, others zero"; "Unused entries have flags 0"
 unfoldable pub badFlags : List ℕ → ℕ → Bool
 badFlags octets n =
-    let flags = octet octets (17 + 2 * n) in
-    cond (eqb (octet octets (16 + 2 * n)) 255) (not (eqb flags 0)) (ltb 3 flags)
+    let flags = octet octets (flagsPlace n) in
+    cond (eqb (octet octets (scenePlace n)) 255) (not (eqb flags 0)) (ltb 3 flags)
 
 -- the octet at a place is out of range ("TimedOn 0: 4"; every other delay is in range)
 unfoldable pub badOctet : List ℕ → ℕ → Bool
 badOctet octets at =
-    cond (ltb at 8) (eqb at 4 && eqb (be16 octets 4) 0)
-    (cond (ltb at 16) (ltb (getD greatest (at - 8) 0) (octet octets at))
-    (cond (eqb (at % 2) 0) (badNumber octets ((at - 16) / 2))
-    (badFlags octets ((at - 16) / 2))))
+    cond (ltb at modesAt) (eqb at 4 && eqb (be16 octets 4) 0)
+    (cond (ltb at scenesAt) (ltb (getD greatest (at - modesAt) 0) (octet octets at))
+    (cond (eqb (at % 2) 0) (badNumber octets ((at - scenesAt) / 2))
+    (badFlags octets ((at - scenesAt) / 2))))
 
 -- ---- what parameters are refused for: 1, then 5 (01, "Refusal numbers")
 

@@ -2,6 +2,7 @@ use Rattle.rules.specs.Parameters.{paramsOf}
 use borrow.Author.Needs.{needs}
 use Rattle.decode.proofs.parameters.params_of.Statement.{statement}
 use Rattle.decode.proofs.parameters.params_of.Tie as tie
+use Rattle.decode.proofs.parameters.delay_at.Reads as delay-at-reads
 
 returns : tie.Need-returns
 unfolding paramsOf
@@ -15,6 +16,11 @@ params-of-spec =
     (λ c κs. search needs)
     (λ c κs. search needs)
     (λ c κs. search needs)
+    (λ c. search needs)
+    (λ c. search needs)
+    (λ c. search needs)
+    (λ c. search needs)
+    (λ c. search needs)
     (λ c. search needs)
     (λ c. search needs)
     (λ c. search needs)

@@ -2,6 +2,7 @@ use Rattle.rules.specs.Parameters.{scenesOf}
 use borrow.Author.Needs.{needs}
 use Rattle.decode.proofs.parameters.scenes_of.Statement.{statement}
 use Rattle.decode.proofs.parameters.scenes_of.Tie as tie
+use Rattle.decode.proofs.parameters.scene_at.Reads as scene-at-reads
 
 returns : tie.Need-returns
 unfolding scenesOf
