@@ -1,9 +1,10 @@
 // The check of a whole file: the first thing that is wrong, in the order of the refusal numbers.
 ghost use mathlib.Core.Path.{_≡_};
 ghost use mathlib.Core.Bool.{true};
-ghost use Prim.Native.Nat.{_+_, _*_, _≤_};
+ghost use Prim.Native.Nat.{_≤_};
 ghost use lib.ListN.{length};
 ghost use Rattle.rules.specs.Parameters.{checkParameters};
+ghost use Rattle.rules.specs.Layout.{inputsAt, mostInputs, inputPlace};
 ghost use Rattle.rules.specs.Files.{inputCount, endTime, parametersIn, layoutRight, readInputs, afterCheck, readFile};
 ghost use Rattle.cues.specs.Verdict.{verdict, checkOne};
 use crate::header::actuators_of;
@@ -16,19 +17,22 @@ use base::refusal::Check;
 use base::refusal::Refusal;
 use decode::input::is_input_at;
 use decode::input::stamp_at;
+use decode::layout::INPUTS_AT;
+use decode::layout::input_place;
+use decode::layout::parameters_in;
 use decode::parameters::check_parameters;
 
 // The parameters of a file.
 fn check_parameters_in(file: &[u8]) -> Check
-    requires { ⌜ 52 ≤ length (now file) ⌝ }
+    requires { ⌜ inputsAt ≤ length (now file) ⌝ }
     ensures { λ r. ⌜ r ≡ checkParameters (parametersIn (now (file .entry))) ⌝ }
 {
-    check_parameters(&file[20..52])
+    check_parameters(parameters_in(file))
 }
 
 // Input i alone, known to mean something or not: 6 before 7.
 fn check_one(known: bool, stamp: u32, last: u32, end: u32, i: u32) -> Check
-    requires { ⌜ i ≤ 2048 ⌝ }
+    requires { ⌜ i ≤ mostInputs ⌝ }
     ensures { λ r. ⌜ r ≡ checkOne known stamp last end i ⌝ }
 {
     if known {
@@ -52,13 +56,13 @@ fn check_one(known: bool, stamp: u32, last: u32, end: u32, i: u32) -> Check
 
 // The first bad input of n, from the first on.
 fn check_inputs(file: &[u8], n: u32, end: u32) -> Check
-    requires { ⌜ (n ≤ 2048) × (52 + 8 * n ≤ length (now file)) ⌝ }
+    requires { ⌜ (n ≤ mostInputs) × (inputPlace n ≤ length (now file)) ⌝ }
     ensures { λ r. ⌜ r ≡ verdict (readInputs (now (file .entry)) n 0 0 end) ⌝ }
 {
     let mut i: u32 = 0;
     let mut last: u32 = 0;
     while i < n {
-        let at = 52 + 8 * (i as usize);
+        let at = input_place(i);
         let stamp = stamp_at(file, at);
         let one = check_one(is_input_at(file, at), stamp, last, end, i);
         match one {
@@ -76,7 +80,7 @@ fn check_inputs(file: &[u8], n: u32, end: u32) -> Check
 
 // What stands after a good header: the parameters, then the inputs.
 fn check_contents(file: &[u8]) -> Check
-    requires { ⌜ (52 ≤ length (now file)) × (layoutRight (now file) ≡ true) ⌝ }
+    requires { ⌜ (inputsAt ≤ length (now file)) × (layoutRight (now file) ≡ true) ⌝ }
     ensures { λ r. ⌜ r ≡ verdict (afterCheck (checkParameters (parametersIn (now (file .entry)))) (readInputs (now (file .entry)) (inputCount (now (file .entry))) 0 0 (endTime (now (file .entry))))) ⌝ }
 {
     let parameters = check_parameters_in(file);
@@ -90,7 +94,7 @@ fn check_contents(file: &[u8]) -> Check
 pub fn check_file(file: &[u8]) -> Check
     ensures { λ r. ⌜ r ≡ verdict (readFile (now (file .entry))) ⌝ }
 {
-    if file.len() < 52 {
+    if file.len() < INPUTS_AT {
         return Check::Refused {
             why: Refusal::WrongLength,
             place: 0,

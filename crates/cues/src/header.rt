@@ -1,36 +1,41 @@
 // The header: counts, offsets, the end time, and the length that they ask for.
 ghost use mathlib.Core.Path.{_≡_};
-ghost use Prim.Native.Nat.{_+_, _*_, _≤_};
+ghost use Prim.Native.Nat.{_≤_};
 ghost use lib.Dec.{eqb};
 ghost use lib.ListN.{length};
+ghost use Rattle.rules.specs.Layout.{inputsAt, inputPlace};
 ghost use Rattle.rules.specs.Files.{version, actuators, inputCount, endTime, layoutRight};
 use base::logic::both;
+use decode::layout::INPUTS_AT;
+use decode::layout::MOST_INPUTS;
+use decode::layout::PARAMETERS_AT;
+use decode::layout::input_place;
 use octets::read16;
 use octets::read32;
 
 pub fn version_of(file: &[u8]) -> u32
-    requires { ⌜ 52 ≤ length (now file) ⌝ }
+    requires { ⌜ inputsAt ≤ length (now file) ⌝ }
     ensures { λ r. ⌜ r ≡ version (now (file .entry)) ⌝ }
 {
     read16(file, 0)
 }
 
 pub fn actuators_of(file: &[u8]) -> u32
-    requires { ⌜ 52 ≤ length (now file) ⌝ }
+    requires { ⌜ inputsAt ≤ length (now file) ⌝ }
     ensures { λ r. ⌜ r ≡ actuators (now (file .entry)) ⌝ }
 {
     read16(file, 2)
 }
 
 pub fn input_count(file: &[u8]) -> u32
-    requires { ⌜ 52 ≤ length (now file) ⌝ }
+    requires { ⌜ inputsAt ≤ length (now file) ⌝ }
     ensures { λ r. ⌜ r ≡ inputCount (now (file .entry)) ⌝ }
 {
     read32(file, 8)
 }
 
 pub fn end_time(file: &[u8]) -> u32
-    requires { ⌜ 52 ≤ length (now file) ⌝ }
+    requires { ⌜ inputsAt ≤ length (now file) ⌝ }
     ensures { λ r. ⌜ r ≡ endTime (now (file .entry)) ⌝ }
 {
     read32(file, 16)
@@ -38,19 +43,19 @@ pub fn end_time(file: &[u8]) -> u32
 
 // The file is exactly as long as its inputs ask for.
 fn length_fits(file: &[u8], n: u32) -> bool
-    ensures { λ r. ⌜ r ≡ eqb (length (now (file .entry))) (52 + 8 * n) ⌝ }
+    ensures { λ r. ⌜ r ≡ eqb (length (now (file .entry))) (inputPlace n) ⌝ }
 {
-    file.len() == 52 + 8 * (n as usize)
+    file.len() == input_place(n)
 }
 
 pub fn layout_is_right(file: &[u8]) -> bool
-    requires { ⌜ 52 ≤ length (now file) ⌝ }
+    requires { ⌜ inputsAt ≤ length (now file) ⌝ }
     ensures { λ r. ⌜ r ≡ layoutRight (now (file .entry)) ⌝ }
 {
     let n = input_count(file);
-    let parameters = read32(file, 4) == 20;
-    let count = n <= 2048;
-    let inputs = read32(file, 12) == 52;
+    let parameters = read32(file, 4) as usize == PARAMETERS_AT;
+    let count = n <= MOST_INPUTS;
+    let inputs = read32(file, 12) as usize == INPUTS_AT;
     let end = end_time(file) <= 864000;
     both(
         both(both(parameters, count), both(inputs, end)),

@@ -9,6 +9,7 @@ use Rattle.rules.specs.declared.parameters.Scene.{Scene}
 use Rattle.rules.specs.declared.state.State.{State}
 use Rattle.rules.specs.declared.record.Record.{Record}
 use Rattle.base.specs.Time.{lastStamp}
+use Rattle.rules.specs.Layout.{mostInputs, inputPlace}
 use Rattle.rules.specs.Parameters.{paramsOf, scenesOf}
 use Rattle.rules.specs.Steps.{Moved, fresh, clockMove}
 use Rattle.rules.specs.Soundness.{sound}
@@ -42,8 +43,8 @@ pub record Fit (file : List ℕ) (n end : ℕ) : Type 0 where
 
 -- n inputs can be played from this state on
 pub record Ready (file : List ℕ) (n : ℕ) (s : State) : Type 0 where
-  pub few : n ≤ 2048
-  pub whole : 52 + 8 * n ≤ length file
+  pub few : n ≤ mostInputs
+  pub whole : inputPlace n ≤ length file
   pub timely : endTime file ≤ lastStamp
   pub reads : readInputs file n 0 (s .clock) (endTime file) ≡ cues (listIn file)
   pub sound : sound s ≡ true

@@ -3,6 +3,7 @@ ghost use mathlib.Core.Path.{_≡_};
 ghost use mathlib.Core.Bool.{true};
 ghost use Prim.Native.Nat.{_+_, _*_, _≤_};
 ghost use lib.ListN.{length};
+ghost use Rattle.rules.specs.Layout.{inputsAt};
 ghost use Rattle.rules.specs.Soundness.{sound};
 ghost use Rattle.rules.specs.Lists.{plays};
 ghost use Rattle.rules.specs.Runs.{playFile};
@@ -15,6 +16,8 @@ use actuator::step::act_on;
 use actuator::step::scenes_left;
 use decode::input::known_input_at;
 use decode::input::stamp_at;
+use decode::layout::input_place;
+use decode::layout::parameters_in;
 use decode::parameters::params_of;
 use decode::parameters::scenes_of;
 use lamps::lamp::Lamp;
@@ -44,10 +47,10 @@ pub struct Moment {
 
 // The fresh state of a file's own parameters and scenes.
 fn fresh_in(file: &[u8]) -> State
-    requires { ⌜ 52 ≤ length (now file) ⌝ }
+    requires { ⌜ inputsAt ≤ length (now file) ⌝ }
     ensures { λ r. ⌜ r ≡ freshIn (now (file .entry)) ⌝ }
 {
-    let parameters = &file[20..52];
+    let parameters = parameters_in(file);
     fresh_with(params_of(parameters), scenes_of(parameters))
 }
 
@@ -85,7 +88,7 @@ fn play_inputs(file: &[u8], n: u32, start: State, records: &mut [u8], answers: &
     let mut count: u32 = 1;
     let mut i: u32 = 0;
     while i < n {
-        let at = 52 + 8 * (i as usize);
+        let at = input_place(i);
         let x = known_input_at(file, at);
         let t = stamp_at(file, at);
         let m = advance(records, count, p, l, t);

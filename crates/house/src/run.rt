@@ -1,8 +1,9 @@
 // The run over a cue file, for Rattle and for C.
 ghost use mathlib.Core.Path.{_≡_};
 ghost use mathlib.Core.Bool.{_&&_};
-ghost use Prim.Native.Nat.{_+_, _*_, _≤_};
+ghost use Prim.Native.Nat.{_≤_};
 ghost use lib.Dec.{leb};
+ghost use Rattle.rules.specs.Layout.{mostInputs, recordsRoom};
 ghost use Rattle.rules.specs.Runs.{runCall, houseRun};
 ghost use Rattle.house.specs.Reports.{refusal, report, whole, answered};
 use crate::play::Ended;
@@ -14,6 +15,7 @@ use base::refusal::number_of;
 use cues::check::check_file;
 use cues::header::end_time;
 use cues::header::input_count;
+use decode::layout::records_room;
 use rules::call::Ran;
 use states::fresh::own_state;
 
@@ -40,13 +42,12 @@ fn accepted(e: Ended) -> Ran
     }
 }
 
-// Whether buffers of these lengths hold all that n inputs can give: a start record, three records and an answer for each
-// input, two records for the move to the end.
+// Whether buffers of these lengths hold all that n inputs can give.
 fn is_roomy(n: u32, records: usize, answers: usize) -> bool
-    requires { ⌜ n ≤ 2048 ⌝ }
-    ensures { λ r. ⌜ r ≡ (leb (8 * (3 * n + 3)) records && leb n answers) ⌝ }
+    requires { ⌜ n ≤ mostInputs ⌝ }
+    ensures { λ r. ⌜ r ≡ (leb (recordsRoom n) records && leb n answers) ⌝ }
 {
-    let wide = 8 * (3 * (n as usize) + 3) <= records;
+    let wide = records_room(n) <= records;
     let long = n as usize <= answers;
     both(wide, long)
 }

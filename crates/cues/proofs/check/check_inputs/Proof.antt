@@ -20,19 +20,20 @@ loop-holds c = (search needs, rw (sub-zero _))
 
 loop-again : tie.Need-loop-again Inv-loop μ-loop
 loop-again c =
-    let a = c .before .before .before .before .before .before .before .before .args in
-    let l = c .before .before .before .before .before .before .loop in
-    let one = rw (c .before .before .before .is-input-at .ensures, c .before .before .before .before .stamp-at .ensures) at (sym (c .before .before .check-one .ensures) ∙ c .enum-told .given .1) in (
+    let a = c .before .before .before .before .before .before .before .before .before .args in
+    let l = c .before .before .before .before .before .before .before .loop in
+    let at = c .before .before .before .before .before .input-place .ensures in
+    let one = rw (c .before .before .before .is-input-at .ensures, c .before .before .before .before .stamp-at .ensures, at) at (sym (c .before .before .check-one .ensures) ∙ c .enum-told .given .1) in (
       search needs,
-      rw (c .before .before .before .before .stamp-at .ensures) (l .inv .1 ∙ good-goes-on (now (a .file)) (a .n) (l .i) (l .last) (a .end) (c .before .before .before .before .before .loop-test .taken) one),
+      rw (c .before .before .before .before .stamp-at .ensures, at) (l .inv .1 ∙ good-goes-on (now (a .file)) (a .n) (l .i) (l .last) (a .end) (c .before .before .before .before .before .before .loop-test .taken) one),
     )
 
 returns : tie.Need-returns Inv-loop μ-loop
 returns c =
-    let a = c .before .before .before .before .before .before .before .before .before .args in
-    let l = c .before .before .before .before .before .before .before .loop in
-    let one = rw (c .before .before .before .before .is-input-at .ensures, c .before .before .before .before .before .stamp-at .ensures) at (sym (c .before .before .before .check-one .ensures) ∙ c .before .one .given .1) in
-    sym (l .inv .1 ∙ bad-ends (now (a .file)) (a .n) (l .i) (l .last) (a .end) (c .before .before .before .before .before .before .loop-test .taken) _ _ one)
+    let a = c .before .before .before .before .before .before .before .before .before .before .args in
+    let l = c .before .before .before .before .before .before .before .before .loop in
+    let one = rw (c .before .before .before .before .is-input-at .ensures, c .before .before .before .before .before .stamp-at .ensures, c .before .before .before .before .before .before .input-place .ensures) at (sym (c .before .before .before .check-one .ensures) ∙ c .before .one .given .1) in
+    sym (l .inv .1 ∙ bad-ends (now (a .file)) (a .n) (l .i) (l .last) (a .end) (c .before .before .before .before .before .before .before .loop-test .taken) _ _ one)
 
 returns-2 : tie.Need-returns-2 Inv-loop μ-loop
 returns-2 c =
@@ -47,9 +48,7 @@ check-inputs-spec =
     Inv-loop
     μ-loop
     loop-holds
-    (λ c. search needs)
-    (λ c. search needs)
-    (λ c. search needs)
+    (λ c κs. search needs)
     (λ c κs. search needs)
     (λ c κs. search needs)
     (λ c κs. search needs)

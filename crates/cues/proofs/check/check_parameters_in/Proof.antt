@@ -1,18 +1,9 @@
-use Rattle.rules.specs.Files.{parametersIn}
 use borrow.Author.Needs.{needs}
 use Rattle.cues.proofs.check.check_parameters_in.Statement.{statement}
 use Rattle.cues.proofs.check.check_parameters_in.Tie as tie
 
 returns : tie.Need-returns
-unfolding parametersIn
-returns c = simp (c .check-parameters .ensures)
+returns c = simp (c .check-parameters .ensures, c .before .parameters-in .ensures)
 
 pub check-parameters-in-spec : {M : Type 1} → statement M
-check-parameters-in-spec =
-    tie.close
-    (tie.spec
-    (λ c. search needs)
-    (λ c. search needs)
-    (λ c. search needs)
-    (λ c κs. search needs)
-    returns)
+check-parameters-in-spec = tie.close (tie.spec (λ c κs. search needs) (λ c κs. search needs) returns)

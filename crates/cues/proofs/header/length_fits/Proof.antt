@@ -1,0 +1,9 @@
+use borrow.Author.Needs.{needs}
+use Rattle.cues.proofs.header.length_fits.Statement.{statement}
+use Rattle.cues.proofs.header.length_fits.Tie as tie
+
+returns : tie.Need-returns
+returns c = simp (← c .input-place .ensures)
+
+pub length-fits-spec : {M : Type 1} → statement M
+length-fits-spec = tie.close (tie.spec (λ c κs. search needs) returns)
