@@ -2,7 +2,7 @@
 ghost use mathlib.Core.Path.{_≡_};
 ghost use Prim.Native.Nat.{_≤_};
 ghost use lib.ListN.{length};
-ghost use Rattle.rules.specs.Layout.{inputsAt, mostInputs, inputPlace, recordsRoom};
+ghost use Rattle.rules.specs.Layout.{inputsAt, inputPlace};
 ghost use Rattle.rules.specs.Files.{parametersIn};
 
 pub const PARAMETERS_AT: usize = 20;
@@ -35,12 +35,4 @@ pub fn input_place(i: u32) -> usize
     ensures { λ r. ⌜ r ≡ inputPlace i ⌝ }
 {
     INPUTS_AT + INPUT_SIZE * (i as usize)
-}
-
-// How many octets of records n inputs can give: a start record, three for each input, two for the move to the end.
-pub fn records_room(n: u32) -> usize
-    requires { ⌜ n ≤ mostInputs ⌝ }
-    ensures { λ r. ⌜ r ≡ recordsRoom n ⌝ }
-{
-    8 * (3 * (n as usize) + 3)
 }

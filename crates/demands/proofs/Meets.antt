@@ -22,6 +22,8 @@ use Rattle.rules.specs.Lists.{Cue, cue, Played, plays, playsTo}
 use Rattle.base.specs.Refusals.{number}
 use Rattle.rules.specs.Calls.{singleDone, singleRefused, singleCall}
 use Rattle.rules.specs.Files.{Reading, cues, bad, inputCount, endTime, parametersIn, readFile, roomy, ifRoomy, readCall}
+use Rattle.octets.specs.BigEndian.{octets32}
+use Rattle.octets.proofs.BothWays.{what-is-written-is-read}
 use Rattle.rules.specs.Runs.{recordOctets, recordsOctets, over, Whole, playFile, accepted, refused, runBy, runCall}
 use Rattle.rules.specs.Promises.{DarkShown, LightStamped}
 use Rattle.demands.specs.Demands.{Model, AnswersAll, RefusesCleanly, StaysWithin, HandedBack, SingleAnswers, Judges, PlaysAll, changed, changedByTimers, changes, CountsChanges, recordsIn, recordsOf, Keeps, Meets, tableCode, tablePlace}
@@ -36,10 +38,10 @@ use Rattle.demands.proofs.Shown.{dark-shown-in-every-accepted-file, lig
 -- ---- records out of their octets
 
 read-back : (l : List Record) (rest : List ℕ) → recordsIn (length l) (recordsOctets l ++ rest) ≡ l
-unfolding recordsIn recordsOctets recordOctets
+unfolding recordsIn recordsOctets recordOctets octets32
 read-back [] rest = refl
 read-back (r ∷ l) rest =
-    let stamp : 65536 * (256 * (r .stamp / 16777216) + r .stamp / 65536 % 256) + (256 * (r .stamp / 256 % 256) + r .stamp % 256) ≡ r .stamp = omega arith in
+    let stamp = what-is-written-is-read (r .stamp) (r .value ∷ r .attributes ∷ r .cause ∷ 0 ∷ (recordsOctets l ++ rest)) in
     rw (stamp, read-back l rest)
 
 records-read-back : (l : List Record) (buffer : List ℕ) → recordsIn (length l) (over (recordsOctets l) buffer) ≡ l

@@ -22,9 +22,9 @@ use Rattle.timers.specs.Ticks.{ticked}
 use Rattle.lamps.specs.Lamps.{lampOf, stateOf, alone}
 use Rattle.timers.proofs.Moves.{moved-lamp}
 use Rattle.house.specs.declared.play.Ended.{Ended}
-use Rattle.house.specs.Splice.{splice}
+use Rattle.octets.specs.Splice.{splice}
 use Rattle.house.specs.Playing.{listIn, freshIn, Fit, Ready, Filled}
-use Rattle.house.proofs.Splices.{records-one, records-more}
+use Rattle.buffers.proofs.Splices.{records-one, records-more}
 
 -- ---- an accepted file
 

@@ -1,4 +1,3 @@
-pub mod Splices
 pub mod Turns
 pub mod Ends
 pub mod Runs

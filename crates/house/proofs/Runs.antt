@@ -11,6 +11,7 @@ use borrow.Author.Tests.{leb-true}
 use Rattle.base.specs.declared.refusal.Refusal.{Refusal}
 use Rattle.base.specs.declared.refusal.Refusal.the-variants.{ShortBuffer}
 use Rattle.base.specs.declared.refusal.Check.the-variants.{Passed, Refused}
+use Rattle.rules.specs.Layout.{recordsRoom}
 use Rattle.rules.specs.Files.{Reading, cues, bad, inputCount, readFile, roomy}
 use Rattle.rules.specs.Runs.{playFile, accepted, refused, runCall}
 use Rattle.base.proofs.Tests.{both}
@@ -19,7 +20,7 @@ use Rattle.cues.specs.Verdict.{verdict}
 use Rattle.house.specs.declared.play.Ended.{Ended}
 use Rattle.house.specs.Playing.{found, listIn, Filled}
 use Rattle.house.specs.Reports.{refusal, report, whole}
-use Rattle.house.proofs.Splices.{splice-front}
+use Rattle.buffers.proofs.Splices.{splice-front}
 
 -- what the check of a file has found
 bad-read : (x : Reading) (why : Refusal) (place : ℕ) → verdict x ≡ Refused why place → x ≡ bad why place
@@ -35,20 +36,20 @@ unfolding listIn
 file-passed file e = good-read (readFile file) e
 
 -- the room that the buffers are tested for
-pub enough-room : (n r a : ℕ) → (leb (8 * (3 * n + 3)) r && leb n a) ≡ true → (24 * n + 24 ≤ r) × (n ≤ a)
-enough-room n r a e = let t = both (leb (8 * (3 * n + 3)) r) (leb n a) e in (omega (arith, leb-true (8 * (3 * n + 3)) r (t .0)), leb-true n a (t .1))
+pub enough-room : (n r a : ℕ) → (leb (recordsRoom n) r && leb n a) ≡ true → (recordsRoom n ≤ r) × (n ≤ a)
+enough-room n r a e = let t = both (leb (recordsRoom n) r) (leb n a) e in (leb-true (recordsRoom n) r (t .0), leb-true n a (t .1))
 
 module _ (file r a : List ℕ) where
   pub run-refused : (why : Refusal) (place : ℕ) → verdict (readFile file) ≡ Refused why place → whole (refusal why place) r a ≡ runCall file r a
   unfolding refused refusal
   run-refused why place e = sym (a-bad-file-is-refused file r a why place (bad-read (readFile file) why place e))
 
-  pub run-short : (n : ℕ) → n ≡ inputCount file → readFile file ≡ cues (listIn file) → (leb (8 * (3 * n + 3)) (length r) && leb n (length a)) ≡ false
+  pub run-short : (n : ℕ) → n ≡ inputCount file → readFile file ≡ cues (listIn file) → (leb (recordsRoom n) (length r) && leb n (length a)) ≡ false
       → whole (refusal ShortBuffer 0) r a ≡ runCall file r a
   unfolding roomy refused refusal
   run-short n same read short = sym (a-short-buffer-is-refused file r a (listIn file) read (rw (← same) short))
 
-  pub run-accepted : (n : ℕ) → n ≡ inputCount file → readFile file ≡ cues (listIn file) → (leb (8 * (3 * n + 3)) (length r) && leb n (length a)) ≡ true
+  pub run-accepted : (n : ℕ) → n ≡ inputCount file → readFile file ≡ cues (listIn file) → (leb (recordsRoom n) (length r) && leb n (length a)) ≡ true
       → (e : Ended) (r₁ a₁ : List ℕ) → Filled 0 (playFile file (listIn file)) r a e r₁ a₁ → whole (report e) r₁ a₁ ≡ runCall file r a
   unfolding roomy accepted report
   run-accepted n same read room e r₁ a₁ f =

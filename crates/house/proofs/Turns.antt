@@ -17,12 +17,12 @@ use Rattle.decode.specs.Meaning.{isMeant}
 use Rattle.lamps.specs.declared.lamp.Lamp.{Lamp}
 use Rattle.lamps.specs.Lamps.{lampOf, stateOf, alone}
 use Rattle.actuator.specs.declared.step.Done.{Done}
-use Rattle.records.specs.Notes.{firstOf}
+use Rattle.records.specs.Notes.{firstOf, listed}
 use Rattle.actuator.specs.Acts.{done}
 use Rattle.timers.proofs.Moves.{moved-lamp}
 use Rattle.actuator.proofs.Taken.{acting-keeps, later, step-splits, later-joined}
 use Rattle.house.specs.declared.play.Moment.{Moment}
-use Rattle.house.specs.Playing.{found, listIn, Ready, Filled, listed, Advanced}
+use Rattle.house.specs.Playing.{found, listIn, Ready, Filled, Advanced}
 use Rattle.rules.specs.declared.input.Input.{Input}
 use Rattle.rules.specs.declared.state.State.{State}
 use Rattle.rules.specs.declared.record.Record.{Record}
@@ -35,8 +35,9 @@ use Rattle.rules.proofs.Files.Readings.{First, first-read}
 use Rattle.rules.proofs.Laws.Inputs.{input-number}
 use Rattle.rules.proofs.Laws.Soundness.{step-is-sound, step-clock}
 use Rattle.rules.proofs.Laws.Records.{an-input-writes-at-most-three}
-use Rattle.house.specs.Splice.{splice}
-use Rattle.house.proofs.Splices.{splice-none, octet-more, records-none, records-more}
+use Rattle.octets.specs.Splice.{splice}
+use Rattle.octets.proofs.Splices.{splice-none, octet-more}
+use Rattle.buffers.proofs.Splices.{records-none, records-more}
 
 -- ---- one input
 

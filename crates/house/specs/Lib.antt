@@ -1,3 +1,2 @@
-pub mod Splice
 pub mod Playing
 pub mod Reports

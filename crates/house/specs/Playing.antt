@@ -9,7 +9,7 @@ use Rattle.rules.specs.declared.parameters.Scene.{Scene}
 use Rattle.rules.specs.declared.state.State.{State}
 use Rattle.rules.specs.declared.record.Record.{Record}
 use Rattle.base.specs.Time.{lastStamp}
-use Rattle.rules.specs.Layout.{mostInputs, inputPlace}
+use Rattle.rules.specs.Layout.{mostInputs, inputPlace, recordPlace}
 use Rattle.rules.specs.Parameters.{paramsOf, scenesOf}
 use Rattle.rules.specs.Steps.{Moved, fresh, clockMove}
 use Rattle.rules.specs.Soundness.{sound}
@@ -18,9 +18,7 @@ use Rattle.rules.specs.Files.{Reading, cues, bad, inputCount, endTime, paramete
 use Rattle.rules.specs.Runs.{recordsOctets}
 use Rattle.lamps.specs.declared.lamp.Lamp.{Lamp}
 use Rattle.lamps.specs.Lamps.{stateOf}
-use Rattle.records.specs.declared.notes.Note.{Note}
-use Rattle.records.specs.declared.notes.Note.the-variants.{Silent, Wrote}
-use Rattle.house.specs.Splice.{splice}
+use Rattle.octets.specs.Splice.{splice}
 use Rattle.house.specs.declared.play.Ended.{Ended}
 use Rattle.house.specs.declared.play.Moment.{Moment}
 
@@ -54,19 +52,14 @@ pub record Ready (file : List ℕ) (n : ℕ) (s : State) : Type 0 where
 pub record Filled (from : ℕ) (p : Played) (records₀ answers₀ : List ℕ) (e : Ended) (records₁ answers₁ : List ℕ) : Type 0 where
   pub state : e .state ≡ p .state
   pub count : e .count ≡ from + length (p .records)
-  pub records : records₁ ≡ splice records₀ (8 * from) (recordsOctets (p .records))
+  pub records : records₁ ≡ splice records₀ (recordPlace from) (recordsOctets (p .records))
   pub answers : answers₁ ≡ splice answers₀ 0 (p .answers)
-
--- the record of an input, where it wrote one
-abbrev pub listed : Note → List Record
-listed Silent = []
-listed (Wrote r) = r ∷ []
 
 -- a clock move, where so many records stand before it: the phase that it leaves, and the records of its timers after those
 pub record MovedBy (m : Moved) (before : ℕ) (records₀ : List ℕ) (r : Moment) (records₁ : List ℕ) : Type 0 where
   pub phase : r .phase ≡ m .state .phase
   pub count : r .count ≡ before + length (m .records)
-  pub records : records₁ ≡ splice records₀ (8 * before) (recordsOctets (m .records))
+  pub records : records₁ ≡ splice records₀ (recordPlace before) (recordsOctets (m .records))
 
 -- the clock of a lamp moves to t, whatever the scenes
 abbrev pub Advanced : Params → Lamp → ℕ → ℕ → List ℕ → Moment → List ℕ → Type 0

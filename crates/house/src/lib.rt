@@ -1,4 +1,3 @@
 // The run over a cue file: every input of a checked file is played once, into the two lent buffers.
 mod play;
-mod put;
 pub mod run;

@@ -3,17 +3,17 @@ ghost use mathlib.Core.Path.{_≡_};
 ghost use mathlib.Core.Bool.{true};
 ghost use Prim.Native.Nat.{_+_, _*_, _≤_};
 ghost use lib.ListN.{length};
-ghost use Rattle.rules.specs.Layout.{inputsAt};
+ghost use Rattle.rules.specs.Layout.{inputsAt, recordPlace, recordsRoom};
 ghost use Rattle.rules.specs.Soundness.{sound};
 ghost use Rattle.rules.specs.Lists.{plays};
 ghost use Rattle.rules.specs.Runs.{playFile};
 ghost use Rattle.phases.specs.Room.{Room};
 ghost use Rattle.house.specs.Playing.{listIn, freshIn, Ready, Fit, Filled, Advanced};
-use crate::put::put_note;
-use crate::put::put_notes;
-use crate::put::put_record;
 use actuator::step::act_on;
 use actuator::step::scenes_left;
+use buffers::put::put_note;
+use buffers::put::put_notes;
+use buffers::put::put_record;
 use decode::input::known_input_at;
 use decode::input::stamp_at;
 use decode::layout::input_place;
@@ -57,7 +57,7 @@ fn fresh_in(file: &[u8]) -> State
 // The timers due at or before t: their records follow those before, which are at most three for each of 2,048 inputs. Most moves
 // of the clock meet no timer; only those that do pay for the copies.
 fn advance(records: &mut [u8], count: u32, p: Params, l: Lamp, t: u32) -> Moment
-    requires { ⌜ Room p t × (count ≤ 6144) × (8 * count + 16 ≤ length (now records)) ⌝ }
+    requires { ⌜ Room p t × (count ≤ 6144) × (recordPlace (count + 2) ≤ length (now records)) ⌝ }
     ensures { λ r. ⌜ Advanced p l t count (now (records .entry)) r (now (records .exit)) ⌝ }
 {
     let ph = l.phase;
@@ -67,7 +67,7 @@ fn advance(records: &mut [u8], count: u32, p: Params, l: Lamp, t: u32) -> Moment
         let m = run_timers(times, waiting, t);
         let left = m.phase;
         let written = m.notes;
-        put_notes(records, 8 * (count as usize), written);
+        put_notes(records, count, written);
         Moment {
             phase: left,
             count: count + (written.count as u32),
@@ -79,7 +79,7 @@ fn advance(records: &mut [u8], count: u32, p: Params, l: Lamp, t: u32) -> Moment
 
 // The inputs, after the start record: an input's records follow those before it, its answer has its index.
 fn play_inputs(file: &[u8], n: u32, start: State, records: &mut [u8], answers: &mut [u8]) -> Ended
-    requires { ⌜ Ready (now file) n start × (8 + 24 * n ≤ length (now records)) × (n ≤ length (now answers)) ⌝ }
+    requires { ⌜ Ready (now file) n start × (recordPlace (3 * n + 1) ≤ length (now records)) × (n ≤ length (now answers)) ⌝ }
     ensures { λ r. ⌜ Filled 1 (plays (listIn (now (file .entry))) start) (now (records .entry)) (now (answers .entry)) r (now (records .exit)) (now (answers .exit)) × (sound (r .state) ≡ true) × (r .count ≤ 1 + 3 * n) ⌝ }
 {
     let p = start.params;
@@ -112,7 +112,7 @@ fn play_inputs(file: &[u8], n: u32, start: State, records: &mut [u8], answers: &
 
 // The whole run: the start record, the inputs, and the clock's move to the end time.
 pub fn play(file: &[u8], n: u32, end: u32, records: &mut [u8], answers: &mut [u8]) -> Ended
-    requires { ⌜ Fit (now file) n end × (24 * n + 24 ≤ length (now records)) × (n ≤ length (now answers)) ⌝ }
+    requires { ⌜ Fit (now file) n end × (recordsRoom n ≤ length (now records)) × (n ≤ length (now answers)) ⌝ }
     ensures { λ r. ⌜ Filled 0 (playFile (now (file .entry)) (listIn (now (file .entry)))) (now (records .entry)) (now (answers .entry)) r (now (records .exit)) (now (answers .exit)) ⌝ }
 {
     let start = fresh_in(file);
@@ -125,7 +125,7 @@ pub fn play(file: &[u8], n: u32, end: u32, records: &mut [u8], answers: &mut [u8
     let last = due_timers(p, l, end);
     let ph = last.phase;
     let written = last.notes;
-    put_notes(records, 8 * (played.count as usize), written);
+    put_notes(records, played.count, written);
     Ended {
         state: state_of(p, k, at_moment(l, end, ph)),
         count: played.count + (written.count as u32),

@@ -12,10 +12,10 @@ use base::logic::both;
 use base::refusal::Check;
 use base::refusal::Refusal;
 use base::refusal::number_of;
+use buffers::put::records_room;
 use cues::check::check_file;
 use cues::header::end_time;
 use cues::header::input_count;
-use decode::layout::records_room;
 use rules::call::Ran;
 use states::fresh::own_state;
 

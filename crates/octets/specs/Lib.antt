@@ -1,1 +1,2 @@
 pub mod BigEndian
+pub mod Splice

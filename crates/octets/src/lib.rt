@@ -2,7 +2,8 @@
 ghost use mathlib.Core.Path.{_≡_};
 ghost use Prim.Native.Nat.{_+_, _*_, _≤_, _<_};
 ghost use lib.ListN.{length};
-ghost use Rattle.octets.specs.BigEndian.{octet, be16, be32};
+ghost use Rattle.octets.specs.BigEndian.{octet, be16, be32, octets32};
+ghost use Rattle.octets.specs.Splice.{splice};
 
 // An octet as a wider number.
 fn wide(x: u8) -> u32
@@ -25,4 +26,15 @@ pub fn read32(s: &[u8], at: usize) -> u32
     ensures { λ r. ⌜ r ≡ be32 (now (s .entry)) at ⌝ }
 {
     65536 * read16(s, at) + read16(s, at + 2)
+}
+
+// A number as the four octets from a place on; all others stay.
+pub fn write32(buf: &mut [u8], at: usize, n: u32)
+    requires { ⌜ at + 4 ≤ length (now buf) ⌝ }
+    ensures { λ _. ⌜ now (buf .exit) ≡ splice (now (buf .entry)) at (octets32 n) ⌝ }
+{
+    buf[at] = (n / 16777216) as u8;
+    buf[at + 1] = (n / 65536 % 256) as u8;
+    buf[at + 2] = (n / 256 % 256) as u8;
+    buf[at + 3] = (n % 256) as u8;
 }

@@ -30,3 +30,8 @@ added n (Wrote r) = record { count = n .count + 1; records = set (n .records) (n
 abbrev pub firstOf : List Record → Note
 firstOf [] = Silent
 firstOf (r ∷ later) = Wrote r
+
+-- and the list that was written
+abbrev pub listed : Note → List Record
+listed Silent = []
+listed (Wrote r) = r ∷ []

@@ -44,6 +44,10 @@ inputPlace i = inputsAt + inputSize * i
 abbrev pub recordSize : ℕ
 recordSize = 8
 
+-- where record k stands in its buffer
+abbrev pub recordPlace : ℕ → ℕ
+recordPlace k = recordSize * k
+
 -- "records, at least 8(3n+3) octets"
 abbrev pub recordsRoom : ℕ → ℕ
-recordsRoom n = recordSize * (3 * n + 3)
+recordsRoom n = recordPlace (3 * n + 3)

@@ -1,7 +1,8 @@
 -- The run over a cue file: its whole result, for every octet string and every pair of lent buffers (01, "Records and the printout").
-use Prim.Native.Nat.{ℕ, _+_, _*_, _^_, _/_, _%_}
+use Prim.Native.Nat.{ℕ, _+_, _*_, _^_}
 use mathlib.Core.List.{List, [], _∷_, _++_}
 use lib.ListN.{length, drop}
+use Rattle.octets.specs.BigEndian.{octets32}
 use Rattle.rules.specs.declared.record.Record.{Record}
 use Rattle.base.specs.declared.refusal.Refusal.{Refusal}
 use Rattle.rules.specs.declared.call.Ran.{Ran}
@@ -14,7 +15,7 @@ use Rattle.rules.specs.Files.{Reading, cues, bad, parametersIn, endTime,
 -- "A record is 8 octets: stamp, value, attributes, cause, zero." "Numbers are most significant octet first."
 unfoldable pub recordOctets : Record → List ℕ
 recordOctets r =
-    r .stamp / 16777216 ∷ r .stamp / 65536 % 256 ∷ r .stamp / 256 % 256 ∷ r .stamp % 256 ∷ r .value ∷ r .attributes ∷ r .cause ∷ 0 ∷ []
+    octets32 (r .stamp) ++ (r .value ∷ r .attributes ∷ r .cause ∷ 0 ∷ [])
 
 unfoldable pub recordsOctets : List Record → List ℕ
 recordsOctets [] = []

@@ -209,7 +209,7 @@ inputs-given file start (suc left) i all good =
     (λ here. rw (next-stamp file i) at (inputs-given file start left (i + 1) (omega arith) (below-more (GoodInput file) i good here)))
 
 -- 32 octets stand in a file that is long enough, so the parameters are never of a wrong length
-parameters-whole : (file : List ℕ) → 52 ≤ length file → length (parametersIn file) ≡ 32
+pub parameters-whole : (file : List ℕ) → 52 ≤ length file → length (parametersIn file) ≡ 32
 unfolding parametersIn
 parameters-whole file long = length-take 32 (drop 20 file) ∙ omega (arith, length-drop 20 file)
 

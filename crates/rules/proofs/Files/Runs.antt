@@ -16,6 +16,7 @@ use Rattle.rules.specs.Lists.{Cue, cue, plays, playsTo, playList}
 use Rattle.base.specs.Refusals.{number}
 use Rattle.rules.specs.Calls.{ownState}
 use Rattle.rules.specs.Files.{Reading, cues, bad, inputCount, endTime, parametersIn, readFile, roomy, ifRoomy, readCall}
+use Rattle.octets.specs.BigEndian.{octets32}
 use Rattle.rules.specs.Runs.{recordOctets, recordsOctets, over, Whole, playFile, accepted, refused, runBy, runCall}
 use Rattle.rules.proofs.Laws.Records.{a-move-writes-at-most-two, an-input-writes-at-most-three}
 use Rattle.rules.proofs.Files.Files.{cues-are-the-octets}
@@ -114,7 +115,7 @@ unfolding playFile playList playsTo
 played-answers file list = rw (length-append, length-append) (omega (arith, plays-answers list (fresh (paramsOf (parametersIn file)) (scenesOf (parametersIn file)))))
 
 pub records-length : (k : List Record) → length (recordsOctets k) ≡ 8 * length k
-unfolding recordsOctets recordOctets
+unfolding recordsOctets recordOctets octets32
 records-length [] = refl
 records-length (r ∷ k) = rw length-append (omega (arith, records-length k))
 

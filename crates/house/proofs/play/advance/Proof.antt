@@ -1,5 +1,5 @@
 use Rattle.house.proofs.Ends.{move-records, move-few}
-use Rattle.house.proofs.Splices.{records-none}
+use Rattle.buffers.proofs.Splices.{records-none}
 use Rattle.timers.proofs.Moves.{nothing-due}
 use Rattle.timers.specs.Ticks.{ticked}
 use native.Mathlib.Omega.{arith}
@@ -12,7 +12,8 @@ use Rattle.house.proofs.play.advance.Tie as tie
 put-notes-requires : tie.Need-put-notes-requires
 put-notes-requires c κs =
     let few = move-few _ _ _ (c .before .before .run-timers .ensures []) in
-    (omega (arith, few), omega (arith, few, c .before .before .before .before .before .before .pre .2))
+    let asked = c .before .before .before .before .before .before .pre in
+    (omega (arith, asked .1), omega (arith, few), omega (arith, few, asked .2))
 
 returns : tie.Need-returns
 unfolding ticked
@@ -32,7 +33,6 @@ advance-spec =
     (tie.spec
     (λ c κs. search needs)
     (λ c κs. search needs)
-    (λ c. search needs)
     put-notes-requires
     (λ c. search needs)
     (λ c. search needs)

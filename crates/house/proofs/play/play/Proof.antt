@@ -1,6 +1,6 @@
 use Rattle.house.proofs.Ends.{fit-ready, record-alone, move-few, ended}
 use Rattle.house.specs.Playing.{freshIn, Ready}
-use Rattle.house.specs.Splice.{splice}
+use Rattle.octets.specs.Splice.{splice}
 use Rattle.phases.proofs.Rooms.{sound-room}
 use Rattle.rules.proofs.Files.Files.{good-file}
 use Rattle.rules.specs.Runs.{recordOctets}
@@ -36,27 +36,27 @@ due-timers-requires c κs =
 
 put-notes-requires : tie.Need-put-notes-requires
 put-notes-requires c κs =
-    let inputs = c .before .before .before .before .before .before .before .before .before .before .before .before .play-inputs in
-    let few = move-few _ _ _ (c .before .before .before .due-timers .ensures []) in
-    (omega (arith, few), omega (arith, few, inputs .ensures .2, inputs .kept .1 .1 .1 .0, c .before .before .before .before .before .before .before .before .before .before .before .before .before .before .before .before .before .put-record .kept .0, c .before .before .before .before .before .before .before .before .before .before .before .before .before .before .before .before .before .before .before .before .before .before .before .before .before .pre .1))
+    let inputs = c .before .before .before .before .before .before .before .before .before .before .before .play-inputs in
+    let few = move-few _ _ _ (c .before .before .due-timers .ensures []) in
+    (omega (arith, few, inputs .ensures .2, ready (c .before .before .before .before .before .before .before .before .before .before .before .before .before .before .before .before .before .before .before .before) .few), omega (arith, few), omega (arith, few, inputs .ensures .2, inputs .kept .1 .1 .1 .0, c .before .before .before .before .before .before .before .before .before .before .before .before .before .before .before .before .put-record .kept .0, c .before .before .before .before .before .before .before .before .before .before .before .before .before .before .before .before .before .before .before .before .before .before .before .before .pre .1))
 
-add-t30 : tie.Need-add-t30
-add-t30 c = omega (arith, move-few _ _ _ (c .before .before .before .before .before .before .before .before .before .before .due-timers .ensures []), c .before .before .before .before .before .before .before .before .before .before .before .before .before .before .before .before .before .before .before .play-inputs .ensures .2, ready (c .before .before .before .before .before .before .before .before .before .before .before .before .before .before .before .before .before .before .before .before .before .before .before .before .before .before .before .before) .few)
+add-t28 : tie.Need-add-t28
+add-t28 c = omega (arith, move-few _ _ _ (c .before .before .before .before .before .before .before .before .before .due-timers .ensures []), c .before .before .before .before .before .before .before .before .before .before .before .before .before .before .before .before .before .before .play-inputs .ensures .2, ready (c .before .before .before .before .before .before .before .before .before .before .before .before .before .before .before .before .before .before .before .before .before .before .before .before .before .before .before) .few)
 
 same-length : tie.Need-same-length
-same-length c = c .before .before .before .before .before .before .put-notes .kept .0 ∙ c .before .before .before .before .before .before .before .before .before .before .before .before .before .before .before .before .before .before .before .play-inputs .kept .1 .1 .1 .0 ∙ c .before .before .before .before .before .before .before .before .before .before .before .before .before .before .before .before .before .before .before .before .before .before .before .before .put-record .kept .0
+same-length c = c .before .before .before .before .before .before .put-notes .kept .0 ∙ c .before .before .before .before .before .before .before .before .before .before .before .before .before .before .before .before .before .before .play-inputs .kept .1 .1 .1 .0 ∙ c .before .before .before .before .before .before .before .before .before .before .before .before .before .before .before .before .before .before .before .before .before .before .before .put-record .kept .0
 
 same-length-2 : tie.Need-same-length-2
-same-length-2 c = c .before .before .before .before .before .before .before .before .before .before .before .before .before .before .before .before .before .before .before .play-inputs .kept .1 .1 .1 .1 .0
+same-length-2 c = c .before .before .before .before .before .before .before .before .before .before .before .before .before .before .before .before .before .before .play-inputs .kept .1 .1 .1 .1 .0
 
 returns : tie.Need-returns
 returns c =
-    let inputs = c .before .before .before .before .before .before .before .before .before .before .before .before .before .before .before .before .before .before .before .play-inputs in
-    let lamp = c .before .before .before .before .before .before .before .before .before .before .before .lamp-of2 .ensures in
-    let moves = rw lamp at (c .before .before .before .before .before .before .before .before .before .before .due-timers .ensures (inputs .result .state .scenes)) in
-    let fresh = c .before .before .before .before .before .before .before .before .before .before .before .before .before .before .before .before .before .before .before .before .before .before .before .before .before .before .before .before .fresh-in .ensures in
+    let inputs = c .before .before .before .before .before .before .before .before .before .before .before .before .before .before .before .before .before .before .play-inputs in
+    let lamp = c .before .before .before .before .before .before .before .before .before .before .lamp-of2 .ensures in
+    let moves = rw lamp at (c .before .before .before .before .before .before .before .before .before .due-timers .ensures (inputs .result .state .scenes)) in
+    let fresh = c .before .before .before .before .before .before .before .before .before .before .before .before .before .before .before .before .before .before .before .before .before .before .before .before .before .before .before .fresh-in .ensures in
     rw (c .before .before .state-of .ensures, c .before .before .before .at-moment .ensures, lamp)
-    (ended _ _ (c .before .before .before .before .before .before .before .before .before .before .before .before .before .before .before .before .before .before .before .before .before .before .before .before .before .before .before .before .before .before .before .before .pre .0 .ends) _ _ (begun (c .before .before .before .before .before .before .before .before .before .before .before .before .before .before .before .before .before .before .before .before .before .before .before .before)) _ _ _ _ (inputs .result) (rw fresh at (inputs .ensures .0)) _ moves (c .before .before .before .before .before .before .put-notes .ensures))
+    (ended _ _ (c .before .before .before .before .before .before .before .before .before .before .before .before .before .before .before .before .before .before .before .before .before .before .before .before .before .before .before .before .before .before .before .pre .0 .ends) _ _ (begun (c .before .before .before .before .before .before .before .before .before .before .before .before .before .before .before .before .before .before .before .before .before .before .before)) _ _ _ _ (inputs .result) (rw fresh at (inputs .ensures .0)) _ moves (c .before .before .before .before .before .before .put-notes .ensures))
 
 pub play-spec : {M : Type 1} → statement M
 play-spec =
@@ -69,13 +69,11 @@ play-spec =
     play-inputs-requires
     (λ c κs. search needs)
     due-timers-requires
-    (λ c. search needs)
-    (λ c. search needs)
     put-notes-requires
     (λ c κs. search needs)
     (λ c κs. search needs)
     (λ c. search needs)
-    add-t30
+    add-t28
     same-length
     same-length-2
     returns)

@@ -27,65 +27,69 @@ loop-holds c = going-first _ _ _ _ _ (ready-to c)
 known-input-at-requires : tie.Need-known-input-at-requires Inv-loop μ-loop
 -- the file has an input at this index, which is not wrong
 known-input-at-requires c κs =
-    let ready = ready-to (c .before .before) in
-    (omega (arith, ready .whole), turn-meant _ _ _ _ _ ready _ _ _ _ _ (c .before .loop .inv) (c .loop-test .taken))
+    let ready = ready-to (c .before .before .before) in
+    (omega (arith, ready .whole, c .input-place .ensures), rw (c .input-place .ensures) (turn-meant _ _ _ _ _ ready _ _ _ _ _ (c .before .before .loop .inv) (c .before .loop-test .taken)))
 
 stamp-at-requires : tie.Need-stamp-at-requires Inv-loop μ-loop
-stamp-at-requires c κs = omega (arith, ready-to (c .before .before .before) .whole)
+stamp-at-requires c κs = omega (arith, c .before .input-place .ensures, ready-to (c .before .before .before .before) .whole)
 
 advance-requires : tie.Need-advance-requires Inv-loop μ-loop
 -- its stamp is in order, and there is room for the records of the timers
 advance-requires c κs =
-    let ready = ready-to (c .before .before .before .before .before) in
-    let a = c .before .before .before .before .before .before .before .before .before .before .before in
-    let g = c .before .before .before .before .loop .inv in
-    let f = turn _ _ _ _ _ ready _ _ _ _ _ g (c .before .before .before .loop-test .taken) in
-    (rw (c .before .stamp-at .ensures) (sound-room (stateOf (a .args .start .params) (c .before .before .before .before .loop .k) (c .before .before .before .before .loop .l)) _ (g .safe) (omega (arith, f .timely, ready .timely))), omega (arith, c .before .before .before .loop-test .taken, g .few, ready .few), omega (arith, c .before .before .before .loop-test .taken, g .few, g .room, a .pre .1))
+    let ready = ready-to (c .before .before .before .before .before .before) in
+    let a = c .before .before .before .before .before .before .before .before .before .before .before .before in
+    let g = c .before .before .before .before .before .loop .inv in
+    let f = turn _ _ _ _ _ ready _ _ _ _ _ g (c .before .before .before .before .loop-test .taken) in
+    (rw (c .before .stamp-at .ensures, c .before .before .before .input-place .ensures) (sound-room (stateOf (a .args .start .params) (c .before .before .before .before .before .loop .k) (c .before .before .before .before .before .loop .l)) _ (g .safe) (omega (arith, f .timely, ready .timely))), omega (arith, c .before .before .before .before .loop-test .taken, g .few, ready .few), omega (arith, c .before .before .before .before .loop-test .taken, g .few, g .room, a .pre .1))
 
 act-on-requires : tie.Need-act-on-requires Inv-loop μ-loop
 act-on-requires c κs =
-    let ready = ready-to (c .before .before .before .before .before .before .before .before .before) in
-    let a = c .before .before .before .before .before .before .before .before .before .before .before .before .before .before .before .args in
-    let k = c .before .before .before .before .before .before .before .before .loop .k in
-    let l = c .before .before .before .before .before .before .before .before .loop .l in
-    let g = c .before .before .before .before .before .before .before .before .loop .inv in
-    let f = turn _ _ _ _ _ ready _ _ _ _ _ g (c .before .before .before .before .before .before .before .loop-test .taken) in
-    rw (c .at-moment .ensures, c .before .before .before .advance .ensures k .phase, c .before .before .before .before .before .stamp-at .ensures)
+    let ready = ready-to (c .before .before .before .before .before .before .before .before .before .before) in
+    let a = c .before .before .before .before .before .before .before .before .before .before .before .before .before .before .before .before .args in
+    let k = c .before .before .before .before .before .before .before .before .before .loop .k in
+    let l = c .before .before .before .before .before .before .before .before .before .loop .l in
+    let g = c .before .before .before .before .before .before .before .before .before .loop .inv in
+    let f = turn _ _ _ _ _ ready _ _ _ _ _ g (c .before .before .before .before .before .before .before .before .loop-test .taken) in
+    rw (c .at-moment .ensures, c .before .before .before .advance .ensures k .phase, c .before .before .before .before .before .stamp-at .ensures, c .before .before .before .before .before .before .before .input-place .ensures)
     (moved-roomy (stateOf (a .start .params) k l) _ (g .safe) (f .risen) (omega (arith, f .timely, ready .timely)))
 
 put-note-requires : tie.Need-put-note-requires Inv-loop μ-loop
 -- there is room for its own record
 put-note-requires c κs =
-    let ready = ready-to (c .before .before .before .before .before .before .before .before .before .before .before) in
-    let a = c .before .before .before .before .before .before .before .before .before .before .before .before .before .before .before .before .before in
-    let k = c .before .before .before .before .before .before .before .before .before .before .loop .k in
-    let l = c .before .before .before .before .before .before .before .before .before .before .loop .l in
-    let g = c .before .before .before .before .before .before .before .before .before .before .loop .inv in
+    let ready = ready-to (c .before .before .before .before .before .before .before .before .before .before .before .before) in
+    let a = c .before .before .before .before .before .before .before .before .before .before .before .before .before .before .before .before .before .before in
+    let k = c .before .before .before .before .before .before .before .before .before .before .before .loop .k in
+    let l = c .before .before .before .before .before .before .before .before .before .before .before .loop .l in
+    let g = c .before .before .before .before .before .before .before .before .before .before .before .loop .inv in
     let moves = c .before .before .before .before .before .advance in
     let few = a-move-writes-at-most-two (stateOf (a .args .start .params) k l) (c .before .before .before .before .before .before .before .stamp-at .result) in
-    (omega (arith, c .before .before .before .before .before .before .before .before .before .loop-test .taken, few, moves .ensures k .count, g .few, ready .few), omega (arith, c .before .before .before .before .before .before .before .before .before .loop-test .taken, few, moves .ensures k .count, moves .kept .0, g .few, g .room, a .pre .1))
+    (omega (arith, c .before .before .before .before .before .before .before .before .before .before .loop-test .taken, few, moves .ensures k .count, g .few, ready .few), omega (arith, c .before .before .before .before .before .before .before .before .before .before .loop-test .taken, few, moves .ensures k .count, moves .kept .0, g .few, g .room, a .pre .1))
 
 cast-answers : tie.Need-cast-answers Inv-loop μ-loop
-cast-answers c = omega (arith, c .before .before .before .before .before .before .before .before .before .before .before .before .loop-test .taken, ready-to (c .before .before .before .before .before .before .before .before .before .before .before .before .before .before) .few)
+cast-answers c = omega (arith, c .before .before .before .before .before .before .before .before .before .before .before .before .before .loop-test .taken, ready-to (c .before .before .before .before .before .before .before .before .before .before .before .before .before .before .before) .few)
 
 slice-write-answers : tie.Need-slice-write-answers Inv-loop μ-loop
-slice-write-answers c = omega (arith, c .before .before .before .before .before .before .before .before .before .before .before .before .before .loop .inv .places, c .before .before .before .before .before .before .before .before .before .before .before .before .before .before .before .before .before .before .before .before .pre .2)
+slice-write-answers c = omega (arith, c .before .before .before .before .before .before .before .before .before .before .before .before .before .before .loop .inv .places, c .before .before .before .before .before .before .before .before .before .before .before .before .before .before .before .before .before .before .before .before .before .pre .2)
 
 add-i : tie.Need-add-i Inv-loop μ-loop
-add-i c = omega (arith, c .before .before .before .before .before .before .before .before .before .before .before .before .before .before .loop-test .taken, ready-to (c .before .before .before .before .before .before .before .before .before .before .before .before .before .before .before .before) .few)
+add-i c = omega (arith, c .before .before .before .before .before .before .before .before .before .before .before .before .before .before .before .loop-test .taken, ready-to (c .before .before .before .before .before .before .before .before .before .before .before .before .before .before .before .before .before) .few)
+
+loop-less : tie.Need-loop-less Inv-loop μ-loop
+loop-less c = omega (arith, c .before .before .before .before .before .before .before .before .before .before .before .before .before .before .before .loop-test .taken)
 
 loop-again : tie.Need-loop-again Inv-loop μ-loop
 loop-again c =
-    let ready = ready-to (c .before .before .before .before .before .before .before .before .before .before .before .before .before .before .before .before) in
-    let a = c .before .before .before .before .before .before .before .before .before .before .before .before .before .before .before .before .before .before .before .before .before .before in
-    let loop = c .before .before .before .before .before .before .before .before .before .before .before .before .before .before .before .loop in
+    let ready = ready-to (c .before .before .before .before .before .before .before .before .before .before .before .before .before .before .before .before .before) in
+    let a = c .before .before .before .before .before .before .before .before .before .before .before .before .before .before .before .before .before .before .before .before .before .before .before in
+    let loop = c .before .before .before .before .before .before .before .before .before .before .before .before .before .before .before .before .loop in
     let g = loop .inv in
-    let stamp = c .before .before .before .before .before .before .before .before .before .before .before .before .stamp-at .ensures in
+    let place = c .before .before .before .before .before .before .before .before .before .before .before .before .before .before .input-place .ensures in
+    let stamp = rw place at (c .before .before .before .before .before .before .before .before .before .before .before .before .stamp-at .ensures) in
     let moves = c .before .before .before .before .before .before .before .before .before .before .advance in
     let put = c .before .before .before .before .put-note in
-    going-on _ _ _ _ _ ready (a .args .start .params) (loop .k) (loop .l) _ _ _ _ g (c .before .before .before .before .before .before .before .before .before .before .before .before .before .before .loop-test .taken) (omega (arith, a .pre .1)) (a .pre .2)
-    _ (c .before .before .before .before .before .before .before .before .before .before .before .before .before .known-input-at .ensures)
-    _ _ (rw stamp at (moves .ensures)) (omega (arith, c .before .before .before .before .before .before .before .before .before .before .before .before .before .before .loop-test .taken, g .few, g .room, a .pre .1))
+    going-on _ _ _ _ _ ready (a .args .start .params) (loop .k) (loop .l) _ _ _ _ g (c .before .before .before .before .before .before .before .before .before .before .before .before .before .before .before .loop-test .taken) (omega (arith, a .pre .1)) (a .pre .2)
+    _ (rw place at (c .before .before .before .before .before .before .before .before .before .before .before .before .before .known-input-at .ensures))
+    _ _ (rw stamp at (moves .ensures)) (omega (arith, c .before .before .before .before .before .before .before .before .before .before .before .before .before .before .before .loop-test .taken, g .few, g .room, a .pre .1))
     _ (rw stamp at (c .before .before .before .before .before .before .before .at-moment .ensures))
     _ (c .before .before .before .before .before .before .act-on .ensures)
     _ (put .ensures .0) _ (put .ensures .1) (put .kept .0 ∙ moves .kept .0)
@@ -111,9 +115,7 @@ play-inputs-spec =
     μ-loop
     (λ c κs. search needs)
     loop-holds
-    (λ c. search needs)
-    (λ c. search needs)
-    (λ c. search needs)
+    (λ c κs. search needs)
     known-input-at-requires
     stamp-at-requires
     advance-requires
@@ -124,7 +126,7 @@ play-inputs-spec =
     slice-write-answers
     (λ c κs. search needs)
     add-i
-    (λ c. search needs)
+    loop-less
     loop-again
     (λ c κs. search needs)
     same-length

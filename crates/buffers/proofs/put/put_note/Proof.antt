@@ -1,10 +1,10 @@
-use Rattle.house.proofs.Splices.{records-none, records-one}
-use Rattle.house.specs.Splice.{splice}
+use Rattle.buffers.proofs.Splices.{records-none, records-one}
+use Rattle.octets.specs.Splice.{splice}
 use native.Mathlib.Omega.{arith}
 use mathlib.Core.Path.{sym, _∙_, ap}
 use borrow.Author.Needs.{needs}
-use Rattle.house.proofs.put.put_note.Statement.{statement}
-use Rattle.house.proofs.put.put_note.Tie as tie
+use Rattle.buffers.proofs.put.put_note.Statement.{statement}
+use Rattle.buffers.proofs.put.put_note.Tie as tie
 
 returns : tie.Need-returns
 returns c = rw (c .enum-told .given .1) (omega arith, records-none _ _)
@@ -16,7 +16,6 @@ pub put-note-spec : {M : Type 1} → statement M
 put-note-spec =
     tie.close
     (tie.spec
-    (λ c. search needs)
     (λ c. search needs)
     (λ c. search needs)
     (λ c κs. search needs)

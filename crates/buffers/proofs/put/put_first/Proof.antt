@@ -2,19 +2,20 @@ use Prim.Native.Nat.{_-_, _≤_}
 use mathlib.Core.Path.{_≡_, _∙_}
 use native.Mathlib.Omega.{arith}
 use lib.ListN.{length, take}
+use Rattle.rules.specs.Layout.{recordPlace}
 use Rattle.rules.specs.Runs.{recordsOctets}
-use Rattle.house.specs.Splice.{splice}
-use Rattle.house.proofs.Splices.{records-none, next-record}
+use Rattle.octets.specs.Splice.{splice}
+use Rattle.buffers.proofs.Splices.{records-none, next-record}
 use borrow.Author.Needs.{needs}
-use Rattle.house.proofs.put.put_first.Statement.{statement}
-use Rattle.house.proofs.put.put_first.Tie as tie
+use Rattle.buffers.proofs.put.put_first.Statement.{statement}
+use Rattle.buffers.proofs.put.put_first.Tie as tie
 
 -- the first j records stand in the buffer
 abbrev Inv-loop : tie.InvT-loop
-Inv-loop buf₀ at count k j₀ buf j = (j ≤ count) × (buf ≡ splice buf₀ at (recordsOctets (take j k))) × (length buf ≡ length buf₀) × (length k ≡ 3)
+Inv-loop buf₀ before count k j₀ buf j = (j ≤ count) × (buf ≡ splice buf₀ (recordPlace before) (recordsOctets (take j k))) × (length buf ≡ length buf₀) × (length k ≡ 3)
 
 abbrev μ-loop : tie.MeasureT-loop
-μ-loop buf₀ at count k j₀ buf j = count - j
+μ-loop buf₀ before count k j₀ buf j = count - j
 
 loop-holds : tie.Need-loop-holds Inv-loop μ-loop
 loop-holds c = (search needs, records-none _ _, search needs, search needs)
@@ -38,7 +39,6 @@ put-first-spec =
     Inv-loop
     μ-loop
     loop-holds
-    (λ c. search needs)
     (λ c. search needs)
     (λ c. search needs)
     (λ c. search needs)

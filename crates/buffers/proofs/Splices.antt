@@ -1,0 +1,49 @@
+-- The laws of records that are put into a lent buffer, one after the other.
+use Prim.Native.Nat.{ℕ, _+_, _*_, _≤_, _<_}
+use mathlib.Core.List.{List, [], _∷_, _++_, append-assoc, append-nil}
+use mathlib.Core.Path.{_≡_, refl, sym, ap, _∙_}
+use native.Mathlib.Nat.{zero-add}
+use native.Mathlib.Numerals.{add-one}
+use native.Mathlib.Omega.{arith}
+use lib.ListN.{length, take, drop, getD}
+use lib.Seq.{take-suc, length-take-le}
+use Rattle.octets.specs.Splice.{splice}
+use Rattle.octets.proofs.Splices.{splice-none, splice-splice}
+use Rattle.rules.specs.declared.record.Record.{Record}
+use Rattle.rules.specs.Layout.{recordPlace}
+use Rattle.rules.specs.Runs.{recordOctets, recordsOctets, over}
+use Rattle.rules.proofs.Files.Runs.{records-length}
+
+-- from the start on, the front is replaced
+pub splice-front : (b xs : List ℕ) → splice b 0 xs ≡ over xs b
+unfolding splice over
+splice-front b xs = rw zero-add
+
+records-append : (k l : List Record) → recordsOctets (k ++ l) ≡ recordsOctets k ++ recordsOctets l
+unfolding recordsOctets
+records-append [] l = refl
+records-append (r ∷ k) l = rw (append-assoc, records-append k l)
+
+pub records-one : (r : Record) → recordsOctets (r ∷ []) ≡ recordOctets r
+unfolding recordsOctets
+records-one r = append-nil (recordOctets r)
+
+pub records-none : (b : List ℕ) (at : ℕ) → b ≡ splice b at (recordsOctets [])
+unfolding recordsOctets
+records-none b at = splice-none b at
+
+-- more records right after others
+pub records-more : (b c : List ℕ) (at to : ℕ) (k l : List Record) → at ≤ length b → to ≡ at + 8 * length k
+    → c ≡ splice b at (recordsOctets k) → splice c to (recordsOctets l) ≡ splice b at (recordsOctets (k ++ l))
+records-more b c at to k l h e p =
+    let place : to ≡ at + length (recordsOctets k) = e ∙ ap (λ (n : ℕ). at + n) (sym (records-length k)) in
+    rw (records-append, p) (splice-splice b at to (recordsOctets k) (recordsOctets l) h place)
+
+-- one more of a row
+pub next-record : (b c : List ℕ) (before j : ℕ) (row : List Record) (z : Record) → recordPlace before ≤ length b → j < length row
+    → c ≡ splice b (recordPlace before) (recordsOctets (take j row))
+    → splice c (recordPlace (before + j)) (recordOctets (getD row j z)) ≡ splice b (recordPlace before) (recordsOctets (take (j + 1) row))
+next-record b c before j row z within inside p =
+    let m : length (take j row) ≡ j = length-take-le j row (omega arith) in
+    rw (add-one, take-suc row j z, ← records-one (getD row j z))
+    (records-more b c (recordPlace before) (recordPlace (before + j)) (take j row) (getD row j z ∷ []) within (omega (arith, m)) p)

@@ -1,0 +1,2 @@
+// Records as octets in a lent buffer.
+pub mod put;

@@ -1,0 +1,2 @@
+pub mod Splices
+pub mod BothWays
