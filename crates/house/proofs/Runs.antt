@@ -17,8 +17,8 @@ use Rattle.rules.specs.Runs.{playFile, accepted, refused, runCall}
 use Rattle.base.proofs.Tests.{both}
 use Rattle.rules.proofs.Files.Runs.{a-bad-file-is-refused, a-short-buffer-is-refused, a-good-file-is-played}
 use Rattle.cues.specs.Verdict.{verdict}
-use Rattle.house.specs.declared.play.Ended.{Ended}
-use Rattle.house.specs.Playing.{found, listIn, Filled}
+use Rattle.player.specs.declared.play.Ended.{Ended}
+use Rattle.player.specs.Playing.{found, listIn, Filled}
 use Rattle.house.specs.Reports.{refusal, report, whole}
 use Rattle.buffers.proofs.Splices.{splice-front}
 

@@ -6,7 +6,7 @@ use Rattle.rules.specs.declared.call.Ran.{Ran}
 use Rattle.base.specs.Refusals.{number}
 use Rattle.rules.specs.Calls.{ownState}
 use Rattle.rules.specs.Runs.{Whole, Answered}
-use Rattle.house.specs.declared.play.Ended.{Ended}
+use Rattle.player.specs.declared.play.Ended.{Ended}
 
 unfoldable pub refusal : Refusal → ℕ → Ran
 refusal why place = record { state = ownState; code = number why; place = place; count = 0 }

@@ -1,3 +1,2 @@
-// The run over a cue file: every input of a checked file is played once, into the two lent buffers.
-mod play;
+// The run over a cue file, for Rattle and for C: checked, then played into the two lent buffers.
 pub mod run;

@@ -6,8 +6,6 @@ ghost use lib.Dec.{leb};
 ghost use Rattle.rules.specs.Layout.{mostInputs, recordsRoom};
 ghost use Rattle.rules.specs.Runs.{runCall, houseRun};
 ghost use Rattle.house.specs.Reports.{refusal, report, whole, answered};
-use crate::play::Ended;
-use crate::play::play;
 use base::logic::both;
 use base::refusal::Check;
 use base::refusal::Refusal;
@@ -16,6 +14,8 @@ use buffers::put::records_room;
 use cues::check::check_file;
 use cues::header::end_time;
 use cues::header::input_count;
+use player::play::Ended;
+use player::play::play;
 use rules::call::Ran;
 use states::fresh::own_state;
 

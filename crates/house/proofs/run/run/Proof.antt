@@ -2,7 +2,7 @@ use mathlib.Core.Path.{_≡_, sym, _∙_}
 use denote.Ref.{now}
 use Rattle.rules.specs.Files.{cues, readFile}
 use Rattle.rules.proofs.Files.Files.{GoodHeader, good-file}
-use Rattle.house.specs.Playing.{listIn}
+use Rattle.player.specs.Playing.{listIn}
 use Rattle.house.proofs.Runs.{file-passed, enough-room, run-refused, run-short, run-accepted}
 use native.Mathlib.Omega.{arith}
 use borrow.Author.Needs.{needs}

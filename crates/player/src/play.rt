@@ -1,4 +1,4 @@
-// A checked file is played: one pass over its inputs, with no table and no list.
+// A checked file: its start record, its inputs one after the other, and the move to its end time.
 ghost use mathlib.Core.Path.{_≡_};
 ghost use mathlib.Core.Bool.{true};
 ghost use Prim.Native.Nat.{_+_, _*_, _≤_};
@@ -8,7 +8,7 @@ ghost use Rattle.rules.specs.Soundness.{sound};
 ghost use Rattle.rules.specs.Lists.{plays};
 ghost use Rattle.rules.specs.Runs.{playFile};
 ghost use Rattle.phases.specs.Room.{Room};
-ghost use Rattle.house.specs.Playing.{listIn, freshIn, Ready, Fit, Filled, Advanced};
+ghost use Rattle.player.specs.Playing.{listIn, freshIn, Ready, Fit, Filled, Advanced};
 use actuator::step::act_on;
 use actuator::step::scenes_left;
 use buffers::put::put_note;

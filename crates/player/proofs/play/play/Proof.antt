@@ -1,5 +1,5 @@
-use Rattle.house.proofs.Ends.{fit-ready, record-alone, move-few, ended}
-use Rattle.house.specs.Playing.{freshIn, Ready}
+use Rattle.player.proofs.Ends.{fit-ready, record-alone, move-few, ended}
+use Rattle.player.specs.Playing.{freshIn, Ready}
 use Rattle.octets.specs.Splice.{splice}
 use Rattle.phases.proofs.Rooms.{sound-room}
 use Rattle.rules.proofs.Files.Files.{good-file}
@@ -10,8 +10,8 @@ use native.Mathlib.Omega.{arith}
 use mathlib.Core.Path.{_≡_, refl, _∙_}
 use mathlib.Core.List.{[]}
 use borrow.Author.Needs.{needs}
-use Rattle.house.proofs.play.play.Statement.{statement}
-use Rattle.house.proofs.play.play.Tie as tie
+use Rattle.player.proofs.play.play.Statement.{statement}
+use Rattle.player.proofs.play.play.Tie as tie
 
 -- the fresh state is sound, and the inputs are in order from there on
 ready : (c : tie.After-fresh-in) → let a = c .before .before .before .before .args in Ready (now (a .file)) (a .n) (c .fresh-in .result)

@@ -21,8 +21,8 @@ use Rattle.records.specs.Notes.{firstOf, listed}
 use Rattle.actuator.specs.Acts.{done}
 use Rattle.timers.proofs.Moves.{moved-lamp}
 use Rattle.actuator.proofs.Taken.{acting-keeps, later, step-splits, later-joined}
-use Rattle.house.specs.declared.play.Moment.{Moment}
-use Rattle.house.specs.Playing.{found, listIn, Ready, Filled, Advanced}
+use Rattle.player.specs.declared.play.Moment.{Moment}
+use Rattle.player.specs.Playing.{found, listIn, Ready, Filled, Advanced}
 use Rattle.rules.specs.declared.input.Input.{Input}
 use Rattle.rules.specs.declared.state.State.{State}
 use Rattle.rules.specs.declared.record.Record.{Record}

@@ -21,9 +21,9 @@ use Rattle.records.specs.Notes.{notes}
 use Rattle.timers.specs.Ticks.{ticked}
 use Rattle.lamps.specs.Lamps.{lampOf, stateOf, alone}
 use Rattle.timers.proofs.Moves.{moved-lamp}
-use Rattle.house.specs.declared.play.Ended.{Ended}
+use Rattle.player.specs.declared.play.Ended.{Ended}
 use Rattle.octets.specs.Splice.{splice}
-use Rattle.house.specs.Playing.{listIn, freshIn, Fit, Ready, Filled}
+use Rattle.player.specs.Playing.{listIn, freshIn, Fit, Ready, Filled}
 use Rattle.buffers.proofs.Splices.{records-one, records-more}
 
 -- ---- an accepted file

@@ -19,8 +19,8 @@ use Rattle.rules.specs.Runs.{recordsOctets}
 use Rattle.lamps.specs.declared.lamp.Lamp.{Lamp}
 use Rattle.lamps.specs.Lamps.{stateOf}
 use Rattle.octets.specs.Splice.{splice}
-use Rattle.house.specs.declared.play.Ended.{Ended}
-use Rattle.house.specs.declared.play.Moment.{Moment}
+use Rattle.player.specs.declared.play.Ended.{Ended}
+use Rattle.player.specs.declared.play.Moment.{Moment}
 
 -- the cues that a reading has found
 abbrev pub found : Reading → List Cue

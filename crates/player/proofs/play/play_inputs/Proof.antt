@@ -1,5 +1,5 @@
-use Rattle.house.proofs.Turns.{Going, going-first, turn, turn-meant, going-on, going-last}
-use Rattle.house.specs.Playing.{Ready}
+use Rattle.player.proofs.Turns.{Going, going-first, turn, turn-meant, going-on, going-last}
+use Rattle.player.specs.Playing.{Ready}
 use Rattle.phases.proofs.Rooms.{sound-room, moved-roomy}
 use Rattle.lamps.specs.Lamps.{stateOf}
 use Rattle.rules.proofs.Laws.Records.{a-move-writes-at-most-two}
@@ -8,8 +8,8 @@ use denote.Ref.{now}
 use native.Mathlib.Omega.{arith}
 use Prim.Native.Nat.{_-_}
 use mathlib.Core.Path.{_∙_}
-use Rattle.house.proofs.play.play_inputs.Statement.{statement}
-use Rattle.house.proofs.play.play_inputs.Tie as tie
+use Rattle.player.proofs.play.play_inputs.Statement.{statement}
+use Rattle.player.proofs.play.play_inputs.Tie as tie
 
 abbrev Inv-loop : tie.InvT-loop
 Inv-loop file n records₀ answers₀ p k₀ l₀ count₀ i₀ records answers k l count i = Going file n (stateOf p k₀ l₀) records₀ answers₀ records answers (stateOf p k l) count i

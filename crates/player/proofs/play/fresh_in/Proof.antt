@@ -1,8 +1,8 @@
-use Rattle.house.specs.Playing.{freshIn}
+use Rattle.player.specs.Playing.{freshIn}
 use Rattle.rules.proofs.Files.Files.{parameters-whole}
 use borrow.Author.Needs.{needs}
-use Rattle.house.proofs.play.fresh_in.Statement.{statement}
-use Rattle.house.proofs.play.fresh_in.Tie as tie
+use Rattle.player.proofs.play.fresh_in.Statement.{statement}
+use Rattle.player.proofs.play.fresh_in.Tie as tie
 
 params-of-requires : tie.Need-params-of-requires
 params-of-requires c κs = rw (c .parameters-in .ensures) (parameters-whole _ (c .before .before .pre))

@@ -1,4 +1,4 @@
-use Rattle.house.proofs.Ends.{move-records, move-few}
+use Rattle.player.proofs.Ends.{move-records, move-few}
 use Rattle.buffers.proofs.Splices.{records-none}
 use Rattle.timers.proofs.Moves.{nothing-due}
 use Rattle.timers.specs.Ticks.{ticked}
@@ -6,8 +6,8 @@ use native.Mathlib.Omega.{arith}
 use mathlib.Core.List.{[]}
 use mathlib.Core.Path.{refl, sym, _∙_}
 use borrow.Author.Needs.{needs}
-use Rattle.house.proofs.play.advance.Statement.{statement}
-use Rattle.house.proofs.play.advance.Tie as tie
+use Rattle.player.proofs.play.advance.Statement.{statement}
+use Rattle.player.proofs.play.advance.Tie as tie
 
 put-notes-requires : tie.Need-put-notes-requires
 put-notes-requires c κs =
