@@ -16,57 +16,45 @@ use rules::input::Force;
 use rules::input::Input;
 use rules::state::Link;
 
-// What stops each kind, from 1 SwitchOnOff to 8 power: power down, bus down, lock, force.
-const ROWS: [Row; 8] = [
-    Row {
-        power: true,
-        bus: true,
-        lock: true,
-        force: true,
-    },
-    Row {
-        power: true,
-        bus: true,
-        lock: true,
-        force: true,
-    },
-    Row {
-        power: true,
-        bus: true,
-        lock: true,
-        force: true,
-    },
-    Row {
-        power: true,
-        bus: true,
-        lock: true,
-        force: false,
-    },
-    Row {
-        power: true,
-        bus: true,
-        lock: false,
-        force: false,
-    },
-    Row {
-        power: true,
-        bus: true,
-        lock: true,
-        force: true,
-    },
-    Row {
-        power: true,
-        bus: false,
-        lock: false,
-        force: false,
-    },
-    Row {
-        power: false,
-        bus: false,
-        lock: false,
-        force: false,
-    },
-];
+// What stops "the low inputs: switch, timed, scene, night".
+const LOW: Row = Row {
+    power: true,
+    bus: true,
+    lock: true,
+    force: true,
+};
+
+// What stops a forced input, a lock, and the events of the bus and of the power.
+const FORCED: Row = Row {
+    power: true,
+    bus: true,
+    lock: true,
+    force: false,
+};
+
+const LOCK: Row = Row {
+    power: true,
+    bus: true,
+    lock: false,
+    force: false,
+};
+
+const BUS: Row = Row {
+    power: true,
+    bus: false,
+    lock: false,
+    force: false,
+};
+
+const POWER: Row = Row {
+    power: false,
+    bus: false,
+    lock: false,
+    force: false,
+};
+
+// The table: a row for each kind, from 1 SwitchOnOff to 8 power.
+const ROWS: [Row; 8] = [LOW, LOW, LOW, FORCED, LOCK, LOW, BUS, POWER];
 
 pub fn kind_of(i: Input) -> u8
     ensures { λ r. ⌜ r ≡ kind i ⌝ }
