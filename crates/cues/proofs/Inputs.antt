@@ -15,7 +15,7 @@ use Rattle.rules.specs.Inputs.{inputAt, stampAt}
 use Rattle.rules.specs.Lists.{cue}
 use Rattle.rules.specs.Layout.{inputPlace}
 use Rattle.rules.specs.Files.{Reading, cues, bad, before, readOne, readInputs}
-use Rattle.decode.specs.Meaning.{isMeant}
+use Rattle.inputs.specs.Meaning.{isMeant}
 use Rattle.cues.specs.Verdict.{verdict, checkOne}
 
 -- the first of two refusals

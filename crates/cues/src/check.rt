@@ -15,12 +15,12 @@ use crate::header::version_of;
 use base::logic::both;
 use base::refusal::Check;
 use base::refusal::Refusal;
-use decode::input::is_input_at;
-use decode::input::stamp_at;
-use decode::layout::INPUTS_AT;
-use decode::layout::input_place;
-use decode::layout::parameters_in;
-use decode::parameters::check_parameters;
+use inputs::is_input_at;
+use inputs::stamp_at;
+use layout::INPUTS_AT;
+use layout::input_place;
+use layout::parameters_in;
+use parameters::read::check_parameters;
 
 // The parameters of a file.
 fn check_parameters_in(file: &[u8]) -> Check

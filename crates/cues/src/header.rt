@@ -6,10 +6,10 @@ ghost use lib.ListN.{length};
 ghost use Rattle.rules.specs.Layout.{inputsAt, inputPlace};
 ghost use Rattle.rules.specs.Files.{version, actuators, inputCount, endTime, layoutRight};
 use base::logic::both;
-use decode::layout::INPUTS_AT;
-use decode::layout::MOST_INPUTS;
-use decode::layout::PARAMETERS_AT;
-use decode::layout::input_place;
+use layout::INPUTS_AT;
+use layout::MOST_INPUTS;
+use layout::PARAMETERS_AT;
+use layout::input_place;
 use octets::read16;
 use octets::read32;
 

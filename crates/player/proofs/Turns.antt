@@ -13,7 +13,7 @@ use Rattle.rules.specs.declared.input.Decoded.the-variants.{Meant, Wrong}
 use Rattle.rules.specs.Inputs.{stampAt, inputAt}
 use Rattle.rules.specs.Steps.{Stepped, atMoment, clockMove, act, step}
 use Rattle.rules.proofs.Laws.Lists.{still, andThen-assoc}
-use Rattle.decode.specs.Meaning.{isMeant}
+use Rattle.inputs.specs.Meaning.{isMeant}
 use Rattle.lamps.specs.declared.lamp.Lamp.{Lamp}
 use Rattle.lamps.specs.Lamps.{lampOf, stateOf, alone}
 use Rattle.actuator.specs.declared.step.Done.{Done}

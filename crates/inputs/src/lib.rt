@@ -1,0 +1,122 @@
+// Inputs: eight octets, with a stamp, a kind and a value.
+ghost use mathlib.Core.Path.{_≡_};
+ghost use Prim.Native.Nat.{_+_, _≤_};
+ghost use mathlib.Core.Bool.{true, _&&_};
+ghost use lib.Dec.{eqb};
+ghost use lib.ListN.{length};
+ghost use Rattle.octets.specs.BigEndian.{octet};
+ghost use Rattle.rules.specs.declared.input.Decoded.the-variants.{Meant};
+ghost use Rattle.rules.specs.Layout.{inputSize};
+ghost use Rattle.rules.specs.Inputs.{decoded, stampAt, inputAt};
+ghost use Rattle.inputs.specs.Meaning.{isMeant, eventOf, forceOf};
+use base::logic::both;
+use octets::read32;
+use rules::input::Decoded;
+use rules::input::Event;
+use rules::input::Force;
+use rules::input::Input;
+
+// Whether a kind and a value mean an input. Every kind takes 0 and 1; only a scene and a force take more.
+fn is_known(kind: u8, value: u8) -> bool
+    ensures { λ r. ⌜ r ≡ isMeant (decoded kind value) ⌝ }
+{
+    if value <= 1 {
+        match kind {
+            1..=8 => true,
+            _ => false,
+        }
+    } else {
+        match kind {
+            3 => value / 64 % 2 == 0,
+            4 => value <= 3,
+            _ => false,
+        }
+    }
+}
+
+// Of a value that is 0 or 1: 0 is a failure, 1 a return.
+fn known_event(one: bool) -> Event
+    ensures { λ r. ⌜ r ≡ eventOf one ⌝ }
+{
+    if one { Event::Return } else { Event::Failure }
+}
+
+// Of a value up to 3: without its control bit it frees, whatever its other bit says.
+fn known_force(value: u8) -> Force
+    ensures { λ r. ⌜ r ≡ forceOf value ⌝ }
+{
+    match value {
+        2 => Force::Off,
+        3 => Force::On,
+        _ => Force::Free,
+    }
+}
+
+// The input that a kind and a value mean, where they mean one: nothing is tested but the kind.
+fn known_input(kind: u8, value: u8) -> Input
+    requires { ⌜ isMeant (decoded kind value) ≡ true ⌝ }
+    ensures { λ r. ⌜ decoded kind value ≡ Meant r ⌝ }
+{
+    let one = value == 1;
+    match kind {
+        1 => Input::SwitchOnOff(one),
+        2 => Input::TimedStartStop(one),
+        // bit 7 is learn, bit 6 is zero, the other six bits are the number
+        3 => Input::NumberedSceneControl(value / 128 == 1, value % 64),
+        4 => Input::SwitchOnOffForced(known_force(value)),
+        5 => Input::LockDevice(one),
+        6 => Input::NightMode(one),
+        7 => Input::Bus(known_event(one)),
+        _ => Input::Power(known_event(one)),
+    }
+}
+
+// The stamp of the input that starts at a place.
+pub fn stamp_at(octets: &[u8], at: usize) -> u32
+    requires { ⌜ at + inputSize ≤ length (now octets) ⌝ }
+    ensures { λ r. ⌜ r ≡ stampAt (now (octets .entry)) at ⌝ }
+{
+    read32(octets, at)
+}
+
+// The last two octets of an input must be zero.
+fn ends_in_zeros(octets: &[u8], at: usize) -> bool
+    requires { ⌜ at + inputSize ≤ length (now octets) ⌝ }
+    ensures { λ r. ⌜ r ≡ (eqb (octet (now (octets .entry)) (at + 6)) 0 && eqb (octet (now (octets .entry)) (at + 7)) 0) ⌝ }
+{
+    let first = octets[at + 6] == 0;
+    let second = octets[at + 7] == 0;
+    both(first, second)
+}
+
+// Whether an input starts at a place.
+pub fn is_input_at(octets: &[u8], at: usize) -> bool
+    requires { ⌜ at + inputSize ≤ length (now octets) ⌝ }
+    ensures { λ r. ⌜ r ≡ isMeant (inputAt (now (octets .entry)) at) ⌝ }
+{
+    if ends_in_zeros(octets, at) {
+        is_known(octets[at + 4], octets[at + 5])
+    } else {
+        false
+    }
+}
+
+// The input that starts at a place where one does.
+pub fn known_input_at(octets: &[u8], at: usize) -> Input
+    requires { ⌜ (at + inputSize ≤ length (now octets)) × (isMeant (inputAt (now octets) at) ≡ true) ⌝ }
+    ensures { λ r. ⌜ inputAt (now (octets .entry)) at ≡ Meant r ⌝ }
+{
+    known_input(octets[at + 4], octets[at + 5])
+}
+
+// What the input that starts at a place means.
+pub fn input_at(octets: &[u8], at: usize) -> Decoded
+    requires { ⌜ at + inputSize ≤ length (now octets) ⌝ }
+    ensures { λ r. ⌜ r ≡ inputAt (now (octets .entry)) at ⌝ }
+{
+    if is_input_at(octets, at) {
+        Decoded::Meant(known_input_at(octets, at))
+    } else {
+        Decoded::Wrong
+    }
+}
