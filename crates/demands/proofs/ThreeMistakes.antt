@@ -30,7 +30,7 @@ use Rattle.demands.proofs.EveryFile.{list-rises, has-some-time}
 abbrev pub start : Params → List Scene → Played
 start p scenes = record { state = fresh p scenes; answers = []; records = recordOf byItself (fresh p scenes) ∷ [] }
 
--- the clock moves to t, by every timer due up to then and at t itself, each at its own moment (`clock-moves` in Timers.antt); then
+-- the clock moves to t, by every timer due up to then and at t itself, each at its own moment (`clock-moves` in rules, Laws/Timers.antt); then
 -- the inputs act one after the other while the clock stands
 abbrev pub atOneStamp : ℕ → List Input → State → Played
 atOneStamp t is s = andThen (moved (clockMove s t)) (acts is)

@@ -1,5 +1,5 @@
 -- What the customer demands of a run, said of any model of it: of ours, and of every wrong one. Ours meets all of it
--- (proofs/Demands.antt), and each wrong model that document 01 names breaks what it is to break (proofs/WrongModels.antt).
+-- (proofs/Meets.antt), and each wrong model that document 01 names breaks what it is to break (proofs/WrongModels.antt).
 use Prim.Native.Nat.{ℕ, zero, suc, _+_, _≤_}
 use mathlib.Core.Bool.{cond}
 use mathlib.Core.Path.{_≡_}

@@ -1,13 +1,12 @@
 -- What the code of the run knows of a checked file, and what it leaves in the lent buffers.
-use Prim.Native.Nat.{ℕ, _+_, _*_, _≤_}
+use Prim.Native.Nat.{ℕ, _+_, _≤_}
 use mathlib.Core.Bool.{true}
-use mathlib.Core.List.{List, [], _∷_}
+use mathlib.Core.List.{List, []}
 use mathlib.Core.Path.{_≡_}
 use lib.ListN.{length}
 use Rattle.rules.specs.declared.parameters.Params.{Params}
 use Rattle.rules.specs.declared.parameters.Scene.{Scene}
 use Rattle.rules.specs.declared.state.State.{State}
-use Rattle.rules.specs.declared.record.Record.{Record}
 use Rattle.base.specs.Time.{lastStamp}
 use Rattle.rules.specs.Layout.{mostInputs, inputPlace, recordPlace}
 use Rattle.rules.specs.Parameters.{paramsOf, scenesOf}

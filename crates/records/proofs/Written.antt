@@ -46,7 +46,7 @@ pub none-fits : noNotes .count ≤ 2
 unfolding noNotes notes
 none-fits = omega arith
 
--- one, two and three changes noted after each other
+-- one, two and three changes written after each other
 module _ (s a : State) where
   pub one-written : added noNotes (noteOf byItself s a) ≡ notes (written byItself s a)
   unfolding noNotes

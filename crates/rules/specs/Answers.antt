@@ -28,7 +28,7 @@ abbrev pub answer : Barrier → Bool → ℕ
 answer (Stopped why) same = stoppedNumber why
 answer Open same = cond same 1 0
 
--- ---- nothing but the clock differs: proofs/Answers.antt shows that this is equality of all the rest
+-- ---- nothing but the clock differs: proofs/Laws/Answers.antt shows that this is equality of all the rest
 
 abbrev pub phaseNumber : Phase → ℕ
 phaseNumber Dark = 0

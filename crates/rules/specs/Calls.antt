@@ -65,7 +65,7 @@ freshCall octets = freshBy octets (checkParameters octets)
 unfoldable pub blank : Record
 blank = record { stamp = 0; value = 0; attributes = 0; cause = 0 }
 
--- n places: the records of a list, then blank ones (proofs/Records.antt shows that a list never has more than its places)
+-- n places: the records of a list, then blank ones (proofs/Laws/Records.antt shows that a list never has more than its places)
 unfoldable pub places : ℕ → List Record → List Record
 places zero records = []
 places (suc n) [] = blank ∷ places n []

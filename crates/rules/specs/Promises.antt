@@ -1,6 +1,6 @@
 -- Demand 3: "Nobody waits for ever, for any accepted list." The two promises, Dark and Light, in the customer's words, and what a
--- reader of the records sees of them. They are proved in proofs/Dark.antt, proofs/Light.antt and proofs/Shown.antt, and for every
--- accepted cue file in proofs/EveryFile.antt.
+-- reader of the records sees of them. They are proved in proofs/Promises/, and for every accepted cue file and as the records show
+-- them in the crate demands (EveryFile, Shown).
 use Prim.Native.Nat.{ℕ, _+_, _-_, _≤_, _<_}
 use mathlib.Core.Bool.{Bool, true, false, cond, not}
 use mathlib.Core.Path.{_≡_}
@@ -223,7 +223,7 @@ pub record LitRecord (a z : ℕ) (records : List Record) : Type 0 where
   pub shines : lit .value ≡ 255
 
 -- the records of a run before an input acts, and those that it writes itself and that follow
--- (proofs/Shown.antt `records-split`: the run's records are the former and then the latter)
+-- (demands, Shown.antt `records-split`: the run's records are the former and then the latter)
 unfoldable pub recordsBefore : Params → List Scene → List Cue → ℕ → List Record
 recordsBefore p scenes before a =
     let reached : Played = plays before (fresh p scenes) in

@@ -8,7 +8,7 @@ use Rattle.rules.specs.declared.parameters.Recalled.{Recalled}
 use Rattle.rules.specs.declared.parameters.Recalled.the-variants.{Nothing, Output}
 
 -- 01, "What each order does": "Scene recall: a used, taught entry acts as On or Off by its value; any other number does nothing."
--- (An input's number is at most 63, proofs/Inputs.antt `input-number`, so an entry that has it is used.)
+-- (An input's number is at most 63, proofs/Laws/Inputs.antt `input-number`, so an entry that has it is used.)
 unfoldable pub recalled : List Scene → ℕ → Recalled
 recalled [] number = Nothing
 recalled (e ∷ rest) number = cond (eqb (e .number) number) (cond (e .taught) (Output (e .value)) Nothing) (recalled rest number)
