@@ -12,7 +12,7 @@ use Rattle.octets.proofs.Splices.{splice-none, splice-splice}
 use Rattle.rules.specs.declared.record.Record.{Record}
 use Rattle.rules.specs.Layout.{recordPlace}
 use Rattle.rules.specs.Runs.{recordOctets, recordsOctets, over}
-use Rattle.rules.proofs.Files.Runs.{records-length}
+use Rattle.rules.proofs.Refusals.Runs.{records-length}
 
 -- from the start on, the front is replaced
 pub splice-front : (b xs : List ℕ) → splice b 0 xs ≡ over xs b

@@ -6,7 +6,7 @@ use native.Mathlib.Omega.{arith}
 use Rattle.base.specs.declared.refusal.Check.the-variants.{Passed}
 use Rattle.rules.specs.Lists.{Cue}
 use Rattle.rules.specs.Files.{Reading, cues, bad, readFile}
-use Rattle.rules.proofs.Files.Files.{GoodFile, good-file}
+use Rattle.rules.proofs.Refusals.Files.{GoodFile, good-file}
 use Rattle.cues.specs.Verdict.{verdict}
 
 -- only a list of cues passes

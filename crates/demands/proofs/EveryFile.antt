@@ -10,8 +10,8 @@ use Rattle.rules.specs.Layout.{inputPlace}
 use Rattle.rules.specs.Files.{cues, inputCount, endTime, parametersIn, readInputs, readFile}
 use Rattle.rules.specs.Promises.{Rises, DarkPromise, LightPromise, StrongLightPromise}
 use Rattle.rules.proofs.Laws.Parameters.{passed-has-some-time}
-use Rattle.rules.proofs.Files.Files.{good-file, good-start}
-use Rattle.rules.proofs.Files.Readings.{first-read}
+use Rattle.rules.proofs.Refusals.Files.{good-file, good-start}
+use Rattle.rules.proofs.Refusals.Readings.{first-read}
 use Rattle.rules.proofs.Promises.Dark.{dark}
 use Rattle.rules.proofs.Promises.Light.{strong-light, light}
 

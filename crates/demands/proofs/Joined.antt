@@ -32,10 +32,10 @@ use Rattle.rules.proofs.Laws.Soundness.{step-is-sound, step-clock}
 use Rattle.rules.proofs.Laws.Records.{a-move-writes-at-most-two, an-input-writes-at-most-three, used-places}
 use Rattle.rules.proofs.Laws.Lists.{andThen-from, plays-to-next}
 use Rattle.rules.proofs.Laws.Parameters.{passed-is-sound}
-use Rattle.rules.proofs.Files.Calls.{good-is-played}
-use Rattle.rules.proofs.Files.Files.{good-file, good-start, parameters-small}
-use Rattle.rules.proofs.Files.Readings.{First, first-read}
-use Rattle.rules.proofs.Files.Runs.{a-good-file-is-played}
+use Rattle.rules.proofs.Refusals.Calls.{good-is-played}
+use Rattle.rules.proofs.Refusals.Files.{good-file, good-start, parameters-small}
+use Rattle.rules.proofs.Refusals.Readings.{First, first-read}
+use Rattle.rules.proofs.Refusals.Runs.{a-good-file-is-played}
 
 -- ---- the calls, joined
 

@@ -28,11 +28,11 @@ use Rattle.rules.specs.Runs.{recordOctets, recordsOctets, over, Whole, playFile
 use Rattle.rules.specs.Promises.{DarkShown, LightStamped}
 use Rattle.demands.specs.Demands.{Model, AnswersAll, RefusesCleanly, StaysWithin, HandedBack, SingleAnswers, Judges, PlaysAll, changed, changedByTimers, changes, CountsChanges, recordsIn, recordsOf, Keeps, Meets, tableCode, tablePlace}
 use Rattle.base.proofs.Tests.{both}
-use Rattle.rules.proofs.Files.Calls.{SingleFinds, single-finds, single-refusal-changes-nothing, single-place-is-zero}
-use Rattle.rules.proofs.Files.Files.{GivenWhen, refused-exactly-when}
-use Rattle.rules.proofs.Files.Runs.{RunFinds, at-fault, no-room, played, run-finds, a-good-file-is-played, some-number, a-refused-run-writes-nothing, records-length, record-count-is-one-plus-changes, answers-are-n}
+use Rattle.rules.proofs.Refusals.Calls.{SingleFinds, single-finds, single-refusal-changes-nothing, single-place-is-zero}
+use Rattle.rules.proofs.Refusals.Files.{GivenWhen, refused-exactly-when}
+use Rattle.rules.proofs.Refusals.Runs.{RunFinds, at-fault, no-room, played, run-finds, a-good-file-is-played, some-number, a-refused-run-writes-nothing, records-length, record-count-is-one-plus-changes, answers-are-n}
 use Rattle.rules.proofs.Laws.Lists.{plays-to-next}
-use Rattle.rules.proofs.Laws.Stamps.{step-records}
+use Rattle.rules.proofs.Promises.Stamps.{step-records}
 use Rattle.demands.proofs.Shown.{dark-shown-in-every-accepted-file, light-stamped-in-every-accepted-file}
 
 -- ---- records out of their octets

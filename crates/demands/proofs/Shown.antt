@@ -30,7 +30,7 @@ use Rattle.rules.proofs.Laws.Lists.{plays-to-append, plays-to-next}
 use Rattle.rules.proofs.Laws.Moments.{at-case, at-the-end, rises-from}
 use Rattle.rules.proofs.Promises.Light.{a-lit-lamp-stays-lit}
 use Rattle.demands.proofs.EveryFile.{list-rises, has-some-time, dark-of-every-accepted-file, strong-light-of-every-accepted-file}
-use Rattle.rules.proofs.Laws.Stamps.{StampedFrom, stamped-first, move-from, step-records, moved-on-time, from-an-input-on}
+use Rattle.rules.proofs.Promises.Stamps.{StampedFrom, stamped-first, move-from, step-records, moved-on-time, from-an-input-on}
 
 -- ---- what records show
 

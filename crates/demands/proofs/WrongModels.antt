@@ -29,7 +29,7 @@ use Rattle.rules.specs.Promises.{turns, upTo, stateAt, Taken, NightRules, DarkD
 use Rattle.demands.specs.Demands.{Model, StaysWithin, Judges, OfEveryAccepted, PlaysAll, CountsChanges, recordsOf, Keeps, KeepsDark, KeepsLight}
 use Rattle.base.proofs.Tests.{either-way}
 use Rattle.rules.proofs.Promises.Worked.{on-at, off-at, night-at}
-use Rattle.rules.proofs.Files.Runs.{records-length}
+use Rattle.rules.proofs.Refusals.Runs.{records-length}
 use Rattle.demands.proofs.Shown.{at-or-before}
 use Rattle.demands.proofs.Meets.{accepted-records, our-run-counts-changes}
 

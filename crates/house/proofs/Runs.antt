@@ -14,7 +14,7 @@ use Rattle.rules.specs.Layout.{recordsRoom}
 use Rattle.rules.specs.Files.{Reading, cues, bad, inputCount, readFile, roomy}
 use Rattle.rules.specs.Runs.{playFile, accepted, refused, runCall}
 use Rattle.base.proofs.Tests.{both}
-use Rattle.rules.proofs.Files.Runs.{a-bad-file-is-refused, a-short-buffer-is-refused, a-good-file-is-played}
+use Rattle.rules.proofs.Refusals.Runs.{a-bad-file-is-refused, a-short-buffer-is-refused, a-good-file-is-played}
 use Rattle.cues.specs.Verdict.{verdict}
 use Rattle.player.specs.declared.play.Ended.{Ended}
 use Rattle.player.specs.Playing.{found, listIn, Filled}

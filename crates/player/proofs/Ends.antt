@@ -15,7 +15,7 @@ use Rattle.rules.specs.Files.{endTime, parametersIn}
 use Rattle.rules.specs.Runs.{recordOctets, recordsOctets, playFile}
 use Rattle.rules.proofs.Laws.Parameters.{passed-is-sound}
 use Rattle.rules.proofs.Laws.Records.{a-move-writes-at-most-two, used-places}
-use Rattle.rules.proofs.Files.Files.{good-file, good-start, parameters-small}
+use Rattle.rules.proofs.Refusals.Files.{good-file, good-start, parameters-small}
 use Rattle.timers.specs.declared.clock.Ticked.{Ticked}
 use Rattle.records.specs.Notes.{notes}
 use Rattle.timers.specs.Ticks.{ticked}

@@ -31,7 +31,7 @@ use Rattle.rules.specs.Lists.{Cue, cue, Played, andThen, stepped, plays}
 use Rattle.rules.specs.Layout.{inputPlace}
 use Rattle.rules.specs.Files.{cues, endTime, readInputs}
 use Rattle.rules.specs.Runs.{recordsOctets}
-use Rattle.rules.proofs.Files.Readings.{First, first-read}
+use Rattle.rules.proofs.Refusals.Readings.{First, first-read}
 use Rattle.rules.proofs.Laws.Inputs.{input-number}
 use Rattle.rules.proofs.Laws.Soundness.{step-is-sound, step-clock}
 use Rattle.rules.proofs.Laws.Records.{an-input-writes-at-most-three}

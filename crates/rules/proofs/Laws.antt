@@ -15,4 +15,3 @@ pub mod Records
 pub mod Answers
 pub mod Moments
 pub mod Lists
-pub mod Stamps

@@ -9,7 +9,7 @@ use Rattle.rules.specs.Lists.{Cue, cue, Played, andThen, moved, stepped,
 use Rattle.rules.proofs.Laws.Soundness.{step-clock, step-params}
 use Rattle.rules.proofs.Laws.Timers.{no-timer-due-no-move}
 use Rattle.rules.proofs.Laws.Lists.{still, acts, andThen-assoc, andThen-from, acts-after-the-move}
-use Rattle.rules.proofs.Laws.Stamps.{nothing-due-after-a-step}
+use Rattle.rules.proofs.Promises.Stamps.{nothing-due-after-a-step}
 
 -- these inputs, all at the one stamp
 abbrev pub ties : ℕ → List Input → List Cue

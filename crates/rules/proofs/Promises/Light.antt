@@ -30,7 +30,7 @@ use Rattle.rules.proofs.Laws.Timers.{the-first-timer-first, no-timer-du
 use Rattle.rules.proofs.Promises.Prolonging.{Over, move-over, step-over}
 use Rattle.rules.proofs.Laws.Lists.{plays-keep-params}
 use Rattle.rules.proofs.Laws.Moments.{at-case, at-the-end, next-is-later, rises-to, rises-from, at-after}
-use Rattle.rules.proofs.Laws.Stamps.{nothing-due-after-a-step}
+use Rattle.rules.proofs.Promises.Stamps.{nothing-due-after-a-step}
 
 -- ---- a moment of light
 

@@ -1,7 +1,7 @@
 use mathlib.Core.Path.{sym, _∙_}
 use native.Mathlib.Omega.{arith}
 use borrow.Author.Needs.{needs}
-use Rattle.rules.proofs.Files.Files.{layout-true}
+use Rattle.rules.proofs.Refusals.Files.{layout-true}
 use Rattle.cues.proofs.check.check_contents.Statement.{statement}
 use Rattle.cues.proofs.check.check_contents.Tie as tie
 

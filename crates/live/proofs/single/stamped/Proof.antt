@@ -1,6 +1,6 @@
 use mathlib.Core.Path.{sym, _∙_}
 use Rattle.rules.specs.Steps.{step}
-use Rattle.rules.proofs.Files.Calls.{timely}
+use Rattle.rules.proofs.Refusals.Calls.{timely}
 use Rattle.live.proofs.ByValue.{acted-is-done}
 use borrow.Author.Needs.{needs}
 use Rattle.live.proofs.single.stamped.Statement.{statement}

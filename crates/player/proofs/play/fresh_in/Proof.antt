@@ -1,5 +1,5 @@
 use Rattle.player.specs.Playing.{freshIn}
-use Rattle.rules.proofs.Files.Files.{parameters-whole}
+use Rattle.rules.proofs.Refusals.Files.{parameters-whole}
 use borrow.Author.Needs.{needs}
 use Rattle.player.proofs.play.fresh_in.Statement.{statement}
 use Rattle.player.proofs.play.fresh_in.Tie as tie

@@ -2,7 +2,7 @@ use Rattle.player.proofs.Ends.{fit-ready, record-alone, move-few, ended
 use Rattle.player.specs.Playing.{freshIn, Ready}
 use Rattle.octets.specs.Splice.{splice}
 use Rattle.phases.proofs.Rooms.{sound-room}
-use Rattle.rules.proofs.Files.Files.{good-file}
+use Rattle.rules.proofs.Refusals.Files.{good-file}
 use Rattle.rules.specs.Runs.{recordOctets}
 use Rattle.rules.specs.Status.{recordOf}
 use denote.Ref.{now}

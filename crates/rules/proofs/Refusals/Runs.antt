@@ -19,7 +19,7 @@ use Rattle.rules.specs.Files.{Reading, cues, bad, inputCount, endTime, p
 use Rattle.octets.specs.BigEndian.{octets32}
 use Rattle.rules.specs.Runs.{recordOctets, recordsOctets, over, Whole, playFile, accepted, refused, runBy, runCall}
 use Rattle.rules.proofs.Laws.Records.{a-move-writes-at-most-two, an-input-writes-at-most-three}
-use Rattle.rules.proofs.Files.Files.{cues-are-the-octets}
+use Rattle.rules.proofs.Refusals.Files.{cues-are-the-octets}
 
 -- ---- what a run finds
 

@@ -128,7 +128,7 @@ module _ (p : Params) (t f : ℕ) (near : f ≤ t + 1) (by-timed-on : f ≤ t + 
   night-falls-ahead Dark h = tt
   night-falls-ahead Lit h = by-timed-on
   night-falls-ahead (Starting timed d) h = h
-  night-falls-ahead (Timed d) h = h
+  night-falls-ahead (Timed d) h = omega (arith, near)
   night-falls-ahead (Warning d) h = h
   night-falls-ahead (Ending d) h = omega (arith, by-timed-on)
 
