@@ -10,7 +10,6 @@
 //     18, 19     the phase Dark, Lit
 //     20 to 24   the phase Starting steady, Starting timed, Timed, Warning, Ending: its deadline in four octets
 //     32 to 39   a scene entry: number in the third octet, flags in the last (bit 0 value, bit 1 taught)
-ghost use Prim.Native.Nat.{_<_};
 use rules::input::Force;
 use rules::parameters::Params;
 use rules::parameters::Scene;
@@ -18,91 +17,64 @@ use rules::phase::Phase;
 use rules::state::Link;
 use rules::state::State;
 
-fn with_time(s: State, field: u8, tenths: u32) -> State {
-    let mut p = s.params;
+fn params_with(p: Params, field: u8, number: u32, last: u8) -> Params {
+    let mut q = p;
     match field {
-        1 => p.ondelay = tenths,
-        2 => p.offdelay = tenths,
-        3 => p.timedon = tenths,
-        _ => p.prewarning = tenths,
+        1 => q.ondelay = number,
+        2 => q.offdelay = number,
+        3 => q.timedon = number,
+        4 => q.prewarning = number,
+        5 => q.locking = last,
+        6 => q.unlocking = last,
+        7 => q.busfailure = last,
+        8 => q.busreturn = last,
+        9 => q.powerreturn = last,
+        10 => q.learning = last != 0,
+        _ => {}
     }
-    with_params(s, p)
+    q
 }
 
-fn with_mode(s: State, field: u8, mode: u8) -> State {
-    let mut p = s.params;
+fn scenes_with(k: [Scene; 8], field: u8, third: u8, last: u8) -> [Scene; 8] {
+    let mut r = k;
     match field {
-        5 => p.locking = mode,
-        6 => p.unlocking = mode,
-        7 => p.busfailure = mode,
-        8 => p.busreturn = mode,
-        9 => p.powerreturn = mode,
-        _ => p.learning = mode != 0,
+        32..=39 => {
+            r[(field % 8) as usize] = Scene {
+                number: third,
+                value: last % 2 == 1,
+                taught: last / 2 % 2 == 1,
+            };
+        }
+        _ => {}
     }
-    with_params(s, p)
+    r
 }
 
-fn with_params(s: State, p: Params) -> State {
-    let mut t = s;
-    t.params = p;
-    t
-}
-
-fn with_flag(s: State, field: u8, flag: bool) -> State {
-    let mut t = s;
-    match field {
-        12 => t.night = flag,
-        13 => t.lock = flag,
-        16 => t.atlocking = flag,
-        _ => t.atfailure = flag,
-    }
-    t
-}
-
-fn with_clock(s: State, clock: u32) -> State {
-    let mut t = s;
-    t.clock = clock;
-    t
-}
-
-fn rebuilt(s: State, force: Force, link: Link, phase: Phase) -> State {
-    let p = s.params;
-    let k = s.scenes;
-    State {
-        params: p,
-        scenes: k,
-        clock: s.clock,
-        night: s.night,
-        lock: s.lock,
-        force,
-        link,
-        atlocking: s.atlocking,
-        atfailure: s.atfailure,
-        phase,
+fn force_with(f: Force, field: u8, n: u8) -> Force {
+    if field == 14 {
+        match n {
+            0 => Force::Free,
+            1 => Force::Off,
+            _ => Force::On,
+        }
+    } else {
+        f
     }
 }
 
-fn with_force(s: State, which: u8) -> State {
-    let l = s.link;
-    let ph = s.phase;
-    match which {
-        0 => rebuilt(s, Force::Free, l, ph),
-        1 => rebuilt(s, Force::Off, l, ph),
-        _ => rebuilt(s, Force::On, l, ph),
+fn link_with(l: Link, field: u8, n: u8) -> Link {
+    if field == 15 {
+        match n {
+            0 => Link::Up,
+            1 => Link::BusDown,
+            _ => Link::PowerDown,
+        }
+    } else {
+        l
     }
 }
 
-fn with_link(s: State, which: u8) -> State {
-    let f = s.force;
-    let ph = s.phase;
-    match which {
-        0 => rebuilt(s, f, Link::Up, ph),
-        1 => rebuilt(s, f, Link::BusDown, ph),
-        _ => rebuilt(s, f, Link::PowerDown, ph),
-    }
-}
-
-fn phase_of(field: u8, deadline: u32) -> Phase {
+fn phase_with(ph: Phase, field: u8, deadline: u32) -> Phase {
     match field {
         18 => Phase::Dark,
         19 => Phase::Lit,
@@ -110,46 +82,41 @@ fn phase_of(field: u8, deadline: u32) -> Phase {
         21 => Phase::Starting(true, deadline),
         22 => Phase::Timed(deadline),
         23 => Phase::Warning(deadline),
-        _ => Phase::Ending(deadline),
+        24 => Phase::Ending(deadline),
+        _ => ph,
     }
 }
 
-fn with_phase(s: State, phase: Phase) -> State {
-    let f = s.force;
-    let l = s.link;
-    rebuilt(s, f, l, phase)
-}
-
-fn with_scene(s: State, entry: usize, number: u8, flags: u8) -> State
-    requires { ⌜ entry < 8 ⌝ }
-{
+fn flags_with(s: State, field: u8, number: u32, flag: bool) -> State {
     let mut t = s;
-    let mut k = s.scenes;
-    k[entry] = Scene {
-        number,
-        value: flags % 2 == 1,
-        taught: flags / 2 % 2 == 1,
-    };
-    t.scenes = k;
+    match field {
+        11 => t.clock = number,
+        12 => t.night = flag,
+        13 => t.lock = flag,
+        16 => t.atlocking = flag,
+        17 => t.atfailure = flag,
+        _ => {}
+    }
     t
 }
 
-fn entry_of(field: u8) -> usize
-    ensures { λ r. ⌜ r < 8 ⌝ }
-{
-    (field % 8) as usize
-}
-
 pub(crate) fn changed(s: State, field: u8, number: u32, third: u8, last: u8) -> State {
-    match field {
-        1..=4 => with_time(s, field, number),
-        5..=10 => with_mode(s, field, last),
-        11 => with_clock(s, number),
-        14 => with_force(s, last),
-        15 => with_link(s, last),
-        12..=17 => with_flag(s, field, last != 0),
-        18..=24 => with_phase(s, phase_of(field, number)),
-        32..=39 => with_scene(s, entry_of(field), third, last),
-        _ => s,
+    let p = s.params;
+    let k = s.scenes;
+    let f = s.force;
+    let l = s.link;
+    let ph = s.phase;
+    let t = flags_with(s, field, number, last != 0);
+    State {
+        params: params_with(p, field, number, last),
+        scenes: scenes_with(k, field, third, last),
+        clock: t.clock,
+        night: t.night,
+        lock: t.lock,
+        force: force_with(f, field, last),
+        link: link_with(l, field, last),
+        atlocking: t.atlocking,
+        atfailure: t.atfailure,
+        phase: phase_with(ph, field, number),
     }
 }

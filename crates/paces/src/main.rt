@@ -27,12 +27,25 @@ mod play;
 mod read;
 mod show;
 
-// A proved loop has to end, so it counts its turns down, from a number that no run uses up.
+// A proved loop has to end, so it counts its turns down, from a number that no run uses up. Parameters of no octets are refused,
+// and give the state to start from; its parameters and scenes are not all 0, so that they get their first lines.
 fn main() {
-    let mut p = play::start();
+    let mut now = play::fresh(0);
+    let mut kept = now;
+    let mut params = show::params_line([0; 10], now);
+    let mut scenes = show::scenes_line([0; 24], now);
+    let mut letter = read::octet();
     let mut turns = u64::MAX;
-    while turns > 0 && p.going {
-        p = play::step(p);
+    while turns > 0 && play::is_step(letter) {
+        if letter == b'K' {
+            kept = now;
+        }
+        now = play::step(letter, now, kept);
+        let next_params = show::params_line(params, now);
+        let next_scenes = show::scenes_line(scenes, now);
+        params = next_params;
+        scenes = next_scenes;
+        letter = read::octet();
         turns -= 1;
     }
 }

@@ -1,23 +1,17 @@
-// Octets of standard input, and the numbers in them. Where the input has ended, they are 0.
-ghost use mathlib.Core.Path.{_≡_};
-ghost use Prim.Native.Nat.{_<_};
+// Octets of standard input. Where the input has ended, they are 0.
+use octets::read32;
+
+// The next n octets, at most eight, at the front.
+pub(crate) fn few(n: isize) -> [u8; 8] {
+    let mut b = [0u8; 8];
+    let room = io::count(n, &b);
+    io::read_full(0, &mut b[..room]);
+    b
+}
 
 pub(crate) fn octet() -> u8 {
-    let mut b = [0u8; 1];
-    io::read_full(0, &mut b);
+    let b = few(1);
     b[0]
-}
-
-pub(crate) fn four() -> [u8; 4] {
-    let mut b = [0u8; 4];
-    io::read_full(0, &mut b);
-    b
-}
-
-pub(crate) fn eight() -> [u8; 8] {
-    let mut b = [0u8; 8];
-    io::read_full(0, &mut b);
-    b
 }
 
 // The next n octets, at the front.
@@ -28,13 +22,7 @@ pub(crate) fn some(n: u8) -> [u8; 256] {
     b
 }
 
-fn wide(x: u8) -> u32
-    ensures { λ r. ⌜ (r ≡ x) × (r < 256) ⌝ }
-{
-    x as u32
-}
-
-// Four octets as a number, most significant octet first.
-pub(crate) fn number(a: u8, b: u8, c: u8, d: u8) -> u32 {
-    16777216 * wide(a) + 65536 * wide(b) + 256 * wide(c) + wide(d)
+// The number in the first four octets.
+pub(crate) fn number(b: [u8; 8]) -> u32 {
+    read32(&b, 0)
 }

@@ -1,4 +1,9 @@
-// What is printed of each value.
+// What is printed of each value. A line is a letter and its items. An item below WORD is a number, any other a word of the
+// list, by its place there; each is printed after a space.
+use crate::read::number;
+use rules::call::Fresh;
+use rules::call::Move;
+use rules::call::Single;
 use rules::input::Force;
 use rules::parameters::Params;
 use rules::parameters::Scene;
@@ -7,211 +12,279 @@ use rules::record::Record;
 use rules::state::Link;
 use rules::state::State;
 
-pub(crate) fn number(n: u32) {
+const DARK: u64 = 4294967296;
+
+const LIT: u64 = 4294967297;
+
+const STARTING_STEADY: u64 = 4294967298;
+
+const STARTING_TIMED: u64 = 4294967299;
+
+const TIMED: u64 = 4294967300;
+
+const WARNING: u64 = 4294967301;
+
+const ENDING: u64 = 4294967302;
+
+const FREE: u64 = 4294967303;
+
+const OFF: u64 = 4294967304;
+
+const ON: u64 = 4294967305;
+
+const UP: u64 = 4294967306;
+
+const BUS_DOWN: u64 = 4294967307;
+
+const POWER_DOWN: u64 = 4294967308;
+
+const NONE: u64 = 4294967309;
+
+const BAR: u64 = 4294967310;
+
+const ARROW: u64 = 4294967311;
+
+// Sixteen words, each in sixteen octets.
+fn word(place: usize) {
+    let words = *b"dark            lit             starting-steady starting-timed  \
+        timed           warning         ending          free            \
+        off             on              up              bus-down        \
+        power-down      -               |               >               ";
+    let from = 16 * (place % 16);
+    let mut size = 0;
+    while size < 16 && words[from + size] != b' ' {
+        size += 1;
+    }
+    io::write_all(1, &words[from..from + size]);
+}
+
+fn item(x: u64) {
     io::write_all(1, b" ");
-    io::print_decimal(1, n as u64);
-}
-
-pub(crate) fn octet(n: u8) {
-    io::write_all(1, b" ");
-    io::print_decimal(1, n as u64);
-}
-
-pub(crate) fn place(n: u16) {
-    io::write_all(1, b" ");
-    io::print_decimal(1, n as u64);
-}
-
-pub(crate) fn arrow() {
-    io::write_all(1, b" >");
-}
-
-pub(crate) fn end_of_line() {
-    io::write_all(1, b"\n");
-}
-
-fn bit(b: bool) {
-    if b {
-        io::write_all(1, b" 1");
+    if x < DARK {
+        io::print_decimal(1, x);
     } else {
-        io::write_all(1, b" 0");
+        word((x - DARK) as usize);
     }
 }
 
-fn phase(ph: Phase) {
+fn items(list: &[u64]) {
+    let mut i = 0;
+    while i < list.len() {
+        item(list[i]);
+        i += 1;
+    }
+}
+
+fn wide(x: u8) -> u64 {
+    x as u64
+}
+
+// The octets from a place on, up to another.
+fn octets(b: [u8; 8], from: usize, to: usize) {
+    let mut i = from;
+    while i < to && i < 8 {
+        item(wide(b[i]));
+        i += 1;
+    }
+}
+
+// One octet as it is: the letter or the end of a line.
+pub(crate) fn mark(x: u8) {
+    io::write_all(1, &[x]);
+}
+
+fn phase_word(ph: Phase) -> u64 {
     match ph {
-        Phase::Dark => {
-            io::write_all(1, b" dark -");
+        Phase::Dark => DARK,
+        Phase::Lit => LIT,
+        Phase::Starting(timed, _) => {
+            if timed {
+                STARTING_TIMED
+            } else {
+                STARTING_STEADY
+            }
         }
-        Phase::Lit => {
-            io::write_all(1, b" lit -");
-        }
-        Phase::Starting(timed, d) => starting(timed, d),
-        Phase::Timed(d) => {
-            io::write_all(1, b" timed");
-            number(d);
-        }
-        Phase::Warning(d) => {
-            io::write_all(1, b" warning");
-            number(d);
-        }
-        Phase::Ending(d) => {
-            io::write_all(1, b" ending");
-            number(d);
-        }
+        Phase::Timed(_) => TIMED,
+        Phase::Warning(_) => WARNING,
+        Phase::Ending(_) => ENDING,
     }
 }
 
-fn starting(timed: bool, d: u32) {
-    if timed {
-        io::write_all(1, b" starting-timed");
-    } else {
-        io::write_all(1, b" starting-steady");
+fn deadline(ph: Phase) -> u64 {
+    match ph {
+        Phase::Dark => NONE,
+        Phase::Lit => NONE,
+        Phase::Starting(_, d) => d as u64,
+        Phase::Timed(d) => d as u64,
+        Phase::Warning(d) => d as u64,
+        Phase::Ending(d) => d as u64,
     }
-    number(d);
 }
 
-fn force(f: Force) {
+fn force_word(f: Force) -> u64 {
     match f {
-        Force::Free => {
-            io::write_all(1, b" free");
-        }
-        Force::Off => {
-            io::write_all(1, b" off");
-        }
-        Force::On => {
-            io::write_all(1, b" on");
-        }
+        Force::Free => FREE,
+        Force::Off => OFF,
+        Force::On => ON,
     }
 }
 
-fn link(l: Link) {
+fn link_word(l: Link) -> u64 {
     match l {
-        Link::Up => {
-            io::write_all(1, b" up");
-        }
-        Link::BusDown => {
-            io::write_all(1, b" bus-down");
-        }
-        Link::PowerDown => {
-            io::write_all(1, b" power-down");
-        }
+        Link::Up => UP,
+        Link::BusDown => BUS_DOWN,
+        Link::PowerDown => POWER_DOWN,
     }
 }
 
 // All of a state but its parameters and scenes.
-pub(crate) fn state(s: State) {
-    let ph = s.phase;
+fn state(s: State) {
     let f = s.force;
     let l = s.link;
-    io::write_all(1, b" |");
-    number(s.clock);
-    phase(ph);
-    bit(s.night);
-    bit(s.lock);
-    force(f);
-    link(l);
-    bit(s.atlocking);
-    bit(s.atfailure);
+    let ph = s.phase;
+    items(
+        &[
+            BAR,
+            s.clock as u64,
+            phase_word(ph),
+            deadline(ph),
+            s.night as u64,
+            s.lock as u64,
+            force_word(f),
+            link_word(l),
+            s.atlocking as u64,
+            s.atfailure as u64,
+        ],
+    );
 }
 
-pub(crate) fn record(r: Record) {
-    io::write_all(1, b" |");
-    number(r.stamp);
-    octet(r.value);
-    octet(r.attributes);
-    octet(r.cause);
+fn record(r: Record) {
+    items(
+        &[
+            BAR,
+            r.stamp as u64,
+            r.value as u64,
+            r.attributes as u64,
+            r.cause as u64,
+        ],
+    );
 }
 
-fn params(p: Params) {
-    io::write_all(1, b"P");
-    number(p.ondelay);
-    number(p.offdelay);
-    number(p.timedon);
-    number(p.prewarning);
-    octet(p.locking);
-    octet(p.unlocking);
-    octet(p.busfailure);
-    octet(p.busreturn);
-    octet(p.powerreturn);
-    bit(p.learning);
-    end_of_line();
+pub(crate) fn fresh(n: u8, r: Fresh) {
+    let s = r.state;
+    mark(b'F');
+    item(n as u64);
+    item(ARROW);
+    item(r.code as u64);
+    item(r.place as u64);
+    state(s);
+    mark(b'\n');
 }
 
-fn scenes(k: [Scene; 8]) {
-    io::write_all(1, b"K");
-    let mut i: usize = 0;
+fn records(k: [Record; 3]) {
+    record(k[0]);
+    record(k[1]);
+    record(k[2]);
+}
+
+pub(crate) fn single(b: [u8; 8], r: Single) {
+    let s = r.state;
+    let k = r.records;
+    mark(b'S');
+    item(number(b) as u64);
+    octets(b, 4, 8);
+    item(ARROW);
+    item(r.code as u64);
+    item(r.place as u64);
+    item(r.answer as u64);
+    item(r.count as u64);
+    state(s);
+    records(k);
+    mark(b'\n');
+}
+
+pub(crate) fn moved(stamp: u32, r: Move) {
+    let s = r.state;
+    let k = r.records;
+    mark(b'C');
+    item(stamp as u64);
+    item(ARROW);
+    item(r.code as u64);
+    item(r.place as u64);
+    item(r.count as u64);
+    state(s);
+    record(k[0]);
+    record(k[1]);
+    mark(b'\n');
+}
+
+pub(crate) fn changed(field: u8, b: [u8; 8], s: State) {
+    mark(b'U');
+    item(field as u64);
+    octets(b, 0, 4);
+    state(s);
+    mark(b'\n');
+}
+
+fn params_of(p: Params) -> [u64; 10] {
+    [
+        p.ondelay as u64,
+        p.offdelay as u64,
+        p.timedon as u64,
+        p.prewarning as u64,
+        p.locking as u64,
+        p.unlocking as u64,
+        p.busfailure as u64,
+        p.busreturn as u64,
+        p.powerreturn as u64,
+        p.learning as u64,
+    ]
+}
+
+fn scenes_of(k: [Scene; 8]) -> [u64; 24] {
+    let mut n = [0u64; 24];
+    let mut i = 0;
     while i < 8 {
         let e = k[i];
-        octet(e.number);
-        bit(e.value);
-        bit(e.taught);
+        n[3 * i] = e.number as u64;
+        n[3 * i + 1] = e.value as u64;
+        n[3 * i + 2] = e.taught as u64;
         i += 1;
     }
-    end_of_line();
+    n
 }
 
-// The parameters and scenes of a state.
-pub(crate) fn settings(s: State) {
-    let p = s.params;
-    let k = s.scenes;
-    params(p);
-    scenes(k);
-}
-
-fn same_bit(a: bool, b: bool) -> bool {
-    if a { b } else { !b }
-}
-
-fn both(a: bool, b: bool) -> bool {
-    if a { b } else { false }
-}
-
-fn same_times(a: Params, b: Params) -> bool {
-    both(
-        both(a.ondelay == b.ondelay, a.offdelay == b.offdelay),
-        both(a.timedon == b.timedon, a.prewarning == b.prewarning),
-    )
-}
-
-fn same_modes(a: Params, b: Params) -> bool {
-    let lock = both(a.locking == b.locking, a.unlocking == b.unlocking);
-    let bus = both(a.busfailure == b.busfailure, a.busreturn == b.busreturn);
-    let power = a.powerreturn == b.powerreturn;
-    both(
-        both(lock, bus),
-        both(power, same_bit(a.learning, b.learning)),
-    )
-}
-
-fn same_scene(a: Scene, b: Scene) -> bool {
-    let number = a.number == b.number;
-    both(
-        number,
-        both(same_bit(a.value, b.value), same_bit(a.taught, b.taught)),
-    )
-}
-
-fn same_scenes(a: [Scene; 8], b: [Scene; 8]) -> bool {
-    let mut same = true;
-    let mut i: usize = 0;
-    while i < 8 {
-        same = both(same, same_scene(a[i], b[i]));
+fn same(a: &[u64], b: &[u64]) -> bool {
+    let mut i = 0;
+    while i < a.len() && i < b.len() {
+        if a[i] != b[i] {
+            return false;
+        }
         i += 1;
     }
-    same
+    true
 }
 
-// A line for parameters and one for scenes, each where it differs.
-pub(crate) fn new_settings(before: State, s: State) {
-    let p0 = before.params;
+// A line for the parameters, where they differ from those of the line before; gives them back for the next.
+pub(crate) fn params_line(before: [u64; 10], s: State) -> [u64; 10] {
     let p = s.params;
-    if !both(same_times(p0, p), same_modes(p0, p)) {
-        params(p);
+    let now = params_of(p);
+    if !same(&before, &now) {
+        mark(b'P');
+        items(&now);
+        mark(b'\n');
     }
-    let k0 = before.scenes;
+    now
+}
+
+// The same for the scenes.
+pub(crate) fn scenes_line(before: [u64; 24], s: State) -> [u64; 24] {
     let k = s.scenes;
-    if !same_scenes(k0, k) {
-        scenes(k);
+    let now = scenes_of(k);
+    if !same(&before, &now) {
+        mark(b'K');
+        items(&now);
+        mark(b'\n');
     }
+    now
 }

@@ -4,10 +4,10 @@ use Rattle.paces.proofs.main.Tie as tie
 
 -- nothing has to hold from turn to turn
 abbrev Inv-loop : tie.InvT-loop
-Inv-loop p₀ turns₀ p turns = Unit {0}
+Inv-loop now₀ kept₀ params₀ scenes₀ letter₀ turns₀ now kept params scenes letter turns = Unit {0}
 
 abbrev μ-loop : tie.MeasureT-loop
-μ-loop p₀ turns₀ p turns = turns
+μ-loop now₀ kept₀ params₀ scenes₀ letter₀ turns₀ now kept params scenes letter turns = turns
 
 pub main-spec : {M : Type 1} → statement M
 main-spec =
@@ -16,7 +16,14 @@ main-spec =
     Inv-loop
     μ-loop
     (λ c κs. search needs)
+    (λ c κs. search needs)
+    (λ c κs. search needs)
+    (λ c κs. search needs)
     (λ c. tt)
+    (λ c κs. search needs)
+    (λ c κs. search needs)
+    (λ c κs. search needs)
+    (λ c κs. search needs)
     (λ c κs. search needs)
     (λ c. search needs)
     (λ c. search needs)

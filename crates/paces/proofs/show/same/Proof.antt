@@ -1,18 +1,17 @@
 use Prim.Native.Nat.{_≤_, _-_}
-use mathlib.Core.Path.{_≡_}
 use lib.ListN.{length}
 use borrow.Author.Needs.{needs}
-use Rattle.paces.proofs.show.same_scenes.Statement.{statement}
-use Rattle.paces.proofs.show.same_scenes.Tie as tie
+use Rattle.paces.proofs.show.same.Statement.{statement}
+use Rattle.paces.proofs.show.same.Tie as tie
 
 abbrev Inv-loop : tie.InvT-loop
-Inv-loop a b same₀ i₀ same i = (i ≤ 8) × (length a ≡ 8) × (length b ≡ 8)
+Inv-loop a b i₀ i = i ≤ length a
 
 abbrev μ-loop : tie.MeasureT-loop
-μ-loop a b same₀ i₀ same i = 8 - i
+μ-loop a b i₀ i = length a - i
 
-pub same-scenes-spec : {M : Type 1} → statement M
-same-scenes-spec =
+pub same-spec : {M : Type 1} → statement M
+same-spec =
     tie.close
     (tie.spec
     Inv-loop
@@ -22,8 +21,8 @@ same-scenes-spec =
     (λ c. search needs)
     (λ c. search needs)
     (λ c. search needs)
-    (λ c κs. search needs)
-    (λ c κs. search needs)
+    (λ c. search needs)
+    (λ c. search needs)
     (λ c. search needs)
     (λ c. search needs)
     (λ c. search needs)
