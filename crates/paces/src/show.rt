@@ -1,5 +1,5 @@
-// What is printed of each value. A line is a letter and its items. An item below WORD is a number, any other a word of the
-// list, by its place there; each is printed after a space.
+// What is printed of each value. A line is a letter and its items, each after a space. An item below DARK is a number, which
+// no field of 32 bits exceeds; any other is a word, DARK the first of the list in `word`.
 use crate::read::number;
 use rules::call::Fresh;
 use rules::call::Move;
