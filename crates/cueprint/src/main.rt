@@ -1,9 +1,10 @@
 // Reads a cue file on standard input and prints what its run does, or the refusal's number and place.
 mod line;
 
-ghost use Prim.Native.Nat.{_+_, _*_, _≤_};
+ghost use Prim.Native.Nat.{_+_, _≤_};
 ghost use lib.ListN.{length};
 ghost use mathlib.Core.Path.{_≡_};
+ghost use Rattle.rules.specs.Layout.{mostInputs, inputPlace};
 ghost use Rattle.rules.specs.Files.{inputCount};
 use base::refusal::Check;
 use base::refusal::number_of;
@@ -11,6 +12,8 @@ use cues::check::check_file;
 use cues::header::end_time;
 use cues::header::input_count;
 use lamps::lamp::lamp_of;
+use layout::input_place;
+use layout::parameters_in;
 use live::clock::clock_move;
 use live::fresh::fresh_state;
 use live::single::single_input;
@@ -58,9 +61,9 @@ struct Turn {
 
 // Input i: its records, then its answer.
 fn play_input(s: State, file: &[u8], i: u32) -> Turn
-    requires { ⌜ (i ≤ 2048) × (52 + 8 * i + 8 ≤ length (now file)) ⌝ }
+    requires { ⌜ inputPlace (i + 1) ≤ length (now file) ⌝ }
 {
-    let at = 52 + 8 * (i as usize);
+    let at = input_place(i);
     let o = single_input(
         s,
         [
@@ -109,11 +112,11 @@ fn play_end(s: State, end: u32) -> u8 {
 
 // An accepted file, from the start record to the end time.
 fn play_file(file: &[u8])
-    requires { ⌜ (inputCount (now file) ≤ 2048) × (length (now file) ≡ 52 + 8 * inputCount (now file)) ⌝ }
+    requires { ⌜ (inputCount (now file) ≤ mostInputs) × (length (now file) ≡ inputPlace (inputCount (now file))) ⌝ }
 {
     let n = input_count(file);
     print_accepted(n);
-    let f = fresh_state(&file[20..52]);
+    let f = fresh_state(parameters_in(file));
     let mut s = f.state;
     print_record(record_of(0, lamp_of(s)));
     let mut count: u64 = 1;

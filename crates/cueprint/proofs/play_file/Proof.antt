@@ -1,11 +1,12 @@
 use Prim.Native.Nat.{_+_, _*_, _-_, _≤_}
+use Rattle.rules.specs.Layout.{mostInputs, inputPlace}
 use lib.ListN.{length}
 use borrow.Author.Needs.{needs}
 use Rattle.cueprint.proofs.play_file.Statement.{statement}
 use Rattle.cueprint.proofs.play_file.Tie as tie
 
 abbrev Inv-loop : tie.InvT-loop
-Inv-loop file n s₀ count₀ i₀ s count i = (i ≤ n) × (n ≤ 2048) × (52 + 8 * n ≤ length file) × (count ≤ 255 * i + 1)
+Inv-loop file n s₀ count₀ i₀ s count i = (i ≤ n) × (n ≤ mostInputs) × (inputPlace n ≤ length file) × (count ≤ 255 * i + 1)
 
 abbrev μ-loop : tie.MeasureT-loop
 μ-loop file n s₀ count₀ i₀ s count i = n - i
@@ -18,9 +19,7 @@ play-file-spec =
     μ-loop
     (λ c κs. search needs)
     (λ c κs. search needs)
-    (λ c. search needs)
-    (λ c. search needs)
-    (λ c. search needs)
+    (λ c κs. search needs)
     (λ c κs. search needs)
     (λ c κs. search needs)
     (λ c κs. search needs)
