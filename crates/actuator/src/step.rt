@@ -2,6 +2,7 @@
 ghost use mathlib.Core.Path.{_≡_};
 ghost use mathlib.Core.Bool.{true};
 ghost use Prim.Native.Nat.{_≤_};
+ghost use Rattle.base.specs.Time.{lastStamp};
 ghost use Rattle.rules.specs.Answers.{stoppedNumber, answer, sameScenes};
 ghost use Rattle.rules.specs.Orders.{order};
 ghost use Rattle.rules.specs.Steps.{act, step};
@@ -137,7 +138,7 @@ pub fn scenes_left(p: Params, k: [Scene; 8], l: Lamp, i: Input) -> [Scene; 8]
 
 // An input to a whole state, by value.
 pub fn step_input(s: State, i: Input, t: u32) -> Acted
-    requires { ⌜ (sound s ≡ true) × (s .clock ≤ t) × (t ≤ 864000) ⌝ }
+    requires { ⌜ (sound s ≡ true) × (s .clock ≤ t) × (t ≤ lastStamp) ⌝ }
     ensures { λ r. ⌜ r ≡ acted (step s i t) ⌝ }
 {
     let p = s.params;

@@ -18,6 +18,6 @@ number BadStamp = 7
 number ShortBuffer = 8
 number UnsoundState = 9
 
--- "7 stamp below .. the clock, above .. (single input or clock move: 864,000)"
+-- single inputs "9, 6, 7", clock moves "9, 7" (in this order: rules, Calls.antt): "7 stamp below .. the clock, above .. (single input or clock move: 864,000)"
 unfoldable pub stampInRange : ℕ → ℕ → Bool
 stampInRange clock stamp = leb clock stamp && leb stamp lastStamp

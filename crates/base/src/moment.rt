@@ -5,6 +5,11 @@ ghost use Rattle.base.specs.Time.{earlier};
 ghost use Rattle.base.specs.Refusals.{stampInRange};
 use crate::logic::both;
 
+// The last stamp, and the longest delay.
+pub const LAST_STAMP: u32 = 864000;
+
+pub const LONGEST_DELAY: u32 = 655350;
+
 // A moment, and a delay after it.
 pub fn later(t: u32, delay: u32) -> u32
     requires { ⌜ (t ≤ 2000000) × (delay ≤ 2000000) ⌝ }
@@ -25,6 +30,6 @@ pub fn stamp_in_range(clock: u32, stamp: u32) -> bool
     ensures { λ r. ⌜ r ≡ stampInRange clock stamp ⌝ }
 {
     let risen = clock <= stamp;
-    let timely = stamp <= 864000;
+    let timely = stamp <= LAST_STAMP;
     both(risen, timely)
 }

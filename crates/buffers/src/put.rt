@@ -1,6 +1,6 @@
 // Records as octets, each at its place in a lent buffer.
 ghost use mathlib.Core.Path.{_≡_};
-ghost use Prim.Native.Nat.{_+_, _≤_};
+ghost use Prim.Native.Nat.{_+_, _*_, _≤_};
 ghost use lib.ListN.{length, take};
 ghost use Rattle.octets.specs.Splice.{splice};
 ghost use Rattle.rules.specs.Layout.{mostInputs, recordSize, recordPlace, recordsRoom};
@@ -51,7 +51,7 @@ pub fn put_record(buf: &mut [u8], count: u32, r: Record)
 // The first so many of three records, one after the other, after those before. The room is asked for these alone: the clock
 // move at the end of a run stands where three would not fit.
 fn put_first(buf: &mut [u8], before: u32, k: [Record; 3], count: u8)
-    requires { ⌜ (before ≤ 6146) × (count ≤ 3) × (recordPlace (before + count) ≤ length (now buf)) ⌝ }
+    requires { ⌜ (before ≤ 3 * mostInputs + 2) × (count ≤ 3) × (recordPlace (before + count) ≤ length (now buf)) ⌝ }
     ensures { λ _. ⌜ now (buf .exit) ≡ splice (now (buf .entry)) (recordPlace before) (recordsOctets (take count k)) ⌝ }
 {
     let mut j: u8 = 0;
@@ -64,7 +64,7 @@ fn put_first(buf: &mut [u8], before: u32, k: [Record; 3], count: u8)
 
 // The used records of one call, after so many.
 pub fn put_notes(buf: &mut [u8], before: u32, n: Notes)
-    requires { ⌜ (before ≤ 6146) × (n .count ≤ 3) × (recordPlace (before + n .count) ≤ length (now buf)) ⌝ }
+    requires { ⌜ (before ≤ 3 * mostInputs + 2) × (n .count ≤ 3) × (recordPlace (before + n .count) ≤ length (now buf)) ⌝ }
     ensures { λ _. ⌜ now (buf .exit) ≡ splice (now (buf .entry)) (recordPlace before) (recordsOctets (take (n .count) (n .records))) ⌝ }
 {
     let k = n.records;
@@ -73,7 +73,7 @@ pub fn put_notes(buf: &mut [u8], before: u32, n: Notes)
 
 // The record of an input, where it wrote one, after so many; how many records stand in the buffer then.
 pub fn put_note(buf: &mut [u8], before: u32, x: Note) -> u32
-    requires { ⌜ (before ≤ 6146) × (recordPlace (before + 1) ≤ length (now buf)) ⌝ }
+    requires { ⌜ (before ≤ 3 * mostInputs + 2) × (recordPlace (before + 1) ≤ length (now buf)) ⌝ }
     ensures { λ r. ⌜ (r ≡ before + length (listed x)) × (now (buf .exit) ≡ splice (now (buf .entry)) (recordPlace before) (recordsOctets (listed x))) ⌝ }
 {
     match x {

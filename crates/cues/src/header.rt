@@ -6,6 +6,7 @@ ghost use lib.ListN.{length};
 ghost use Rattle.rules.specs.Layout.{inputsAt, inputPlace};
 ghost use Rattle.rules.specs.Files.{version, actuators, inputCount, endTime, layoutRight};
 use base::logic::both;
+use base::moment::LAST_STAMP;
 use layout::INPUTS_AT;
 use layout::MOST_INPUTS;
 use layout::PARAMETERS_AT;
@@ -56,7 +57,7 @@ pub fn layout_is_right(file: &[u8]) -> bool
     let parameters = read32(file, 4) as usize == PARAMETERS_AT;
     let count = n <= MOST_INPUTS;
     let inputs = read32(file, 12) as usize == INPUTS_AT;
-    let end = end_time(file) <= 864000;
+    let end = end_time(file) <= LAST_STAMP;
     both(
         both(both(parameters, count), both(inputs, end)),
         length_fits(file, n),

@@ -12,6 +12,7 @@ use Rattle.rules.specs.declared.parameters.Scene.{Scene}
 use Rattle.rules.specs.declared.state.State.{State}
 use Rattle.rules.specs.declared.record.Record.{Record}
 use Rattle.rules.specs.declared.call.Single.{Single}
+use Rattle.rules.specs.Layout.{recordSize}
 use Rattle.rules.specs.Parameters.{paramsOf, scenesOf}
 use Rattle.rules.specs.Status.{sameStatus}
 use Rattle.rules.specs.Steps.{fresh, tick, clockMove, step}
@@ -122,7 +123,7 @@ CountsChanges m =
 unfoldable pub recordsIn : ℕ → List ℕ → List Record
 recordsIn zero buffer = []
 recordsIn (suc n) buffer =
-    record { stamp = be32 buffer 0; value = octet buffer 4; attributes = octet buffer 5; cause = octet buffer 6 } ∷ recordsIn n (drop 8 buffer)
+    record { stamp = be32 buffer 0; value = octet buffer 4; attributes = octet buffer 5; cause = octet buffer 6 } ∷ recordsIn n (drop recordSize buffer)
 
 -- those that a model has written
 abbrev pub recordsOf : Whole → List Record

@@ -66,7 +66,7 @@ pub fn state_of(p: Params, k: [Scene; 8], l: Lamp) -> State
     }
 }
 
-// The lamp with these three, all else as it was: the one place that lists the rest.
+// The lamp with these three, all else as it was: the writers below list the other fields here alone.
 fn rebuilt(l: Lamp, f: Force, link: Link, ph: Phase) -> Lamp
     ensures { λ r. ⌜ r ≡ rebuiltOf l f link ph ⌝ }
 {

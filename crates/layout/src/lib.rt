@@ -1,4 +1,5 @@
-// Where the parts of a cue file stand and how long they are. No other crate has these numbers (what a record takes: `buffers`).
+// Where the parts of a cue file stand and how long they are, for all code. (What a record takes: `buffers`; the places inside the
+// header and an input: where they are read; the buffer of `cueprint` repeats the length of the longest file.)
 ghost use mathlib.Core.Path.{_≡_};
 ghost use Prim.Native.Nat.{_≤_};
 ghost use lib.ListN.{length};
@@ -15,6 +16,7 @@ pub const MODES_AT: usize = 8;
 pub const SCENES_AT: usize = 16;
 
 pub const FLAGS_AT: usize = 17;
+
 // A file without inputs ends where they would begin, and is the shortest.
 pub const INPUTS_AT: usize = 52;
 

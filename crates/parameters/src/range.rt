@@ -1,6 +1,6 @@
 // Which octets of the parameters are out of range. Their length is tested before: every slice here is as long as the parameters.
 ghost use mathlib.Core.Path.{_≡_};
-ghost use Prim.Native.Nat.{_≤_, _<_};
+ghost use Prim.Native.Nat.{_-_, _≤_, _<_};
 ghost use mathlib.Core.Bool.{false, cond};
 ghost use lib.Dec.{leb};
 ghost use lib.ListN.{length, getD};
@@ -85,7 +85,7 @@ fn bad_at(at: usize) -> Check
 // The eight scene entries, each its number and then its flags.
 fn lowest_bad_from_scenes(octets: &[u8]) -> Check
     requires { ⌜ length (now octets) ≡ parametersSize ⌝ }
-    ensures { λ r. ⌜ r ≡ lowestBad (now (octets .entry)) 16 scenesAt ⌝ }
+    ensures { λ r. ⌜ r ≡ lowestBad (now (octets .entry)) (parametersSize - scenesAt) scenesAt ⌝ }
 {
     let mut entry: usize = 0;
     while entry < 8 {
@@ -103,7 +103,7 @@ fn lowest_bad_from_scenes(octets: &[u8]) -> Check
 // The modes against the table, then the scenes.
 fn lowest_bad_from_modes(octets: &[u8]) -> Check
     requires { ⌜ length (now octets) ≡ parametersSize ⌝ }
-    ensures { λ r. ⌜ r ≡ lowestBad (now (octets .entry)) 24 modesAt ⌝ }
+    ensures { λ r. ⌜ r ≡ lowestBad (now (octets .entry)) (parametersSize - modesAt) modesAt ⌝ }
 {
     let mut at: usize = MODES_AT;
     while at < SCENES_AT {

@@ -3,7 +3,7 @@ ghost use mathlib.Core.Path.{_≡_};
 ghost use mathlib.Core.Bool.{true};
 ghost use Prim.Native.Nat.{_+_, _*_, _≤_};
 ghost use lib.ListN.{length};
-ghost use Rattle.rules.specs.Layout.{inputsAt, recordPlace, recordsRoom};
+ghost use Rattle.rules.specs.Layout.{inputsAt, mostInputs, recordPlace, recordsRoom};
 ghost use Rattle.rules.specs.Soundness.{sound};
 ghost use Rattle.rules.specs.Lists.{plays};
 ghost use Rattle.rules.specs.Runs.{playFile};
@@ -57,7 +57,7 @@ fn fresh_in(file: &[u8]) -> State
 // The timers due at or before t: their records follow those before, which are at most three for each of 2,048 inputs. Most moves
 // of the clock meet no timer; only those that do pay for the copies.
 fn advance(records: &mut [u8], count: u32, p: Params, l: Lamp, t: u32) -> Moment
-    requires { ⌜ Room p t × (count ≤ 6144) × (recordPlace (count + 2) ≤ length (now records)) ⌝ }
+    requires { ⌜ Room p t × (count ≤ 3 * mostInputs) × (recordPlace (count + 2) ≤ length (now records)) ⌝ }
     ensures { λ r. ⌜ Advanced p l t count (now (records .entry)) r (now (records .exit)) ⌝ }
 {
     let ph = l.phase;

@@ -1,4 +1,5 @@
--- Laws of the definitions, which the code and the theorems cite: one file for each file of definitions, and a few for what several share.
+-- Laws of the definitions, which the code and the theorems cite: named like the file of definitions where there is one, and a few for
+-- what several share.
 pub mod Deadlines
 pub mod Parameters
 pub mod Inputs

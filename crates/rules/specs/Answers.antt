@@ -16,14 +16,14 @@ use Rattle.rules.specs.declared.barrier.Why.the-variants.{NoPower, NoBus
 use Rattle.rules.specs.declared.barrier.Barrier.{Barrier}
 use Rattle.rules.specs.declared.barrier.Barrier.the-variants.{Open, Stopped}
 
--- "Answer octet, first that fits: 5 power down, 4 bus down, 3 lock, 2 force; then 0 if anything but the clock changed after
--- the due timers had run, else 1." (`same`: nothing but the clock changed)
+-- "Answer octet, first that fits: 5 power down, 4 bus down, 3 lock, 2 force"
 abbrev pub stoppedNumber : Why → ℕ
 stoppedNumber NoPower = 5
 stoppedNumber NoBus = 4
 stoppedNumber Locked = 3
 stoppedNumber Forced = 2
 
+-- "then 0 if anything but the clock changed after the due timers had run, else 1." (`same`: nothing but the clock changed)
 abbrev pub answer : Barrier → Bool → ℕ
 answer (Stopped why) same = stoppedNumber why
 answer Open same = cond same 1 0

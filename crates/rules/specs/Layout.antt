@@ -1,4 +1,5 @@
--- Where the parts of a cue file stand and how long they are (01, "Time and the cue file"): the numbers are here and nowhere else.
+-- Where the parts of a cue file and of the buffer of records stand, and how long they are (01, "Time and the cue file"). The places
+-- inside the header, an input and a record stand with their readings.
 use Prim.Native.Nat.{ℕ, _+_, _*_}
 
 -- "Header, 20 octets of counts and offsets"; "offset of parameters (20)"
@@ -24,7 +25,7 @@ scenePlace n = scenesAt + 2 * n
 abbrev pub flagsPlace : ℕ → ℕ
 flagsPlace n = scenesAt + 1 + 2 * n
 
--- "offset of inputs (52)": they follow the parameters, and a file without any ends there: "file under 52 octets"
+-- "offset of inputs (52)": they follow the parameters, and a file without any ends there ("Refusal numbers": "file under 52 octets")
 abbrev pub inputsAt : ℕ
 inputsAt = 52
 
@@ -40,7 +41,7 @@ mostInputs = 2048
 abbrev pub inputPlace : ℕ → ℕ
 inputPlace i = inputsAt + inputSize * i
 
--- "A record is 8 octets"
+-- 01, "Records and the printout": "A record is 8 octets"
 abbrev pub recordSize : ℕ
 recordSize = 8
 

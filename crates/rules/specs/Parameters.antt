@@ -1,4 +1,4 @@
--- The parameters: what their 32 octets say, and which of them are in range.
+-- The parameters (01, "Time and the cue file"): what their octets say, which of them are in range, and what they are refused for.
 use Prim.Native.Nat.{ℕ, zero, suc, _+_, _-_, _/_, _%_}
 use mathlib.Core.Bool.{Bool, false, cond, not, _&&_, _||_}
 use mathlib.Core.List.{List, [], _∷_}
@@ -18,7 +18,7 @@ unfoldable pub delay : List ℕ → ℕ → ℕ
 delay octets at = tenths (be16 octets at)
 
 -- "8 BehaviourAtLocking ..; 9 BehaviourAtUnlocking ..; 10 BusFailureMode, 11 BusReturnMode ..; 12 PowerReturnMode ..;
--- 13 SceneLearningModeEnable (0, 1)"
+-- 13 SceneLearningModeEnable (0, 1)" (`modesAt` is 8)
 unfoldable pub paramsOf : List ℕ → Params
 paramsOf octets =
     record {

@@ -5,6 +5,8 @@ ghost use Rattle.rules.specs.Soundness.{soon, isDark, isLit, agrees, heldIsStea
 use base::logic::both;
 use base::logic::either;
 use base::logic::negated;
+use base::moment::LAST_STAMP;
+use base::moment::LONGEST_DELAY;
 use lamps::flags::power_is_down;
 use lamps::flags::stands;
 use phases::phase::deadline_of;
@@ -19,7 +21,7 @@ use scenes::range::scenes_in_range;
 fn time_in_range(t: u32) -> bool
     ensures { λ r. ⌜ r ≡ timeInRange t ⌝ }
 {
-    let short = t <= 655350;
+    let short = t <= LONGEST_DELAY;
     let whole = t % 10 == 0;
     both(short, whole)
 }
@@ -50,7 +52,7 @@ fn is_soon(clock: u32, deadline: Deadline) -> bool
         Deadline::Never => true,
         Deadline::At(d) => {
             if clock < d {
-                d - clock <= 655350
+                d - clock <= LONGEST_DELAY
             } else {
                 false
             }
@@ -161,7 +163,7 @@ pub fn is_sound(s: State) -> bool
     let f = s.force;
     let l = s.link;
     let ph = s.phase;
-    let timely = s.clock <= 864000;
+    let timely = s.clock <= LAST_STAMP;
     let ranges = both(params_in_range(p), scenes_in_range(k));
     let clock = both(timely, is_soon(s.clock, deadline_of(ph)));
     both(
