@@ -5,27 +5,27 @@ set -u
 cd "$(dirname "$0")/.." || exit 2
 bad=0
 
-differ() { # WHAT: the lines of standard input are what is wrong
-    local lines
-    lines=$(cat)
-    [ -n "$lines" ] || return 0
-    printf '%s:\n%s\n' "$1" "$lines"
+differ() { # WHAT LINES: the lines are what is wrong; none is as it should be
+    [ -n "$2" ] || return 0
+    printf '%s:\n%s\n' "$1" "$2"
     bad=1
 }
 
 # ARCHITECTURE shows every edge of crates.txt.
-diff <(tests/edges.sh) <(sed -n '/^| |.* base |/,/^$/p' docs/ARCHITECTURE.md | grep .) | differ "the edges of ARCHITECTURE differ from crates.txt"
+differ "the edges of ARCHITECTURE differ from crates.txt" \
+    "$(diff <(tests/edges.sh) <(sed -n '/^| |.* base |/,/^$/p' docs/ARCHITECTURE.md | grep .))"
 
 # Every must-fail edit stands in the table of PROMISES, and every row of the table is an edit.
-diff <(ls crates/*/must-fail/*.edit | sed 's|^crates/||; s|/must-fail/|/|; s|\.edit$||' | sort) \
-    <(sed -n '/^## Must-fail edits/,/^## Tested/p' docs/PROMISES.md | sed -n 's/^| `\([a-z_]*\/[a-z0-9_]*\)` .*/\1/p' | sort) |
-    differ "the must-fail edits of PROMISES differ from those of crates/"
+differ "the must-fail edits of PROMISES differ from those of crates/" \
+    "$(diff <(ls crates/*/must-fail/*.edit | sed 's|^crates/||; s|/must-fail/|/|; s|\.edit$||' | sort) \
+        <(sed -n '/^## Must-fail edits/,/^## Tested/p' docs/PROMISES.md | sed -n 's/^| `\([a-z_]*\/[a-z0-9_]*\)` .*/\1/p' | sort))"
 
 # A theorem that is named is declared: names of two or more words with hyphens between.
 declared=$(mktemp)
 grep -rhoE '^ *(pub )?[a-z][a-z0-9]*(-[a-z0-9]+)+ :' crates --include='*.antt' | sed -E 's/^ *(pub )?//; s/ :$//' | sort -u >"$declared"
-grep -ohE '`[a-z][a-z0-9]*(-[a-z0-9]+)+`' docs/PROMISES.md docs/TRACE.md docs/ARCHITECTURE.md | tr -d '`' | sort -u |
-    comm -23 - "$declared" | grep -vxE '(returns|loop)-[0-9a-z]+|.*-requires(-[0-9]+)?' | differ "named in the documents, and declared nowhere"
+differ "named in the documents, and declared nowhere" \
+    "$(grep -ohE '`[a-z][a-z0-9]*(-[a-z0-9]+)+`' docs/PROMISES.md docs/TRACE.md docs/ARCHITECTURE.md | tr -d '`' | sort -u |
+        comm -23 - "$declared" | grep -vxE '(returns|loop)-[0-9a-z]+|.*-requires(-[0-9]+)?')"
 rm -f "$declared"
 
 exit $bad
