@@ -24,7 +24,7 @@ use Rattle.rules.proofs.Laws.Lists.{still, acts-after-the-move}
 use Rattle.lamps.specs.declared.lamp.Lamp.{Lamp}
 use Rattle.lamps.specs.Lamps.{lampOf, stateOf, alone}
 use Rattle.orders.specs.Lessons.{teaches}
-use Rattle.orders.proofs.Lamps.{only-a-lesson-teaches}
+use Rattle.orders.proofs.Lessons.{only-a-lesson-teaches}
 use Rattle.timers.specs.declared.clock.Ticked.{Ticked}
 use Rattle.actuator.specs.declared.step.Done.{Done}
 use Rattle.records.specs.declared.notes.Note.the-variants.{Silent, Wrote}

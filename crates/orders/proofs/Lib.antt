@@ -1,1 +1,1 @@
-pub mod Lamps
+pub mod Lessons

@@ -1,5 +1,5 @@
 use Rattle.rules.proofs.Laws.Answers.{scenes-same}
-use Rattle.orders.proofs.Lamps.{only-a-lesson-teaches}
+use Rattle.orders.proofs.Lessons.{only-a-lesson-teaches}
 use mathlib.Core.Path.{sym, _∙_}
 use borrow.Author.Needs.{needs}
 use Rattle.actuator.proofs.step.same_table.Statement.{statement}

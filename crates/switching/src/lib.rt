@@ -1,0 +1,3 @@
+// Orders that the light follows where nothing outranks them: On, Off, timed, scenes, night.
+pub mod light;
+pub mod scene;
