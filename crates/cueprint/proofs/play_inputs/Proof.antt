@@ -1,0 +1,28 @@
+use Prim.Native.Nat.{_+_, _*_, _-_, _≤_}
+use Rattle.rules.specs.Layout.{mostInputs, inputPlace}
+use lib.ListN.{length}
+use borrow.Author.Needs.{needs}
+use Rattle.cueprint.proofs.play_inputs.Statement.{statement}
+use Rattle.cueprint.proofs.play_inputs.Tie as tie
+
+abbrev Inv-loop : tie.InvT-loop
+Inv-loop file n s₀ count₀ i₀ s count i = (i ≤ n) × (n ≤ mostInputs) × (inputPlace n ≤ length file) × (count ≤ 255 * i)
+
+abbrev μ-loop : tie.MeasureT-loop
+μ-loop file n s₀ count₀ i₀ s count i = n - i
+
+pub play-inputs-spec : {M : Type 1} → statement M
+play-inputs-spec =
+    tie.close
+    (tie.spec
+    Inv-loop
+    μ-loop
+    (λ c. search needs)
+    (λ c κs. search needs)
+    (λ c κs. search needs)
+    (λ c. search needs)
+    (λ c. search needs)
+    (λ c. search needs)
+    (λ c. search needs)
+    (λ c. search needs)
+    (λ c. search needs))
