@@ -1,7 +1,6 @@
 #!/usr/bin/env bash
 # The tests of what is built: the archive against the second model, the print program, the C example. Called by ./test after
-# the proofs, from the repository's root. It installs what is missing and needed, and says so. The last line is
-# 'N passed, M failed'.
+# the proofs and after tests/tools.sh, from the repository's root. The last line is 'N passed, M failed'.
 #
 # How the Rust tests reach the archive, which is x86-64: on x86-64 they link it plainly. On aarch64 they are compiled for
 # x86-64 with Debian's packages and run under an emulator. Where those packages cannot be had, they run as they are, and every
@@ -47,37 +46,18 @@ done_or_not() {
     fi
 }
 
-install() {
-    echo "installing with apt-get: $*"
-    DEBIAN_FRONTEND=noninteractive apt-get install -y -qq --no-install-recommends "$@" >"$out/apt" 2>&1
-}
-
 # Sets `way` to how the tests reach the archive, `compile` to the compiler and `run` to what runs its programs.
 choose_way() {
     compile=(rustc)
     run=()
     way=bridge
-    if ! command -v rustc >/dev/null; then
-        apt-get update -qq >/dev/null 2>&1
-        install rustc || { echo "there is no Rust compiler, and none can be installed"; return 1; }
-    fi
     if [ "$(uname -m)" = x86_64 ]; then
-        command -v cc >/dev/null || { apt-get update -qq >/dev/null 2>&1; install gcc libc6-dev; }
         way=linked
-    elif cross_tools; then
+    elif dpkg -s rustc libstd-rust-dev:amd64 gcc-x86-64-linux-gnu qemu-user >/dev/null 2>&1; then
         compile=(/usr/bin/rustc --target x86_64-unknown-linux-gnu -C linker=x86_64-linux-gnu-gcc)
         run=(qemu-x86_64)
         way=linked
     fi
-}
-
-# Debian's own compiler with the library for x86-64, a linker for it, and an emulator.
-cross_tools() {
-    local packages=(rustc libstd-rust-dev:amd64 gcc-x86-64-linux-gnu libc6-dev-amd64-cross qemu-user)
-    dpkg -s "${packages[@]}" >/dev/null 2>&1 && return 0
-    echo "adding the architecture amd64 to this machine's packages"
-    dpkg --add-architecture amd64 2>/dev/null && apt-get update -qq >/dev/null 2>&1 && install "${packages[@]}" ||
-        { echo "the packages to link the archive on this machine cannot be had"; return 1; }
 }
 
 # rust NAME [WORDS..]: tests/NAME.rs, compiled.
@@ -108,22 +88,30 @@ example_says() {
     "${kit_run[@]}" "$out/preview" <shows/example.cue | diff - examples/preview.txt
 }
 
-done_or_not "the archive for C is built (rt staticlib house)" rt staticlib house >"$out/staticlib" 2>&1
+# The archive is made beside what needs neither it nor rt: making it proves its crate once more.
+rt staticlib house >"$out/staticlib" 2>&1 &
+archive=$!
+choose_way
+if command -v rustc >/dev/null; then
+    done_or_not "the printout's comparison is built" rust prints
+    counted "the printout against the second model" "${run[@]}" "$out/prints" "${kit_run[@]}" target/bin/cueprint
+    counted "the by-value calls against the second model, and that model's own tests" bash tests/paces.sh
+else
+    failed=$((failed + 1))
+    echo "FAILED: there is no Rust compiler"
+fi
+
+done_or_not "the archive for C is built (rt staticlib house)" wait "$archive"
 tail -n 1 "$out/staticlib"
 done_or_not "the bridge is built by the kit alone" build_bridge
-if choose_way; then
+if command -v rustc >/dev/null; then
     echo "the Rust tests reach the archive by: $way"
     if [ "$way" = linked ]; then
         done_or_not "the comparison is linked with the archive" rust compare --cfg linked -L target/staticlib -l static=house
     else
         done_or_not "the comparison is built" rust compare
     fi
-    done_or_not "the printout's comparison is built" rust prints
     counted "the run against the second model" "${run[@]}" "$out/compare" "${kit_run[@]}" "$out/bridge"
-    counted "the printout against the second model" "${run[@]}" "$out/prints" "${kit_run[@]}" target/bin/cueprint
-    counted "the by-value calls against the second model, and that model's own tests" bash tests/paces.sh
-else
-    failed=$((failed + 1))
 fi
 counted "the shows" bash tests/shows.sh
 done_or_not "the C example is built, warnings as errors" build_example
