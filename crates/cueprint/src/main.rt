@@ -99,7 +99,8 @@ fn play_input(s: State, octets: [u8; 8], i: u32) -> Single {
     o
 }
 
-// The clock moves to the end time: the records of the timers that are due until then, and how many.
+// The clock moves to the end time: the records of the timers that are due until then, and how many. A move writes at most two, so
+// what stands third is never printed.
 fn play_end(s: State, end: u32) -> u8 {
     let m = clock_move(s, end);
     let k = m.records;
@@ -114,6 +115,7 @@ struct Played {
     count: u32,
 }
 
+// The inputs, in list order.
 fn play_inputs(start: State, file: &[u8], n: u32) -> Played
     requires { ⌜ (n ≤ mostInputs) × (inputPlace n ≤ length (now file)) ⌝ }
 {
@@ -145,6 +147,7 @@ fn play_file(file: &[u8])
     print_end(1 + (played.count as u64) + (last as u64));
 }
 
+// What an accepted file does, or NO: code, place.
 fn print_file(file: &[u8]) {
     let check = check_file(file);
     match check {
