@@ -1,8 +1,10 @@
-//! The proved run and the second model, side by side in one program.
+//! The proved run and the second model, side by side in one program, over five kinds of show (`shows.rs`).
 //!
-//! bench count WHICH N CALLS: plays one show of N inputs so many times, by `house_run` or by `model_run`, for a tool that counts
-//! instructions: what ten calls more cost is ten times one call, without the start and the end of the program.
-//! bench time: prints the nanoseconds of a call for each N, both sides, the best of several rounds taken in turn.
+//! bench shows: a line for each kind, its name and its lengths.
+//! bench mix SHOW N: what the N inputs of a show do: how many change something, change nothing, are stopped; and the records.
+//! bench count SHOW N WHICH CALLS: plays it so many times, by `house_run` or by `model_run`, for a tool that counts instructions:
+//! what ten calls more cost is ten times one call, without the start and the end of the program.
+//! bench time SHOW N: the nanoseconds of a call, both sides, the best of several rounds taken in turn.
 //! The buffers are as long as the header asks, and are not cleared between calls: either side writes all that it answers for.
 
 #[path = "../tests/model.rs"]
@@ -11,10 +13,9 @@ mod model;
 #[path = "../tests/files.rs"]
 mod files;
 
-use files::{CueFile, Rng};
-use std::time::Instant;
+mod shows;
 
-const SIZES: [usize; 4] = [0, 256, 1024, 2048];
+use std::time::Instant;
 
 extern "C" {
     fn house_run(f: *const u8, fl: usize, r: *mut u8, rl: usize, a: *mut u8, al: usize) -> u64;
@@ -33,62 +34,64 @@ fn proved_run(file: &[u8], records: &mut [u8], answers: &mut [u8]) -> u64 {
     }
 }
 
-/// Shows of one mix: the same 256 random inputs again and again, each time later, and each time from a power cut on, so that
-/// every block meets the same state. What a longer show costs more is then what more inputs cost. An input is 42 seconds after
-/// the one before, every fifth at the same stamp; the delays are those of document 01's cases, so timers run between inputs.
-fn show(n: usize) -> Vec<u8> {
-    let mut file = CueFile::random(&mut Rng::new(7), 256);
-    file.parameters[0..8].copy_from_slice(&[0, 2, 0, 5, 0, 60, 0, 10]);
-    file.inputs = (0..n).map(|i| {
-        let mut input = file.inputs[i % 256];
-        let stamp = (i - usize::from(i % 5 == 4)) as u32 * 420;
-        input[0..4].copy_from_slice(&stamp.to_be_bytes());
-        if i % 256 < 2 {
-            input[4..6].copy_from_slice(&[8, (i % 256) as u8]);
+/// A show, and the two buffers that it is played into.
+struct Stage {
+    file: Vec<u8>,
+    records: Vec<u8>,
+    answers: Vec<u8>,
+}
+
+impl Stage {
+    fn new(show: &str, n: usize) -> Stage {
+        Stage { file: shows::octets(show, n), records: vec![0; 8 * (3 * n + 3)], answers: vec![0; n] }
+    }
+
+    fn play(&mut self, which: &str, calls: usize) {
+        let run = if which == "house_run" { proved_run } else { model_run };
+        for _ in 0..calls {
+            std::hint::black_box(run(&self.file, &mut self.records, &mut self.answers));
         }
-        input
-    }).collect();
-    file.count = n as u32;
-    file.end = 864_000;
-    file.octets()
+    }
+}
+
+/// Both sides must have played the show, and alike, or their cost says nothing.
+fn mix(show: &str, n: usize) {
+    let mut stage = Stage::new(show, n);
+    let number = proved_run(&stage.file, &mut stage.records, &mut stage.answers);
+    let (records, answers) = (stage.records.clone(), stage.answers.clone());
+    assert_eq!(number, model_run(&stage.file, &mut stage.records, &mut stage.answers));
+    assert_eq!((&records, &answers), (&stage.records, &stage.answers));
+    assert_eq!(number >> 48, 0, "{show} is refused");
+    let count = (number & 0xFFFF_FFFF) as usize;
+    let by_timers = records.chunks(8).take(count).skip(1).filter(|r| r[6] == 0).count();
+    let given = |wanted: std::ops::RangeInclusive<u8>| answers.iter().filter(|a| wanted.contains(a)).count();
+    println!("{} {} {} {count} {by_timers}", given(0..=0), given(1..=1), given(2..=5));
+}
+
+fn time(show: &str, n: usize) {
+    let mut stage = Stage::new(show, n);
+    let calls = 20_000 / (n + 10) + 1;
+    let mut best = [f64::MAX; 2];
+    for _ in 0..15 {
+        for (which, best) in ["house_run", "model_run"].iter().zip(&mut best) {
+            let start = Instant::now();
+            stage.play(which, calls);
+            *best = best.min(start.elapsed().as_nanos() as f64 / calls as f64);
+        }
+    }
+    println!("{:.1} {:.1}", best[0], best[1]);
 }
 
 fn main() {
     let words: Vec<String> = std::env::args().skip(1).collect();
-    let mut records = vec![0; 8 * (3 * 2048 + 3)];
-    let mut answers = vec![0; 2048];
-    if words[0] == "count" {
-        let file = show(words[2].parse().unwrap());
-        let calls: usize = words[3].parse().unwrap();
-        let proved = words[1] == "house_run";
-        for _ in 0..calls {
-            let number = if proved {
-                proved_run(&file, &mut records, &mut answers)
-            } else {
-                model_run(&file, &mut records, &mut answers)
-            };
-            std::hint::black_box(number);
+    let words: Vec<&str> = words.iter().map(String::as_str).collect();
+    match words[..] {
+        ["shows"] => shows::ALL.iter().for_each(|(name, lengths)| println!("{name} {lengths}")),
+        ["mix", show, n] => mix(show, n.parse().unwrap()),
+        ["time", show, n] => time(show, n.parse().unwrap()),
+        ["count", show, n, which, calls] => {
+            Stage::new(show, n.parse().unwrap()).play(which, calls.parse().unwrap());
         }
-        return;
-    }
-    for n in SIZES {
-        let file = show(n);
-        let calls = 20_000 / (n + 10) + 1;
-        let mut best = [f64::MAX; 2];
-        for _ in 0..15 {
-            for (side, best) in best.iter_mut().enumerate() {
-                let start = Instant::now();
-                for _ in 0..calls {
-                    let number = if side == 0 {
-                        proved_run(&file, &mut records, &mut answers)
-                    } else {
-                        model_run(&file, &mut records, &mut answers)
-                    };
-                    std::hint::black_box(number);
-                }
-                *best = best.min(start.elapsed().as_nanos() as f64 / calls as f64);
-            }
-        }
-        println!("{} {:.0} {:.0}", n, best[0], best[1]);
+        _ => panic!("see the head of bench.rs"),
     }
 }

@@ -1,0 +1,64 @@
+//! The five kinds of show, so that nobody tunes the run to one of them.
+
+use crate::files::{CueFile, Rng};
+
+/// Each kind, and the lengths that it is measured at.
+pub const ALL: [(&str, &str); 5] = [
+    ("empty", "0"),
+    ("mixed", "256 1024 2048"),
+    ("switching", "256 1024 2048"),
+    ("timers", "256 1024 2048"),
+    ("random", "2048"),
+];
+
+/// OnDelay, OffDelay, TimedOn and Prewarning in seconds: those of document 01's cases.
+const DELAYS: [u8; 8] = [0, 2, 0, 5, 0, 60, 0, 10];
+
+/// A timed light is over before the next input.
+const SHORT_DELAYS: [u8; 8] = [0, 2, 0, 5, 0, 20, 0, 10];
+
+/// A cue file of n inputs.
+pub fn octets(show: &str, n: usize) -> Vec<u8> {
+    match show {
+        "empty" | "mixed" => repeated(n, DELAYS, true, &mixed()),
+        "switching" => repeated(n, DELAYS, true, &switching()),
+        "timers" => repeated(n, SHORT_DELAYS, false, &[[2, 1]]),
+        "random" => CueFile::random(&mut Rng::new(42), n),
+        _ => panic!("no show {show}"),
+    }.octets()
+}
+
+/// 256 random inputs of all kinds, from a power cut on, so that every block meets the same state.
+fn mixed() -> Vec<[u8; 2]> {
+    let random = CueFile::random(&mut Rng::new(7), 256).inputs;
+    let mut block: Vec<[u8; 2]> = random.iter().map(|input| [input[4], input[5]]).collect();
+    block[0] = [8, 0];
+    block[1] = [8, 1];
+    block
+}
+
+/// 96 On and Off of 100, and a lock that stops two more.
+fn switching() -> Vec<[u8; 2]> {
+    let mut rng = Rng::new(3);
+    let mut block: Vec<[u8; 2]> = (0..100).map(|_| [1, rng.below(2) as u8]).collect();
+    block[50] = [5, 1];
+    block[53] = [5, 0];
+    block
+}
+
+/// The same kinds and values again and again, so that what a longer show costs more is what more inputs cost. An input is 42
+/// seconds after the one before, with ties every fifth at the same stamp.
+fn repeated(n: usize, delays: [u8; 8], ties: bool, block: &[[u8; 2]]) -> CueFile {
+    let mut file = CueFile::random(&mut Rng::new(7), 256);
+    file.parameters[0..8].copy_from_slice(&delays);
+    file.inputs = (0..n).map(|i| {
+        let stamp = (i - usize::from(ties && i % 5 == 4)) as u32 * 420;
+        let mut input = [0; 8];
+        input[0..4].copy_from_slice(&stamp.to_be_bytes());
+        input[4..6].copy_from_slice(&block[i % block.len()]);
+        input
+    }).collect();
+    file.count = n as u32;
+    file.end = 864_000;
+    file
+}
