@@ -1,30 +1,35 @@
 -- An input at the moved clock does what the rules say: it is taken, or stopped. A step is the clock move, and then that.
 use Prim.Native.Nat.{ℕ, _≤_}
-use mathlib.Core.Bool.{Bool, true, false, cond}
+use mathlib.Core.Bool.{Bool, true, false, cond, _&&_}
 use mathlib.Core.List.{List, [], _∷_, _++_}
 use mathlib.Core.Path.{_≡_, refl, sym, ap, _∙_}
 use lib.ListN.{length}
 use native.Mathlib.Omega.{arith}
+use Rattle.rules.specs.declared.parameters.Params.{Params}
 use Rattle.rules.specs.declared.parameters.Scene.{Scene}
+use Rattle.rules.specs.declared.phase.Phase.{Phase}
 use Rattle.rules.specs.declared.input.Input.{Input}
 use Rattle.rules.specs.declared.state.State.{State}
 use Rattle.rules.specs.declared.barrier.Why.{Why}
 use Rattle.rules.specs.declared.barrier.Barrier.{Barrier}
 use Rattle.rules.specs.declared.barrier.Barrier.the-variants.{Open, Stopped}
 use Rattle.rules.specs.Inputs.{kind}
-use Rattle.rules.specs.Orders.{order}
+use Rattle.rules.specs.Orders.{withPhase, order}
 use Rattle.rules.specs.Barriers.{barrier}
-use Rattle.rules.specs.Status.{sameStatus, recordOf, written}
+use Rattle.rules.specs.Status.{value, attributes, sameStatus, recordOf, written}
+use Rattle.rules.specs.Answers.{answer, samePhase, sameFlags, sameScenes, sameButClock}
 use Rattle.rules.specs.Steps.{Stepped, atMoment, clockMove, taken, meet, act, step}
 use Rattle.rules.specs.Lists.{Played}
+use Rattle.base.proofs.Tests.{eqb-same, beq-same}
 use Rattle.rules.proofs.Laws.Orders.{order-keeps}
+use Rattle.rules.proofs.Laws.Answers.{same-but-clock-is-exact, scenes-same}
 use Rattle.rules.proofs.Laws.Soundness.{move-keeps}
 use Rattle.rules.proofs.Laws.Records.{a-move-writes-at-most-two, one-record-at-most}
 use Rattle.rules.proofs.Laws.Lists.{still, acts-after-the-move}
 use Rattle.lamps.specs.declared.lamp.Lamp.{Lamp}
 use Rattle.lamps.specs.Lamps.{lampOf, stateOf, alone}
-use Rattle.orders.specs.Lessons.{teaches}
-use Rattle.orders.proofs.Lessons.{only-a-lesson-teaches}
+use Rattle.orders.specs.Lights.{isLight, lightPhase}
+use Rattle.orders.proofs.Lights.{light-is-granted, other-orders-keep-the-table}
 use Rattle.timers.specs.declared.clock.Ticked.{Ticked}
 use Rattle.actuator.specs.declared.step.Done.{Done}
 use Rattle.records.specs.declared.notes.Note.the-variants.{Silent, Wrote}
@@ -33,6 +38,64 @@ use Rattle.timers.specs.Ticks.{ticked}
 use Rattle.actuator.specs.Acts.{done, doneBy, stoppedBy, acted}
 use Rattle.timers.proofs.Moves.{joined, moved-lamp}
 use Rattle.records.proofs.Written.{added-first}
+
+-- ---- taken
+
+-- lamps that agree in all but the clock, at one moment, are one lamp
+same-lamp : (a b : Lamp) → a .clock ≡ b .clock → (samePhase (a .phase) (b .phase) && sameFlags (alone a) (alone b)) ≡ true → a ≡ b
+unfolding sameButClock sameScenes
+same-lamp a b clock e = ap (λ (u : State). lampOf u) (same-but-clock-is-exact (alone a) (alone b) clock refl .0 (simp e))
+
+module _ (p : Params) (k : List Scene) (l : Lamp) (i : Input) where
+  abbrev met : State
+  met = stateOf p k l
+
+  abbrev table : List Scene
+  table = order met i .scenes
+
+  -- the state after an order is its parts
+  order-joined : (after : Lamp) → lampOf (order met i) ≡ after → stateOf p table after ≡ order met i
+  order-joined after e = rw (← e) (joined (order met i) p table (order-keeps met i .params) refl)
+
+  -- a lamp that stays: only the table can have changed, and nothing is shown
+  stays : (k₁ : List Scene) → record { lamp = l; answer = answer Open (sameScenes k k₁); note = Silent } ≡ doneBy met i (stateOf p k₁ l)
+  unfolding doneBy sameButClock samePhase sameFlags noteOf sameStatus value attributes
+  stays k₁ = simp (eqb-same, beq-same)
+
+  pub lamp-stays : lampOf (order met i) ≡ l → record { lamp = l; answer = answer Open (sameScenes k table); note = Silent } ≡ doneBy met i (order met i)
+  lamp-stays e = stays table ∙ ap (doneBy met i) (order-joined l e)
+
+  -- a lamp that does not
+  changes : (k₁ : List Scene) (after : Lamp) → (samePhase (l .phase) (after .phase) && sameFlags (alone l) (alone after)) ≡ false
+      → record { lamp = after; answer = 0; note = noteOf (kind i) (alone l) (alone after) } ≡ doneBy met i (stateOf p k₁ after)
+  unfolding doneBy sameButClock sameFlags noteOf sameStatus value attributes recordOf
+  changes k₁ after e = simp e
+
+  pub lamp-changes : (after : Lamp) → lampOf (order met i) ≡ after → (samePhase (l .phase) (after .phase) && sameFlags (alone l) (alone after)) ≡ false
+      → record { lamp = after; answer = 0; note = noteOf (kind i) (alone l) (alone after) } ≡ doneBy met i (order met i)
+  lamp-changes after e differs = changes table after differs ∙ ap (doneBy met i) (order-joined after e)
+
+  -- an order to the light leaves all but the phase
+  module _ (light : isLight i ≡ true) (next : Phase) (grants : next ≡ lightPhase p k l i) where
+    pub light-lamp : lampOf (order met i) ≡ lampOf (withPhase (alone l) next)
+    light-lamp = rw grants (light-is-granted p k l i light)
+
+    same-flags : sameFlags (alone l) (withPhase (alone l) next) ≡ true
+    unfolding sameFlags
+    same-flags = simp (eqb-same, beq-same)
+
+    pub light-stays : samePhase (l .phase) next ≡ true → lampOf (order met i) ≡ l
+    light-stays e = light-lamp ∙ sym (same-lamp l (lampOf (withPhase (alone l) next)) refl (rw (e, same-flags) refl))
+
+    pub light-changes : samePhase (l .phase) next ≡ false → (samePhase (l .phase) next && sameFlags (alone l) (withPhase (alone l) next)) ≡ false
+    light-changes e = rw e refl
+
+  -- any other order leaves the scene table, and the clock
+  pub other-keeps : isLight i ≡ false → sameScenes k table ≡ true
+  other-keeps other = rw (other-orders-keep-the-table met i other) (scenes-same k)
+
+  pub other-stays : (after : Lamp) → after ≡ lampOf (order met i) → (samePhase (l .phase) (after .phase) && sameFlags (alone l) (alone after)) ≡ true → lampOf (order met i) ≡ l
+  other-stays after e same = sym e ∙ sym (same-lamp l after (rw e (sym (order-keeps met i .clock))) same)
 
 -- ---- at the moved clock
 
@@ -70,15 +133,6 @@ module _ (s : State) (i : Input) where
       go : (b : Barrier) → (meet b (still s) i .state .params ≡ s .params) × (length (meet b (still s) i .records) ≤ 1)
       go Open = unfold meet taken in (order-keeps s i .params, one-record-at-most (kind i) s (order s i))
       go (Stopped why) = unfold meet in (refl, omega arith)
-
-  -- no table changes by an input that is not a lesson
-  pub no-lesson-keeps : teaches i ≡ false → s .scenes ≡ act (still s) i .state .scenes
-  unfolding act
-  no-lesson-keeps e = go (barrier s i)
-    where
-      go : (b : Barrier) → s .scenes ≡ meet b (still s) i .state .scenes
-      go Open = unfold meet taken in sym (only-a-lesson-teaches s i e)
-      go (Stopped why) = unfold meet in refl
 
 -- ---- the whole step
 

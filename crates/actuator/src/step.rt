@@ -1,23 +1,26 @@
 // One input: the clock moves to its stamp, then it acts, or is dropped for good.
 ghost use mathlib.Core.Path.{_≡_};
-ghost use mathlib.Core.Bool.{true};
+ghost use mathlib.Core.Bool.{true, false};
+ghost use mathlib.Core.List.{List};
 ghost use Prim.Native.Nat.{_≤_};
 ghost use Rattle.base.specs.Time.{lastStamp};
+ghost use Rattle.rules.specs.declared.parameters.Scene.{Scene};
 ghost use Rattle.rules.specs.Answers.{stoppedNumber, answer, sameScenes};
 ghost use Rattle.rules.specs.Orders.{order};
-ghost use Rattle.rules.specs.Steps.{act, step};
+ghost use Rattle.rules.specs.Steps.{step};
 ghost use Rattle.rules.specs.Soundness.{sound};
-ghost use Rattle.rules.proofs.Laws.Lists.{still};
-ghost use Rattle.phases.specs.Room.{Roomy};
-ghost use Rattle.lamps.specs.Lamps.{stateOf, alone};
-ghost use Rattle.actuator.specs.Acts.{doneBy, stoppedBy, done, acted};
+ghost use Rattle.phases.specs.Room.{Room, Roomy};
+ghost use Rattle.lamps.specs.Lamps.{stateOf};
+ghost use Rattle.orders.specs.Lights.{isLight};
+ghost use Rattle.actuator.specs.Acts.{doneBy, acted};
 use barriers::barrier::barrier_to;
 use barriers::barrier::kind_of;
-use base::logic::both;
 use lamps::lamp;
 use lamps::lamp::Lamp;
-use orders::carry_out;
 use orders::is_lesson;
+use orders::is_light;
+use orders::light_order;
+use orders::other_order;
 use orders::table_after;
 use records::notes;
 use records::notes::Note;
@@ -30,9 +33,10 @@ use rules::parameters::Scene;
 use rules::state::State;
 use scenes::same::same_scenes;
 use states::same::same_lamp;
-use timers::clock::due_timers;
+use states::same::same_phase;
+use timers::clock::run_timers;
 
-// What an input does at the moved clock, but for the scene table.
+// What an input does that is taken, but for the scene table.
 pub struct Done {
     pub lamp: Lamp,
     pub answer: u8,
@@ -47,7 +51,7 @@ pub struct Acted {
 }
 
 // The answer octet of an input that is stopped.
-fn stopped_number(why: Why) -> u8
+pub fn stopped_number(why: Why) -> u8
     ensures { λ r. ⌜ r ≡ stoppedNumber why ⌝ }
 {
     match why {
@@ -65,7 +69,18 @@ fn taken_number(same: bool) -> u8
     if same { 1 } else { 0 }
 }
 
-// Whether an input leaves the scene table as it is. Only a lesson can change it, so no other input pays for comparing it.
+// The scene table after an input that is taken. Only a lesson can change it, so no other input pays for it.
+pub fn scenes_after(p: Params, k: [Scene; 8], l: Lamp, i: Input) -> [Scene; 8]
+    ensures { λ r. ⌜ r ≡ order (stateOf p k l) i .scenes ⌝ }
+{
+    if is_lesson(i) {
+        table_after(p, k, l, i)
+    } else {
+        k
+    }
+}
+
+// Whether it is the table that was there before.
 fn same_table(p: Params, k: [Scene; 8], l: Lamp, i: Input) -> bool
     ensures { λ r. ⌜ r ≡ sameScenes k (order (stateOf p k l) i .scenes) ⌝ }
 {
@@ -76,67 +91,63 @@ fn same_table(p: Params, k: [Scene; 8], l: Lamp, i: Input) -> bool
     }
 }
 
-// An input that nothing stops.
-fn take(p: Params, k: [Scene; 8], l: Lamp, i: Input) -> Done
+// An order to the light: a phase that stays shows nothing new.
+fn take_light(p: Params, k: [Scene; 8], l: Lamp, i: Input) -> Done
+    requires { ⌜ Roomy p (l .clock) (l .phase) × (isLight i ≡ true) ⌝ }
+    ensures { λ r. ⌜ r ≡ doneBy (stateOf p k l) i (order (stateOf p k l) i) ⌝ }
+{
+    let ph = l.phase;
+    let next = light_order(p, k, l, i);
+    if same_phase(ph, next) {
+        Done {
+            lamp: l,
+            answer: taken_number(same_table(p, k, l, i)),
+            note: Note::Silent,
+        }
+    } else {
+        let after = lamp::with_phase(l, next);
+        Done {
+            lamp: after,
+            answer: 0,
+            note: notes::written(kind_of(i), l, after),
+        }
+    }
+}
+
+// Any other order: a lamp that stays shows nothing new.
+fn take_other(p: Params, l: Lamp, i: Input) -> Done
+    requires { ⌜ Room p (l .clock) × (isLight i ≡ false) ⌝ }
+    ensures { λ r. ⌜ ((k : List Scene) → r ≡ doneBy (stateOf p k l) i (order (stateOf p k l) i)) ⌝ }
+{
+    let after = other_order(p, l, i);
+    if same_lamp(l, after) {
+        Done {
+            lamp: l,
+            answer: 1,
+            note: Note::Silent,
+        }
+    } else {
+        Done {
+            lamp: after,
+            answer: 0,
+            note: notes::written(kind_of(i), l, after),
+        }
+    }
+}
+
+// An input at the moved clock that nothing stops.
+pub fn take(p: Params, k: [Scene; 8], l: Lamp, i: Input) -> Done
     requires { ⌜ Roomy p (l .clock) (l .phase) ⌝ }
     ensures { λ r. ⌜ r ≡ doneBy (stateOf p k l) i (order (stateOf p k l) i) ⌝ }
 {
-    let after = carry_out(p, k, l, i);
-    let same = both(same_lamp(l, after), same_table(p, k, l, i));
-    let note = notes::written(kind_of(i), l, after);
-    Done {
-        lamp: after,
-        answer: taken_number(same),
-        note,
-    }
-}
-
-// An input that a barrier stops: it leaves what the clock move left.
-fn stop(l: Lamp, why: Why) -> Done
-    ensures { λ r. ⌜ r ≡ stoppedBy (alone l) why ⌝ }
-{
-    Done {
-        lamp: l,
-        answer: stopped_number(why),
-        note: Note::Silent,
-    }
-}
-
-// An input at the moved clock.
-pub fn act_on(p: Params, k: [Scene; 8], l: Lamp, i: Input) -> Done
-    requires { ⌜ Roomy p (l .clock) (l .phase) ⌝ }
-    ensures { λ r. ⌜ r ≡ done (act (still (stateOf p k l)) i) ⌝ }
-{
-    let b = barrier_to(l, i);
-    match b {
-        Barrier::Open => take(p, k, l, i),
-        Barrier::Stopped(why) => stop(l, why),
-    }
-}
-
-// The scene table that a lesson leaves at the moved clock.
-fn scenes_taught(p: Params, k: [Scene; 8], l: Lamp, i: Input) -> [Scene; 8]
-    ensures { λ r. ⌜ r ≡ act (still (stateOf p k l)) i .state .scenes ⌝ }
-{
-    let b = barrier_to(l, i);
-    match b {
-        Barrier::Open => table_after(p, k, l, i),
-        Barrier::Stopped(_) => k,
-    }
-}
-
-// The scene table that an input at the moved clock leaves: every input but a lesson leaves it as it is.
-pub fn scenes_left(p: Params, k: [Scene; 8], l: Lamp, i: Input) -> [Scene; 8]
-    ensures { λ r. ⌜ r ≡ act (still (stateOf p k l)) i .state .scenes ⌝ }
-{
-    if is_lesson(i) {
-        scenes_taught(p, k, l, i)
+    if is_light(i) {
+        take_light(p, k, l, i)
     } else {
-        k
+        take_other(p, l, i)
     }
 }
 
-// An input to a whole state, by value.
+// An input to a whole state, by value: a stopped one leaves what the clock move left.
 pub fn step_input(s: State, i: Input, t: u32) -> Acted
     requires { ⌜ (sound s ≡ true) × (s .clock ≤ t) × (t ≤ lastStamp) ⌝ }
     ensures { λ r. ⌜ r ≡ acted (step s i t) ⌝ }
@@ -144,17 +155,26 @@ pub fn step_input(s: State, i: Input, t: u32) -> Acted
     let p = s.params;
     let k = s.scenes;
     let l = lamp::lamp_of(s);
-    let m = due_timers(p, l, t);
+    let m = run_timers(p, l, t);
     let ph = m.phase;
     let timers = m.notes;
     let moved = lamp::at_moment(l, t, ph);
-    let d = act_on(p, k, moved, i);
-    let after = d.lamp;
-    let note = d.note;
-    let table = scenes_left(p, k, moved, i);
-    Acted {
-        state: lamp::state_of(p, table, after),
-        answer: d.answer,
-        notes: notes::add(timers, note),
+    let b = barrier_to(moved, kind_of(i));
+    match b {
+        Barrier::Open => {
+            let d = take(p, k, moved, i);
+            let after = d.lamp;
+            let note = d.note;
+            Acted {
+                state: lamp::state_of(p, scenes_after(p, k, moved, i), after),
+                answer: d.answer,
+                notes: notes::add(timers, note),
+            }
+        }
+        Barrier::Stopped(why) => Acted {
+            state: lamp::state_of(p, k, moved),
+            answer: stopped_number(why),
+            notes: timers,
+        },
     }
 }

@@ -2,8 +2,7 @@
 ghost use mathlib.Core.Path.{_≡_};
 ghost use Prim.Native.Nat.{_≤_};
 ghost use Rattle.rules.specs.Inputs.{kind};
-ghost use Rattle.rules.specs.Barriers.{rowOf, firstBarrier, barrier};
-ghost use Rattle.lamps.specs.Lamps.{alone};
+ghost use Rattle.rules.specs.Barriers.{rowOf, firstBarrier};
 use base::logic::both;
 use lamps::flags::bus_is_down;
 use lamps::flags::power_is_down;
@@ -53,9 +52,6 @@ const POWER: Row = Row {
     force: false,
 };
 
-// The table: a row for each kind, from 1 SwitchOnOff to 8 power.
-const ROWS: [Row; 8] = [LOW, LOW, LOW, FORCED, LOCK, LOW, BUS, POWER];
-
 pub fn kind_of(i: Input) -> u8
     ensures { λ r. ⌜ r ≡ kind i ⌝ }
 {
@@ -71,12 +67,21 @@ pub fn kind_of(i: Input) -> u8
     }
 }
 
+// The table: a row for each kind, from 1 SwitchOnOff to 8 power. It is read by a match, so that it is not built anew for every input.
 fn row_of(kind: u8) -> Row
     requires { ⌜ (1 ≤ kind) × (kind ≤ 8) ⌝ }
     ensures { λ r. ⌜ r ≡ rowOf kind ⌝ }
 {
-    let n = (kind - 1) as usize;
-    ROWS[n]
+    match kind {
+        1 => LOW,
+        2 => LOW,
+        3 => LOW,
+        4 => FORCED,
+        5 => LOCK,
+        6 => LOW,
+        7 => BUS,
+        _ => POWER,
+    }
 }
 
 // The first of a row's barriers that stands.
@@ -98,11 +103,12 @@ fn first_barrier(row: Row, link: Link, lock: bool, force: Force) -> Barrier
     Barrier::Open
 }
 
-// The first barrier that an input meets.
-pub fn barrier_to(l: Lamp, i: Input) -> Barrier
-    ensures { λ r. ⌜ r ≡ barrier (alone l) i ⌝ }
+// The first barrier that an input of a kind meets.
+pub fn barrier_to(l: Lamp, kind: u8) -> Barrier
+    requires { ⌜ (1 ≤ kind) × (kind ≤ 8) ⌝ }
+    ensures { λ r. ⌜ r ≡ firstBarrier (rowOf kind) (l .link) (l .lock) (l .force) ⌝ }
 {
     let link = l.link;
     let force = l.force;
-    first_barrier(row_of(kind_of(i)), link, l.lock, force)
+    first_barrier(row_of(kind), link, l.lock, force)
 }

@@ -71,9 +71,9 @@ pub fn put_notes(buf: &mut [u8], before: u32, n: Notes)
     put_first(buf, before, k, n.count);
 }
 
-// The record of an input, where it wrote one, after so many; how many records stand in the buffer then.
+// The record of a timer or an input, where it wrote one, after so many; how many records stand in the buffer then.
 pub fn put_note(buf: &mut [u8], before: u32, x: Note) -> u32
-    requires { ⌜ (before ≤ 3 * mostInputs + 2) × (recordPlace (before + 1) ≤ length (now buf)) ⌝ }
+    requires { ⌜ (before ≤ 3 * mostInputs + 2) × (recordPlace (before + length (listed x)) ≤ length (now buf)) ⌝ }
     ensures { λ r. ⌜ (r ≡ before + length (listed x)) × (now (buf .exit) ≡ splice (now (buf .entry)) (recordPlace before) (recordsOctets (listed x))) ⌝ }
 {
     match x {

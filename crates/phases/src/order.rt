@@ -1,6 +1,6 @@
 // What each order makes of a phase, at t: one small function for each.
 ghost use mathlib.Core.Path.{_≡_};
-ghost use Rattle.rules.specs.Orders.{on, timedStart, offAfterDelay, off, timedStop, nightFalls};
+ghost use Rattle.rules.specs.Orders.{on, timedStart, offAfterDelay, off, nightFalls};
 ghost use Rattle.phases.specs.Room.{Room, Roomy};
 use crate::phase::lit_at;
 use crate::phase::set_on;
@@ -75,20 +75,6 @@ pub fn order_off(p: Params, t: u32, phase: Phase) -> Phase
         Phase::Dark
     } else {
         off_after_delay(p, t, phase)
-    }
-}
-
-pub fn order_timed_stop(p: Params, t: u32, phase: Phase) -> Phase
-    requires { ⌜ Roomy p t phase ⌝ }
-    ensures { λ r. ⌜ r ≡ timedStop p t phase ⌝ }
-{
-    match phase {
-        Phase::Dark => phase,
-        Phase::Lit => phase,
-        Phase::Starting(timed, _) => { if timed { order_off(p, t, phase) } else { phase } }
-        Phase::Timed(_) => order_off(p, t, phase),
-        Phase::Warning(_) => order_off(p, t, phase),
-        Phase::Ending(_) => phase,
     }
 }
 

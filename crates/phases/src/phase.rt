@@ -51,6 +51,20 @@ pub fn deadline_of(phase: Phase) -> Deadline
     }
 }
 
+// The deadline as a number, 0 where there is none.
+pub fn due_at(phase: Phase) -> u32
+    ensures { λ r. ⌜ r ≡ due phase ⌝ }
+{
+    match phase {
+        Phase::Dark => 0,
+        Phase::Lit => 0,
+        Phase::Starting(_, deadline) => deadline,
+        Phase::Timed(d) => d,
+        Phase::Warning(d) => d,
+        Phase::Ending(d) => d,
+    }
+}
+
 // Light that comes on at t: for a time, or to stay.
 pub fn lit_at(p: Params, timed: bool, t: u32) -> Phase
     requires { ⌜ Room p t ⌝ }

@@ -7,7 +7,7 @@ use native.Mathlib.Omega.{arith}
 use lib.ListN.{length, getD, take, length-append}
 use Rattle.rules.specs.declared.state.State.{State}
 use Rattle.rules.specs.declared.record.Record.{Record}
-use Rattle.rules.specs.Steps.{Moved, fresh, atMoment, clockMove}
+use Rattle.rules.specs.Steps.{Moved, fresh, clockMove}
 use Rattle.rules.specs.Soundness.{sound}
 use Rattle.rules.specs.Status.{value, attributes, recordOf}
 use Rattle.rules.specs.Lists.{Played, plays, playsTo, playList}
@@ -16,11 +16,10 @@ use Rattle.rules.specs.Runs.{recordOctets, recordsOctets, playFile}
 use Rattle.rules.proofs.Laws.Parameters.{passed-is-sound}
 use Rattle.rules.proofs.Laws.Records.{a-move-writes-at-most-two, used-places}
 use Rattle.rules.proofs.Refusals.Files.{good-file, good-start, parameters-small}
-use Rattle.timers.specs.declared.clock.Ticked.{Ticked}
+use Rattle.timers.specs.declared.clock.Clocked.{Clocked}
 use Rattle.records.specs.Notes.{notes}
-use Rattle.timers.specs.Ticks.{ticked}
-use Rattle.lamps.specs.Lamps.{lampOf, stateOf, alone}
-use Rattle.timers.proofs.Moves.{moved-lamp}
+use Rattle.timers.specs.Ticks.{clocked}
+use Rattle.lamps.specs.Lamps.{lampOf, alone}
 use Rattle.player.specs.declared.play.Ended.{Ended}
 use Rattle.octets.specs.Splice.{splice}
 use Rattle.player.specs.Playing.{listIn, freshIn, Fit, Ready, Filled}
@@ -50,11 +49,11 @@ unfolding recordOf value attributes
 record-alone cause s = refl
 
 -- the used records of a clock move, by value, are its records
-pub move-records : (s : State) (t : ℕ) (m : Ticked) → m ≡ ticked (clockMove s t) → (m .notes .count ≡ length (clockMove s t .records)) × (take (m .notes .count) (m .notes .records) ≡ clockMove s t .records)
-unfolding ticked notes
+pub move-records : (s : State) (t : ℕ) (m : Clocked) → m ≡ clocked (clockMove s t) → (m .notes .count ≡ length (clockMove s t .records)) × (take (m .notes .count) (m .notes .records) ≡ clockMove s t .records)
+unfolding clocked notes
 move-records s t m e = rw e (refl, used-places 3 (clockMove s t .records) (omega (arith, a-move-writes-at-most-two s t)))
 
-pub move-few : (s : State) (t : ℕ) (m : Ticked) → m ≡ ticked (clockMove s t) → m .notes .count ≤ 2
+pub move-few : (s : State) (t : ℕ) (m : Clocked) → m ≡ clocked (clockMove s t) → m .notes .count ≤ 2
 move-few s t m e = rw (move-records s t m e .0) (a-move-writes-at-most-two s t)
 
 -- a file is played: its start record, its inputs from the fresh state on, and the move to its end time
@@ -70,14 +69,14 @@ played-whole file p e = rw e (simp append-nil)
 module _ (file : List ℕ) (end : ℕ) (ends : end ≡ endTime file) (r r₁ : List ℕ) (first : r₁ ≡ splice r 0 (recordOctets (recordOf 0 (freshIn file)))) where
   -- the three parts of the records stand one after the other
   pub ended : (a a₂ r₂ r₃ : List ℕ) (e : Ended) → Filled 1 (plays (listIn file) (freshIn file)) r₁ a e r₂ a₂
-      → (m : Ticked) → m ≡ ticked (clockMove (e .state) end) → r₃ ≡ splice r₂ (8 * e .count) (recordsOctets (take (m .notes .count) (m .notes .records)))
-      → Filled 0 (playFile file (listIn file)) r a (record { state = stateOf (e .state .params) (e .state .scenes) (lampOf (atMoment (alone (lampOf (e .state))) end (m .phase))); count = e .count + m .notes .count }) r₃ a₂
-  unfolding ticked
+      → (m : Clocked) → m ≡ clocked (clockMove (e .state) end) → r₃ ≡ splice r₂ (8 * e .count) (recordsOctets (take (m .notes .count) (m .notes .records)))
+      → Filled 0 (playFile file (listIn file)) r a (record { state = m .state; count = e .count + m .notes .count }) r₃ a₂
+  unfolding clocked
   ended a a₂ r₂ r₃ e f m g p =
       let q : Played = plays (listIn file) (freshIn file) in
       let start : Record = recordOf 0 (freshIn file) in
       let last : Moved = clockMove (q .state) (endTime file) in
-      let same : m ≡ ticked last = rw (← ends, ← f .state) g in
+      let same : m ≡ clocked last = rw (← ends, ← f .state) g in
       let b = move-records (q .state) (endTime file) m same in
       let whole = played-whole file q refl in
       let one : r₁ ≡ splice r 0 (recordsOctets (start ∷ [])) = first ∙ ap (splice r 0) (sym (records-one start)) in
@@ -86,7 +85,7 @@ module _ (file : List ℕ) (end : ℕ) (ends : end ≡ endTime file) (r r₁ : L
       p ∙ rw (b .1) (records-more r r₂ 0 (8 * e .count) (start ∷ q .records) (last .records) (omega arith) (omega (arith, f .count)) two)
       in
       record {
-        state = rw (whole, same, ends, ← f .state) (moved-lamp (e .state .params) (e .state .scenes) (lampOf (e .state)) (endTime file));
+        state = rw (whole, same) refl;
         count = rw (whole, b .0, length-append) (omega (arith, f .count));
         records = rw whole three;
         answers = rw whole (f .answers);

@@ -1,2 +1,3 @@
-pub mod Turns
 pub mod Ends
+pub mod Timers
+pub mod Turns

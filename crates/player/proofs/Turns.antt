@@ -11,16 +11,23 @@ use Rattle.rules.specs.declared.parameters.Scene.{Scene}
 use Rattle.rules.specs.declared.input.Decoded.{Decoded}
 use Rattle.rules.specs.declared.input.Decoded.the-variants.{Meant, Wrong}
 use Rattle.rules.specs.Inputs.{stampAt, inputAt}
+use Rattle.rules.specs.declared.barrier.Why.{Why}
+use Rattle.rules.specs.declared.barrier.Barrier.the-variants.{Open, Stopped}
+use Rattle.rules.specs.Orders.{order}
+use Rattle.rules.specs.Answers.{stoppedNumber}
+use Rattle.rules.specs.Barriers.{barrier}
 use Rattle.rules.specs.Steps.{Stepped, atMoment, clockMove, act, step}
 use Rattle.rules.proofs.Laws.Lists.{still, andThen-assoc}
 use Rattle.inputs.specs.Meaning.{isMeant}
 use Rattle.lamps.specs.declared.lamp.Lamp.{Lamp}
 use Rattle.lamps.specs.Lamps.{lampOf, stateOf, alone}
 use Rattle.actuator.specs.declared.step.Done.{Done}
+use Rattle.records.specs.declared.notes.Note.{Note}
+use Rattle.records.specs.declared.notes.Note.the-variants.{Silent, Wrote}
 use Rattle.records.specs.Notes.{firstOf, listed}
-use Rattle.actuator.specs.Acts.{done}
+use Rattle.actuator.specs.Acts.{done, doneBy, stoppedBy}
 use Rattle.timers.proofs.Moves.{moved-lamp}
-use Rattle.actuator.proofs.Taken.{acting-keeps, later, step-splits, later-joined}
+use Rattle.actuator.proofs.Taken.{open-is-taken, open-teaches, barred-is-stopped, barred-keeps, acting-keeps, later, step-splits, later-joined}
 use Rattle.player.specs.declared.play.Moment.{Moment}
 use Rattle.player.specs.Playing.{found, listIn, Ready, Filled, Advanced}
 use Rattle.rules.specs.declared.input.Input.{Input}
@@ -54,6 +61,10 @@ listed-first : (k : List Record) → length k ≤ 1 → listed (firstOf k) ≡ k
 listed-first [] few = refl
 listed-first (r ∷ []) few = refl
 listed-first (r ∷ q ∷ k) few = absurd (omega arith)
+
+pub listed-few : (x : Note) → length (listed x) ≤ 1
+listed-few Silent = omega arith
+listed-few (Wrote r) = omega arith
 
 -- what the code has after the clock move and after the input, part by part, is what the step of the rules gives
 module _ (p : Params) (k : List Scene) (l : Lamp) (x : Input) (t before : ℕ) (r r₁ : List ℕ) (m : Moment) (moves : Advanced p l t before r m r₁)
@@ -182,7 +193,7 @@ module _ (file : List ℕ) (n : ℕ) (start : State) (r₀ a₀ : List ℕ) (rea
 -- the next turn, of what the code has
 module _ (file : List ℕ) (n : ℕ) (start : State) (r₀ a₀ : List ℕ) (ready : Ready file n start) (p : Params) (table : List Scene) (l : Lamp) (r a : List ℕ) (k i : ℕ)
     (g : Going file n start r₀ a₀ r a (stateOf p table l) k i) where
-  pub going-on : i < n → 8 ≤ length r₀ → n ≤ length a₀ → (x : Input) → inputAt file (inputPlace i) ≡ Meant x
+  going-on : i < n → 8 ≤ length r₀ → n ≤ length a₀ → (x : Input) → inputAt file (inputPlace i) ≡ Meant x
       → (m : Moment) (r₁ : List ℕ) → Advanced p l (stampAt file (inputPlace i)) k r m r₁ → 8 * k ≤ length r
       → (moved : Lamp) → moved ≡ lampOf (atMoment (alone l) (stampAt file (inputPlace i)) (m .phase))
       → (d : Done) → d ≡ done (act (still (stateOf p table moved)) x)
@@ -197,3 +208,26 @@ module _ (file : List ℕ) (n : ℕ) (start : State) (r₀ a₀ : List ℕ) (rea
       let step-on = going-step file n start r₀ a₀ ready r a (stateOf p table l) k i g h some enough r₂ in
       rw (state-there p table l x t k r r₁ m moves moved there d acts left teaches, answers-there p table l x t k r r₁ m moves moved there d acts, count-there p table l x t k r r₁ m moves moved there d acts count counts, same)
       (step-on (rw same at (records-there p table l x t k r r₁ m moves moved there d acts (omega (arith, room)) r₂ writes)) long)
+
+  -- an input that is taken, and one that is stopped
+  pub going-taken : i < n → 8 ≤ length r₀ → n ≤ length a₀ → (x : Input) → inputAt file (inputPlace i) ≡ Meant x
+      → (m : Moment) (r₁ : List ℕ) → Advanced p l (stampAt file (inputPlace i)) k r m r₁ → 8 * k ≤ length r
+      → (moved : Lamp) → moved ≡ lampOf (atMoment (alone l) (stampAt file (inputPlace i)) (m .phase))
+      → barrier (stateOf p table moved) x ≡ Open
+      → (d : Done) → d ≡ doneBy (stateOf p table moved) x (order (stateOf p table moved) x)
+      → (count : ℕ) → count ≡ m .count + length (listed (d .note))
+      → (r₂ : List ℕ) → r₂ ≡ splice r₁ (8 * m .count) (recordsOctets (listed (d .note))) → length r₂ ≡ length r
+      → (left : List Scene) → left ≡ order (stateOf p table moved) x .scenes
+      → Going file n start r₀ a₀ r₂ (set a i (d .answer)) (stateOf p left (d .lamp)) count (i + 1)
+  going-taken h some enough x means m r₁ moves room moved there free d takes count counts r₂ writes long left teaches =
+      going-on h some enough x means m r₁ moves room moved there d (takes ∙ open-is-taken (stateOf p table moved) x free) count counts r₂ writes long left (teaches ∙ open-teaches (stateOf p table moved) x free)
+
+  pub going-stopped : i < n → 8 ≤ length r₀ → n ≤ length a₀ → (x : Input) → inputAt file (inputPlace i) ≡ Meant x
+      → (m : Moment) (r₁ : List ℕ) → Advanced p l (stampAt file (inputPlace i)) k r m r₁ → 8 * k ≤ length r → length r₁ ≡ length r
+      → (moved : Lamp) → moved ≡ lampOf (atMoment (alone l) (stampAt file (inputPlace i)) (m .phase))
+      → (why : Why) → barrier (stateOf p table moved) x ≡ Stopped why
+      → Going file n start r₀ a₀ r₁ (set a i (stoppedNumber why)) (stateOf p table moved) (m .count) (i + 1)
+  unfolding stoppedBy
+  going-stopped h some enough x means m r₁ moves room long moved there why bars =
+      let met : State = stateOf p table moved in
+      going-on h some enough x means m r₁ moves room moved there (stoppedBy met why) (barred-is-stopped met x why bars) (m .count) (omega arith) r₁ (records-none r₁ (8 * m .count)) long table (barred-keeps met x why bars)

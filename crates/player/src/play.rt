@@ -9,11 +9,14 @@ ghost use Rattle.rules.specs.Lists.{plays};
 ghost use Rattle.rules.specs.Runs.{playFile};
 ghost use Rattle.phases.specs.Room.{Room};
 ghost use Rattle.player.specs.Playing.{listIn, freshIn, Ready, Fit, Filled, Advanced};
-use actuator::step::act_on;
-use actuator::step::scenes_left;
+use actuator::step::scenes_after;
+use actuator::step::stopped_number;
+use actuator::step::take;
+use barriers::barrier::barrier_to;
 use buffers::put::put_note;
 use buffers::put::put_notes;
 use buffers::put::put_record;
+use inputs::kind_at;
 use inputs::known_input_at;
 use inputs::stamp_at;
 use lamps::lamp::Lamp;
@@ -25,13 +28,14 @@ use layout::parameters_in;
 use parameters::read::params_of;
 use parameters::read::scenes_of;
 use records::status::record_of;
+use rules::barrier::Barrier;
 use rules::parameters::Params;
 use rules::phase::Phase;
 use rules::state::State;
 use states::fresh::fresh_with;
-use timers::clock::due_timers;
 use timers::clock::is_due;
-use timers::clock::run_timers;
+use timers::clock::move_clock;
+use timers::clock::run_timer;
 
 // Where playing has come to: the state, and how many records stand in the buffer.
 pub struct Ended {
@@ -54,8 +58,28 @@ fn fresh_in(file: &[u8]) -> State
     fresh_with(params_of(parameters), scenes_of(parameters))
 }
 
-// The timers due at or before t: their records follow those before, which are at most three for each of 2,048 inputs. Most moves
-// of the clock meet no timer; only those that do pay for the copies.
+// The timers due at or before t, until none is: their records follow those before, which are at most three for each of 2,048
+// inputs.
+fn run_timers_into(records: &mut [u8], count: u32, p: Params, l: Lamp, t: u32) -> Moment
+    requires { ⌜ Room p t × (count ≤ 3 * mostInputs) × (recordPlace (count + 2) ≤ length (now records)) ⌝ }
+    ensures { λ r. ⌜ Advanced p l t count (now (records .entry)) r (now (records .exit)) ⌝ }
+{
+    let mut ph = l.phase;
+    let mut n = count;
+    while is_due(ph, t) {
+        let timer = run_timer(p, l, ph);
+        let note = timer.note;
+        n = put_note(records, n, note);
+        let next = timer.phase;
+        ph = next;
+    }
+    Moment {
+        phase: ph,
+        count: n,
+    }
+}
+
+// The clock of a lamp moves to t. Most moves meet no timer; only those that do pay for the copies.
 fn advance(records: &mut [u8], count: u32, p: Params, l: Lamp, t: u32) -> Moment
     requires { ⌜ Room p t × (count ≤ 3 * mostInputs) × (recordPlace (count + 2) ≤ length (now records)) ⌝ }
     ensures { λ r. ⌜ Advanced p l t count (now (records .entry)) r (now (records .exit)) ⌝ }
@@ -64,14 +88,7 @@ fn advance(records: &mut [u8], count: u32, p: Params, l: Lamp, t: u32) -> Moment
     if is_due(ph, t) {
         let times = p;
         let waiting = l;
-        let m = run_timers(times, waiting, t);
-        let left = m.phase;
-        let written = m.notes;
-        put_notes(records, count, written);
-        Moment {
-            phase: left,
-            count: count + (written.count as u32),
-        }
+        run_timers_into(records, count, times, waiting, t)
     } else {
         Moment { phase: ph, count }
     }
@@ -89,19 +106,29 @@ fn play_inputs(file: &[u8], n: u32, start: State, records: &mut [u8], answers: &
     let mut i: u32 = 0;
     while i < n {
         let at = input_place(i);
-        let x = known_input_at(file, at);
         let t = stamp_at(file, at);
         let m = advance(records, count, p, l, t);
         let ph = m.phase;
         let moved = at_moment(l, t, ph);
-        let d = act_on(p, k, moved, x);
-        let note = d.note;
-        count = put_note(records, m.count, note);
-        answers[i as usize] = d.answer;
-        let table = scenes_left(p, k, moved, x);
-        k = table;
-        let next = d.lamp;
-        l = next;
+        let b = barrier_to(moved, kind_at(file, at));
+        match b {
+            Barrier::Open => {
+                let x = known_input_at(file, at);
+                let d = take(p, k, moved, x);
+                let note = d.note;
+                count = put_note(records, m.count, note);
+                answers[i as usize] = d.answer;
+                let table = scenes_after(p, k, moved, x);
+                k = table;
+                let next = d.lamp;
+                l = next;
+            }
+            Barrier::Stopped(why) => {
+                count = m.count;
+                answers[i as usize] = stopped_number(why);
+                l = moved;
+            }
+        }
         i += 1;
     }
     Ended {
@@ -119,15 +146,12 @@ pub fn play(file: &[u8], n: u32, end: u32, records: &mut [u8], answers: &mut [u8
     put_record(records, 0, record_of(0, lamp_of(start)));
     let played = play_inputs(file, n, start, records, answers);
     let s = played.state;
-    let p = s.params;
-    let k = s.scenes;
-    let l = lamp_of(s);
-    let last = due_timers(p, l, end);
-    let ph = last.phase;
+    let last = move_clock(s, end);
+    let state = last.state;
     let written = last.notes;
     put_notes(records, played.count, written);
     Ended {
-        state: state_of(p, k, at_moment(l, end, ph)),
+        state,
         count: played.count + (written.count as u32),
     }
 }

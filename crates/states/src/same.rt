@@ -2,10 +2,11 @@
 ghost use mathlib.Core.Path.{_≡_};
 ghost use mathlib.Core.Bool.{_&&_};
 ghost use Rattle.lamps.specs.Lamps.{alone};
-ghost use Rattle.rules.specs.Answers.{phaseNumber, due, samePhase, forceNumber, linkNumber, sameFlags};
+ghost use Rattle.rules.specs.Answers.{phaseNumber, samePhase, forceNumber, linkNumber, sameFlags};
 use base::logic::alike;
 use base::logic::both;
 use lamps::lamp::Lamp;
+use phases::phase::due_at;
 use rules::input::Force;
 use rules::phase::Phase;
 use rules::state::Link;
@@ -23,20 +24,7 @@ fn phase_number(phase: Phase) -> u8
     }
 }
 
-fn due_at(phase: Phase) -> u32
-    ensures { λ r. ⌜ r ≡ due phase ⌝ }
-{
-    match phase {
-        Phase::Dark => 0,
-        Phase::Lit => 0,
-        Phase::Starting(_, deadline) => deadline,
-        Phase::Timed(d) => d,
-        Phase::Warning(d) => d,
-        Phase::Ending(d) => d,
-    }
-}
-
-fn same_phase(a: Phase, b: Phase) -> bool
+pub fn same_phase(a: Phase, b: Phase) -> bool
     ensures { λ r. ⌜ r ≡ samePhase a b ⌝ }
 {
     let n = phase_number(a) == phase_number(b);

@@ -1,64 +1,29 @@
-// Orders to the light: On, Off, timed start and stop, scenes, night.
+// Orders to the light: what an input asks for, and night.
 ghost use mathlib.Core.Path.{_≡_};
 ghost use mathlib.Core.List.{List};
 ghost use Rattle.rules.specs.declared.parameters.Scene.{Scene};
-ghost use Rattle.rules.specs.Orders.{switch, timed, recall, scene, nightMode};
+ghost use Rattle.rules.specs.Orders.{held, nightMode};
 ghost use Rattle.phases.specs.Room.{Room, Roomy};
-ghost use Rattle.lamps.specs.Lamps.{lampOf, stateOf};
+ghost use Rattle.lamps.specs.Lamps.{lampOf, stateOf, alone};
+ghost use Rattle.switching.specs.Wishes.{granted};
+use crate::wish::Wish;
 use lamps::lamp;
 use lamps::lamp::Lamp;
 use phases::order;
 use rules::parameters::Params;
-use rules::parameters::Recalled;
-use rules::parameters::Scene;
-use scenes::table::recalls;
+use rules::phase::Phase;
 
-pub fn switched(p: Params, l: Lamp, on: bool) -> Lamp
+// What becomes of the phase: a wish changes nothing else.
+pub fn grant(p: Params, l: Lamp, w: Wish) -> Phase
     requires { ⌜ Roomy p (l .clock) (l .phase) ⌝ }
-    ensures { λ r. ⌜ ((k : List Scene) → r ≡ lampOf (switch (stateOf p k l) on)) ⌝ }
+    ensures { λ r. ⌜ r ≡ granted p (l .night) (held (alone l)) (l .clock) (l .phase) w ⌝ }
 {
     let ph = l.phase;
-    if on {
-        lamp::with_phase(
-            l,
-            order::order_on(p, l.night, lamp::is_held(l), l.clock, ph),
-        )
-    } else {
-        lamp::with_phase(l, order::order_off(p, l.clock, ph))
-    }
-}
-
-pub fn timed_order(p: Params, l: Lamp, start: bool) -> Lamp
-    requires { ⌜ Roomy p (l .clock) (l .phase) ⌝ }
-    ensures { λ r. ⌜ ((k : List Scene) → r ≡ lampOf (timed (stateOf p k l) start)) ⌝ }
-{
-    let ph = l.phase;
-    if start {
-        lamp::with_phase(l, order::order_timed_start(p, l.clock, ph))
-    } else {
-        lamp::with_phase(l, order::order_timed_stop(p, l.clock, ph))
-    }
-}
-
-fn recall_order(p: Params, l: Lamp, found: Recalled) -> Lamp
-    requires { ⌜ Roomy p (l .clock) (l .phase) ⌝ }
-    ensures { λ r. ⌜ ((k : List Scene) → r ≡ lampOf (recall (stateOf p k l) found)) ⌝ }
-{
-    match found {
-        Recalled::Nothing => l,
-        Recalled::Output(value) => switched(p, l, value),
-    }
-}
-
-// Learning leaves the lamp alone: it changes the table.
-pub fn scene_order(p: Params, k: [Scene; 8], l: Lamp, learn: bool, number: u8) -> Lamp
-    requires { ⌜ Roomy p (l .clock) (l .phase) ⌝ }
-    ensures { λ r. ⌜ r ≡ lampOf (scene (stateOf p k l) learn number) ⌝ }
-{
-    if learn {
-        l
-    } else {
-        recall_order(p, l, recalls(k, number))
+    match w {
+        Wish::Nothing => ph,
+        Wish::On => order::order_on(p, l.night, lamp::is_held(l), l.clock, ph),
+        Wish::Off => order::order_off(p, l.clock, ph),
+        Wish::TimedStart => order::order_timed_start(p, l.clock, ph),
     }
 }
 

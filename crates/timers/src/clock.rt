@@ -3,19 +3,27 @@ ghost use mathlib.Core.Path.{_≡_};
 ghost use mathlib.Core.List.{List};
 ghost use Rattle.rules.specs.declared.parameters.Scene.{Scene};
 ghost use Rattle.rules.specs.Phases.{deadline};
-ghost use Rattle.rules.specs.Steps.{tick, clockMove};
+ghost use Rattle.rules.specs.Answers.{due};
+ghost use Rattle.rules.specs.Steps.{clockMove};
 ghost use Rattle.phases.specs.Room.{Room};
-ghost use Rattle.lamps.specs.Lamps.{lampOf, stateOf};
-ghost use Rattle.timers.specs.Ticks.{dueBy, ticked, clocked};
+ghost use Rattle.lamps.specs.Lamps.{stateOf};
+ghost use Rattle.timers.specs.Ticks.{dueBy, timerOf, ticked, clocked};
 use lamps::lamp;
 use lamps::lamp::Lamp;
 use phases::phase;
 use records::notes;
+use records::notes::Note;
 use records::notes::Notes;
 use rules::parameters::Params;
 use rules::phase::Deadline;
 use rules::phase::Phase;
 use rules::state::State;
+
+// What one timer leaves: a phase, and the record of it.
+pub struct Timer {
+    pub phase: Phase,
+    pub note: Note,
+}
 
 // What timers leave: a phase, and the records that they wrote. All else of a lamp but its clock stays.
 pub struct Ticked {
@@ -29,43 +37,6 @@ pub struct Clocked {
     pub notes: Notes,
 }
 
-// One timer, where it is due at or before t.
-fn tick_once(p: Params, l: Lamp, t: u32) -> Lamp
-    requires { ⌜ Room p t ⌝ }
-    ensures { λ r. ⌜ ((k : List Scene) → r ≡ lampOf (tick (stateOf p k l) t)) ⌝ }
-{
-    let ph = l.phase;
-    let deadline = phase::deadline_of(ph);
-    match deadline {
-        Deadline::Never => l,
-        Deadline::At(d) => {
-            if d <= t {
-                lamp::at_moment(l, d, phase::at_deadline(p, l.night, ph))
-            } else {
-                l
-            }
-        }
-    }
-}
-
-// Every timer due at or before t, each at its own moment: a phase has at most three before it rests.
-pub fn run_timers(p: Params, l: Lamp, t: u32) -> Ticked
-    requires { ⌜ Room p t ⌝ }
-    ensures { λ r. ⌜ ((k : List Scene) → r ≡ ticked (clockMove (stateOf p k l) t)) ⌝ }
-{
-    let a = tick_once(p, l, t);
-    let b = tick_once(p, a, t);
-    let c = tick_once(p, b, t);
-    let first = notes::add(notes::none(), notes::written(0, l, a));
-    let second = notes::add(first, notes::written(0, a, b));
-    let third = notes::add(second, notes::written(0, b, c));
-    let ph = c.phase;
-    Ticked {
-        phase: ph,
-        notes: third,
-    }
-}
-
 // Whether a timer is due at or before t.
 pub fn is_due(ph: Phase, t: u32) -> bool
     ensures { λ r. ⌜ r ≡ dueBy (deadline ph) t ⌝ }
@@ -77,19 +48,38 @@ pub fn is_due(ph: Phase, t: u32) -> bool
     }
 }
 
-// The timers due at or before t. Most moves of the clock meet none, and are cheap.
-pub fn due_timers(p: Params, l: Lamp, t: u32) -> Ticked
+// The timer of a lamp in this phase runs, at its own moment.
+pub fn run_timer(p: Params, l: Lamp, ph: Phase) -> Timer
+    requires { ⌜ Room p (due ph) ⌝ }
+    ensures { λ r. ⌜ r ≡ timerOf p l ph ⌝ }
+{
+    let next = phase::at_deadline(p, l.night, ph);
+    let before = lamp::with_phase(l, ph);
+    let after = lamp::at_moment(l, phase::due_at(ph), next);
+    Timer {
+        phase: next,
+        note: notes::written(0, before, after),
+    }
+}
+
+// Every timer due at or before t, until none is.
+pub fn run_timers(p: Params, l: Lamp, t: u32) -> Ticked
     requires { ⌜ Room p t ⌝ }
     ensures { λ r. ⌜ ((k : List Scene) → r ≡ ticked (clockMove (stateOf p k l) t)) ⌝ }
 {
-    let ph = l.phase;
-    if is_due(ph, t) {
-        run_timers(p, l, t)
-    } else {
-        Ticked {
-            phase: ph,
-            notes: notes::none(),
-        }
+    let mut ph = l.phase;
+    let mut written = notes::none();
+    while is_due(ph, t) {
+        let timer = run_timer(p, l, ph);
+        let note = timer.note;
+        let more = notes::add(written, note);
+        written = more;
+        let next = timer.phase;
+        ph = next;
+    }
+    Ticked {
+        phase: ph,
+        notes: written,
     }
 }
 
@@ -101,7 +91,7 @@ pub fn move_clock(s: State, t: u32) -> Clocked
     let p = s.params;
     let k = s.scenes;
     let l = lamp::lamp_of(s);
-    let m = due_timers(p, l, t);
+    let m = run_timers(p, l, t);
     let ph = m.phase;
     let written = m.notes;
     Clocked {

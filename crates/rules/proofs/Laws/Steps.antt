@@ -42,7 +42,7 @@ pub tick-keeps : (s : State) (t clock : ℕ) (phase : Phase) → atMoment (tick 
 tick-keeps s t clock phase = tick-case (λ (u : State). atMoment u clock phase ≡ atMoment s clock phase) s t (λ d e past. refl) (λ quiet. refl)
 
 -- how many timers a phase can still run
-abbrev rank : Phase → ℕ
+abbrev pub rank : Phase → ℕ
 rank Dark = 0
 rank Lit = 0
 rank (Starting timed d) = 3
@@ -59,6 +59,18 @@ timer-rank p night (Starting timed d) = cond-case (λ (x : Phase). rank x ≤ 2)
 timer-rank p night (Timed d) = cond-zero (λ (x : Phase). rank x ≤ 1) (p .prewarning) _ _ (omega arith) (λ some. omega arith)
 timer-rank p night (Warning d) = omega arith
 timer-rank p night (Ending d) = omega arith
+
+-- and a phase that has one is not at rest
+some-left : (phase : Phase) (d : ℕ) → deadline phase ≡ At d → rank phase ≡ suc (rank phase - 1)
+some-left Dark d e = cc
+some-left Lit d e = cc
+some-left (Starting timed x) d e = refl
+some-left (Timed x) d e = refl
+some-left (Warning x) d e = refl
+some-left (Ending x) d e = refl
+
+pub a-timer-lowers-the-rank : (p : Params) (night : Bool) (phase : Phase) (d : ℕ) → deadline phase ≡ At d → rank (atDeadline p night phase) < rank phase
+a-timer-lowers-the-rank p night phase d e = omega (arith, timer-rank p night phase, some-left phase d e)
 
 -- nothing is due at t, or at most n timers are left
 abbrev Left : ℕ → ℕ → Phase → Type 0

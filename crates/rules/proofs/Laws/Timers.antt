@@ -58,8 +58,9 @@ unfolding clockMove ticked
 clock-moves s t = rw append-nil at (tick-moves t s _ _ (tick-moves t _ _ _ (tick-moves t _ _ _ (rest (three-are-enough s t)))))
 
 -- its first due timer, then the others
-pub the-first-timer-first : (s : State) (t d : ℕ) → deadline (s .phase) ≡ At d → d ≤ t → clockMove s t .state ≡ clockMove (fired s d) t .state
-the-first-timer-first s t d e past = moves-once (clock-moves s t) (fire d e past (clock-moves (fired s d) t)) .0
+pub the-first-timer-first : (s : State) (t d : ℕ) → deadline (s .phase) ≡ At d → d ≤ t →
+    (clockMove s t .state ≡ clockMove (fired s d) t .state) × (clockMove s t .records ≡ written byItself s (fired s d) ++ clockMove (fired s d) t .records)
+the-first-timer-first s t d e past = moves-once (clock-moves s t) (fire d e past (clock-moves (fired s d) t))
 
 -- and there is no other
 the-clock-move : {t : ℕ} {s u : State} {l : List Record} → Moves t s u l → clockMove s t ≡ record { state = u; records = l }

@@ -126,7 +126,7 @@ ends-in-light p night d (Starting timed e) some h = rw h (lit-lasts p (timed || 
 
 comes-on : (s : State) (d : ℕ) → 1 ≤ s .params .timedon → Waits d (s .phase) → output (clockMove s d .state .phase) ≡ true
 comes-on s d some waits =
-    rw (the-first-timer-first s d d (waits-until d (s .phase) waits) (omega arith))
+    rw (the-first-timer-first s d d (waits-until d (s .phase) waits) (omega arith) .0)
     (lit-now (fired s d) d (ends-in-light (s .params) (s .night) d (s .phase) some waits))
 
 -- ---- what an order that lights leaves

@@ -6,6 +6,9 @@ use borrow.Author.Needs.{needs}
 use Rattle.buffers.proofs.put.put_note.Statement.{statement}
 use Rattle.buffers.proofs.put.put_note.Tie as tie
 
+put-record-requires : tie.Need-put-record-requires
+put-record-requires c κs = rw (c .before .before .x .given .1) at (c .before .before .before .before .before .pre .1)
+
 returns : tie.Need-returns
 returns c = rw (c .enum-told .given .1) (omega arith, records-none _ _)
 
@@ -18,7 +21,7 @@ put-note-spec =
     (tie.spec
     (λ c. search needs)
     (λ c. search needs)
-    (λ c κs. search needs)
+    put-record-requires
     (λ c. search needs)
     returns
     (λ c. search needs)

@@ -8,7 +8,6 @@ use Rattle.rules.specs.Status.{recordOf}
 use denote.Ref.{now}
 use native.Mathlib.Omega.{arith}
 use mathlib.Core.Path.{_≡_, refl, _∙_}
-use mathlib.Core.List.{[]}
 use borrow.Author.Needs.{needs}
 use Rattle.player.proofs.play.play.Statement.{statement}
 use Rattle.player.proofs.play.play.Tie as tie
@@ -29,34 +28,31 @@ fresh-in-requires c κs = good-file _ _ (c .before .before .before .pre .0 .acce
 play-inputs-requires : tie.Need-play-inputs-requires
 play-inputs-requires c κs = (ready (c .before .before .before .before .before .before .before .before), omega (arith, c .before .before .before .before .put-record .kept .0, c .before .before .before .before .before .before .before .before .before .before .before .before .pre .1), c .before .before .before .before .before .before .before .before .before .before .before .before .pre .2)
 
-due-timers-requires : tie.Need-due-timers-requires
-due-timers-requires c κs =
-    let fit = c .before .before .before .before .before .before .before .before .before .before .before .before .before .before .before .before .before .before .before .before .before .pre .0 in
-    sound-room _ _ (c .before .before .before .before .before .before .before .before .play-inputs .ensures .1) (omega (arith, fit .ends, good-file _ _ (fit .accepted) .start .header .layout .end))
+move-clock-requires : tie.Need-move-clock-requires
+move-clock-requires c κs =
+    let fit = c .before .before .before .before .before .before .before .before .before .before .before .before .before .before .before .before .before .before .pre .0 in
+    sound-room _ _ (c .before .before .before .before .before .play-inputs .ensures .1) (omega (arith, fit .ends, good-file _ _ (fit .accepted) .start .header .layout .end))
 
 put-notes-requires : tie.Need-put-notes-requires
 put-notes-requires c κs =
-    let inputs = c .before .before .before .before .before .before .before .before .before .before .before .play-inputs in
-    let few = move-few _ _ _ (c .before .before .due-timers .ensures []) in
-    (omega (arith, few, inputs .ensures .2, ready (c .before .before .before .before .before .before .before .before .before .before .before .before .before .before .before .before .before .before .before .before) .few), omega (arith, few), omega (arith, few, inputs .ensures .2, inputs .kept .1 .1 .1 .0, c .before .before .before .before .before .before .before .before .before .before .before .before .before .before .before .before .put-record .kept .0, c .before .before .before .before .before .before .before .before .before .before .before .before .before .before .before .before .before .before .before .before .before .before .before .before .pre .1))
+    let inputs = c .before .before .before .before .before .before .before .before .before .play-inputs in
+    let few = move-few _ _ _ (c .before .before .before .move-clock .ensures) in
+    (omega (arith, few, inputs .ensures .2, ready (c .before .before .before .before .before .before .before .before .before .before .before .before .before .before .before .before .before .before) .few), omega (arith, few), omega (arith, few, inputs .ensures .2, inputs .kept .1 .1 .1 .0, c .before .before .before .before .before .before .before .before .before .before .before .before .before .before .put-record .kept .0, c .before .before .before .before .before .before .before .before .before .before .before .before .before .before .before .before .before .before .before .before .before .before .pre .1))
 
-add-t28 : tie.Need-add-t28
-add-t28 c = omega (arith, move-few _ _ _ (c .before .before .before .before .before .before .before .before .before .due-timers .ensures []), c .before .before .before .before .before .before .before .before .before .before .before .before .before .before .before .before .before .before .play-inputs .ensures .2, ready (c .before .before .before .before .before .before .before .before .before .before .before .before .before .before .before .before .before .before .before .before .before .before .before .before .before .before .before) .few)
+add-t24 : tie.Need-add-t24
+add-t24 c = omega (arith, move-few _ _ _ (c .before .before .before .before .before .before .before .before .move-clock .ensures), c .before .before .before .before .before .before .before .before .before .before .before .before .before .before .play-inputs .ensures .2, ready (c .before .before .before .before .before .before .before .before .before .before .before .before .before .before .before .before .before .before .before .before .before .before .before) .few)
 
 same-length : tie.Need-same-length
-same-length c = c .before .before .before .before .before .before .put-notes .kept .0 ∙ c .before .before .before .before .before .before .before .before .before .before .before .before .before .before .before .before .before .before .play-inputs .kept .1 .1 .1 .0 ∙ c .before .before .before .before .before .before .before .before .before .before .before .before .before .before .before .before .before .before .before .before .before .before .before .put-record .kept .0
+same-length c = c .before .before .before .before .put-notes .kept .0 ∙ c .before .before .before .before .before .before .before .before .before .before .before .before .before .before .play-inputs .kept .1 .1 .1 .0 ∙ c .before .before .before .before .before .before .before .before .before .before .before .before .before .before .before .before .before .before .before .put-record .kept .0
 
 same-length-2 : tie.Need-same-length-2
-same-length-2 c = c .before .before .before .before .before .before .before .before .before .before .before .before .before .before .before .before .before .before .play-inputs .kept .1 .1 .1 .1 .0
+same-length-2 c = c .before .before .before .before .before .before .before .before .before .before .before .before .before .before .play-inputs .kept .1 .1 .1 .1 .0
 
 returns : tie.Need-returns
 returns c =
-    let inputs = c .before .before .before .before .before .before .before .before .before .before .before .before .before .before .before .before .before .before .play-inputs in
-    let lamp = c .before .before .before .before .before .before .before .before .before .before .lamp-of2 .ensures in
-    let moves = rw lamp at (c .before .before .before .before .before .before .before .before .before .due-timers .ensures (inputs .result .state .scenes)) in
-    let fresh = c .before .before .before .before .before .before .before .before .before .before .before .before .before .before .before .before .before .before .before .before .before .before .before .before .before .before .before .fresh-in .ensures in
-    rw (c .before .before .state-of .ensures, c .before .before .before .at-moment .ensures, lamp)
-    (ended _ _ (c .before .before .before .before .before .before .before .before .before .before .before .before .before .before .before .before .before .before .before .before .before .before .before .before .before .before .before .before .before .before .before .pre .0 .ends) _ _ (begun (c .before .before .before .before .before .before .before .before .before .before .before .before .before .before .before .before .before .before .before .before .before .before .before)) _ _ _ _ (inputs .result) (rw fresh at (inputs .ensures .0)) _ moves (c .before .before .before .before .before .before .put-notes .ensures))
+    let inputs = c .before .before .before .before .before .before .before .before .before .before .before .before .before .before .play-inputs in
+    let fresh = c .before .before .before .before .before .before .before .before .before .before .before .before .before .before .before .before .before .before .before .before .before .before .before .fresh-in .ensures in
+    ended _ _ (c .before .before .before .before .before .before .before .before .before .before .before .before .before .before .before .before .before .before .before .before .before .before .before .before .before .before .before .pre .0 .ends) _ _ (begun (c .before .before .before .before .before .before .before .before .before .before .before .before .before .before .before .before .before .before .before)) _ _ _ _ (inputs .result) (rw fresh at (inputs .ensures .0)) _ (c .before .before .before .before .before .before .before .before .move-clock .ensures) (c .before .before .before .before .put-notes .ensures)
 
 pub play-spec : {M : Type 1} → statement M
 play-spec =
@@ -67,13 +63,10 @@ play-spec =
     (λ c κs. search needs)
     (λ c κs. search needs)
     play-inputs-requires
-    (λ c κs. search needs)
-    due-timers-requires
+    move-clock-requires
     put-notes-requires
-    (λ c κs. search needs)
-    (λ c κs. search needs)
     (λ c. search needs)
-    add-t28
+    add-t24
     same-length
     same-length-2
     returns)

@@ -1,13 +1,16 @@
-use Rattle.player.proofs.Turns.{Going, going-first, turn, turn-meant, going-on, going-last}
+use Rattle.player.proofs.Turns.{Going, listed-few, going-first, turn, turn-meant, going-taken, going-stopped, going-last}
 use Rattle.player.specs.Playing.{Ready}
+use Rattle.barriers.proofs.KindRange.{kind-range}
 use Rattle.phases.proofs.Rooms.{sound-room, moved-roomy}
 use Rattle.lamps.specs.Lamps.{stateOf}
+use Rattle.rules.specs.Barriers.{barrier}
 use Rattle.rules.proofs.Laws.Records.{a-move-writes-at-most-two}
 use borrow.Author.Needs.{needs}
 use denote.Ref.{now}
 use native.Mathlib.Omega.{arith}
 use Prim.Native.Nat.{_-_}
-use mathlib.Core.Path.{_∙_}
+use mathlib.Core.Logic.{⊎-elim}
+use mathlib.Core.Path.{sym, _∙_}
 use Rattle.player.proofs.play.play_inputs.Statement.{statement}
 use Rattle.player.proofs.play.play_inputs.Tie as tie
 
@@ -24,76 +27,101 @@ ready-to c = rw (c .lamp-of .ensures) (c .before .before .before .before .before
 loop-holds : tie.Need-loop-holds Inv-loop μ-loop
 loop-holds c = going-first _ _ _ _ _ (ready-to c)
 
-known-input-at-requires : tie.Need-known-input-at-requires Inv-loop μ-loop
--- the file has an input at this index, which is not wrong
-known-input-at-requires c κs =
-    let ready = ready-to (c .before .before .before) in
-    (omega (arith, ready .whole, c .input-place .ensures), rw (c .input-place .ensures) (turn-meant _ _ _ _ _ ready _ _ _ _ _ (c .before .before .loop .inv) (c .before .loop-test .taken)))
-
 stamp-at-requires : tie.Need-stamp-at-requires Inv-loop μ-loop
-stamp-at-requires c κs = omega (arith, c .before .input-place .ensures, ready-to (c .before .before .before .before) .whole)
+stamp-at-requires c κs = omega (arith, c .input-place .ensures, ready-to (c .before .before .before) .whole)
 
 advance-requires : tie.Need-advance-requires Inv-loop μ-loop
--- its stamp is in order, and there is room for the records of the timers
 advance-requires c κs =
-    let ready = ready-to (c .before .before .before .before .before .before) in
-    let a = c .before .before .before .before .before .before .before .before .before .before .before .before in
-    let g = c .before .before .before .before .before .loop .inv in
-    let f = turn _ _ _ _ _ ready _ _ _ _ _ g (c .before .before .before .before .loop-test .taken) in
-    (rw (c .before .stamp-at .ensures, c .before .before .before .input-place .ensures) (sound-room (stateOf (a .args .start .params) (c .before .before .before .before .before .loop .k) (c .before .before .before .before .before .loop .l)) _ (g .safe) (omega (arith, f .timely, ready .timely))), omega (arith, c .before .before .before .before .loop-test .taken, g .few, ready .few), omega (arith, c .before .before .before .before .loop-test .taken, g .few, g .room, a .pre .1))
+    let ready = ready-to (c .before .before .before .before .before) in
+    let a = c .before .before .before .before .before .before .before .before .before .before .before in
+    let g = c .before .before .before .before .loop .inv in
+    let within = c .before .before .before .loop-test .taken in
+    let f = turn _ _ _ _ _ ready _ _ _ _ _ g within in
+    (rw (c .before .stamp-at .ensures, c .before .before .input-place .ensures) (sound-room (stateOf (a .args .start .params) (c .before .before .before .before .loop .k) (c .before .before .before .before .loop .l)) _ (g .safe) (omega (arith, f .timely, ready .timely))), omega (arith, within, g .few, ready .few), omega (arith, within, g .few, g .room, a .pre .1))
 
-act-on-requires : tie.Need-act-on-requires Inv-loop μ-loop
-act-on-requires c κs =
-    let ready = ready-to (c .before .before .before .before .before .before .before .before .before .before) in
-    let a = c .before .before .before .before .before .before .before .before .before .before .before .before .before .before .before .before .args in
-    let k = c .before .before .before .before .before .before .before .before .before .loop .k in
-    let l = c .before .before .before .before .before .before .before .before .before .loop .l in
-    let g = c .before .before .before .before .before .before .before .before .before .loop .inv in
-    let f = turn _ _ _ _ _ ready _ _ _ _ _ g (c .before .before .before .before .before .before .before .before .loop-test .taken) in
-    rw (c .at-moment .ensures, c .before .before .before .advance .ensures k .phase, c .before .before .before .before .before .stamp-at .ensures, c .before .before .before .before .before .before .before .input-place .ensures)
+kind-at-requires : tie.Need-kind-at-requires Inv-loop μ-loop
+kind-at-requires c κs =
+    let ready = ready-to (c .before .before .before .before .before .before .before .before .before) in
+    (omega (arith, ready .whole, c .before .before .before .before .before .before .input-place .ensures), rw (c .before .before .before .before .before .before .input-place .ensures) (turn-meant _ _ _ _ _ ready _ _ _ _ _ (c .before .before .before .before .before .before .before .before .loop .inv) (c .before .before .before .before .before .before .before .loop-test .taken)))
+
+barrier-to-requires : tie.Need-barrier-to-requires Inv-loop μ-loop
+barrier-to-requires c κs =
+    let f = turn _ _ _ _ _ (ready-to (c .before .before .before .before .before .before .before .before .before .before)) _ _ _ _ _ (c .before .before .before .before .before .before .before .before .before .loop .inv) (c .before .before .before .before .before .before .before .before .loop-test .taken) in
+    rw (c .kind-at .ensures (f .input) (rw (c .before .before .before .before .before .before .before .input-place .ensures) (f .meant))) (kind-range (f .input))
+
+known-input-at-requires : tie.Need-known-input-at-requires Inv-loop μ-loop
+known-input-at-requires c κs =
+    let ready = ready-to (c .before .before .before .before .before .before .before .before .before .before .before .before .before) in
+    (omega (arith, ready .whole, c .before .before .before .before .before .before .before .before .before .before .input-place .ensures), rw (c .before .before .before .before .before .before .before .before .before .before .input-place .ensures) (turn-meant _ _ _ _ _ ready _ _ _ _ _ (c .before .before .before .before .before .before .before .before .before .before .before .before .loop .inv) (c .before .before .before .before .before .before .before .before .before .before .before .loop-test .taken)))
+
+take-requires : tie.Need-take-requires Inv-loop μ-loop
+take-requires c κs =
+    let ready = ready-to (c .before .before .before .before .before .before .before .before .before .before .before .before .before .before) in
+    let a = c .before .before .before .before .before .before .before .before .before .before .before .before .before .before .before .before .before .before .before .before .args in
+    let k = c .before .before .before .before .before .before .before .before .before .before .before .before .before .loop .k in
+    let l = c .before .before .before .before .before .before .before .before .before .before .before .before .before .loop .l in
+    let g = c .before .before .before .before .before .before .before .before .before .before .before .before .before .loop .inv in
+    let f = turn _ _ _ _ _ ready _ _ _ _ _ g (c .before .before .before .before .before .before .before .before .before .before .before .before .loop-test .taken) in
+    rw (c .before .before .before .before .before .at-moment .ensures, c .before .before .before .before .before .before .before .before .advance .ensures k .phase, c .before .before .before .before .before .before .before .before .before .before .stamp-at .ensures, c .before .before .before .before .before .before .before .before .before .before .before .input-place .ensures)
     (moved-roomy (stateOf (a .start .params) k l) _ (g .safe) (f .risen) (omega (arith, f .timely, ready .timely)))
 
 put-note-requires : tie.Need-put-note-requires Inv-loop μ-loop
--- there is room for its own record
 put-note-requires c κs =
-    let ready = ready-to (c .before .before .before .before .before .before .before .before .before .before .before .before) in
-    let a = c .before .before .before .before .before .before .before .before .before .before .before .before .before .before .before .before .before .before in
-    let k = c .before .before .before .before .before .before .before .before .before .before .before .loop .k in
-    let l = c .before .before .before .before .before .before .before .before .before .before .before .loop .l in
-    let g = c .before .before .before .before .before .before .before .before .before .before .before .loop .inv in
-    let moves = c .before .before .before .before .before .advance in
-    let few = a-move-writes-at-most-two (stateOf (a .args .start .params) k l) (c .before .before .before .before .before .before .before .stamp-at .result) in
-    (omega (arith, c .before .before .before .before .before .before .before .before .before .before .loop-test .taken, few, moves .ensures k .count, g .few, ready .few), omega (arith, c .before .before .before .before .before .before .before .before .before .before .loop-test .taken, few, moves .ensures k .count, moves .kept .0, g .few, g .room, a .pre .1))
+    let ready = ready-to (c .before .before .before .before .before .before .before .before .before .before .before .before .before .before .before .before) in
+    let a = c .before .before .before .before .before .before .before .before .before .before .before .before .before .before .before .before .before .before .before .before .before .before in
+    let k = c .before .before .before .before .before .before .before .before .before .before .before .before .before .before .before .loop .k in
+    let l = c .before .before .before .before .before .before .before .before .before .before .before .before .before .before .before .loop .l in
+    let g = c .before .before .before .before .before .before .before .before .before .before .before .before .before .before .before .loop .inv in
+    let within = c .before .before .before .before .before .before .before .before .before .before .before .before .before .before .loop-test .taken in
+    let moves = c .before .before .before .before .before .before .before .before .before .before .advance in
+    let few = a-move-writes-at-most-two (stateOf (a .args .start .params) k l) (c .before .before .before .before .before .before .before .before .before .before .before .before .stamp-at .result) in
+    let own = listed-few (c .before .take .result .note) in
+    (omega (arith, within, few, moves .ensures k .count, g .few, ready .few), omega (arith, within, few, own, moves .ensures k .count, moves .kept .0, g .few, g .room, a .pre .1))
 
 cast-answers : tie.Need-cast-answers Inv-loop μ-loop
-cast-answers c = omega (arith, c .before .before .before .before .before .before .before .before .before .before .before .before .before .loop-test .taken, ready-to (c .before .before .before .before .before .before .before .before .before .before .before .before .before .before .before) .few)
+cast-answers c = omega (arith, c .before .before .before .before .before .before .before .before .before .before .before .before .before .before .before .before .before .loop-test .taken, ready-to (c .before .before .before .before .before .before .before .before .before .before .before .before .before .before .before .before .before .before .before) .few)
 
 slice-write-answers : tie.Need-slice-write-answers Inv-loop μ-loop
-slice-write-answers c = omega (arith, c .before .before .before .before .before .before .before .before .before .before .before .before .before .before .loop .inv .places, c .before .before .before .before .before .before .before .before .before .before .before .before .before .before .before .before .before .before .before .before .before .pre .2)
+slice-write-answers c = omega (arith, c .before .before .before .before .before .before .before .before .before .before .before .before .before .before .before .before .before .loop-test .taken, c .before .before .before .before .before .before .before .before .before .before .before .before .before .before .before .before .before .before .loop .inv .places, c .before .before .before .before .before .before .before .before .before .before .before .before .before .before .before .before .before .before .before .before .before .before .before .before .before .pre .2)
+
+cast-answers-2 : tie.Need-cast-answers-2 Inv-loop μ-loop
+cast-answers-2 c = omega (arith, c .before .before .before .before .before .before .before .before .before .before .before .before .before .loop-test .taken, ready-to (c .before .before .before .before .before .before .before .before .before .before .before .before .before .before .before) .few)
+
+slice-write-answers-2 : tie.Need-slice-write-answers-2 Inv-loop μ-loop
+slice-write-answers-2 c = omega (arith, c .before .before .before .before .before .before .before .before .before .before .before .before .before .loop-test .taken, c .before .before .before .before .before .before .before .before .before .before .before .before .before .before .loop .inv .places, c .before .before .before .before .before .before .before .before .before .before .before .before .before .before .before .before .before .before .before .before .before .pre .2)
 
 add-i : tie.Need-add-i Inv-loop μ-loop
-add-i c = omega (arith, c .before .before .before .before .before .before .before .before .before .before .before .before .before .before .before .loop-test .taken, ready-to (c .before .before .before .before .before .before .before .before .before .before .before .before .before .before .before .before .before) .few)
+add-i c = omega (arith, c .before .before .before .before .before .before .before .before .before .before .loop-test .taken, ready-to (c .before .before .before .before .before .before .before .before .before .before .before .before) .few)
 
 loop-less : tie.Need-loop-less Inv-loop μ-loop
-loop-less c = omega (arith, c .before .before .before .before .before .before .before .before .before .before .before .before .before .before .before .loop-test .taken)
+loop-less c = omega (arith, c .before .before .before .before .before .before .before .before .before .before .loop-test .taken)
 
 loop-again : tie.Need-loop-again Inv-loop μ-loop
+unfolding barrier
 loop-again c =
-    let ready = ready-to (c .before .before .before .before .before .before .before .before .before .before .before .before .before .before .before .before .before) in
-    let a = c .before .before .before .before .before .before .before .before .before .before .before .before .before .before .before .before .before .before .before .before .before .before .before in
-    let loop = c .before .before .before .before .before .before .before .before .before .before .before .before .before .before .before .before .loop in
+    let ready = ready-to (c .before .before .before .before .before .before .before .before .before .before .before .before) in
+    let a = c .before .before .before .before .before .before .before .before .before .before .before .before .before .before .before .before .before .before in
+    let loop = c .before .before .before .before .before .before .before .before .before .before .before .loop in
     let g = loop .inv in
-    let place = c .before .before .before .before .before .before .before .before .before .before .before .before .before .before .input-place .ensures in
-    let stamp = rw place at (c .before .before .before .before .before .before .before .before .before .before .before .before .stamp-at .ensures) in
-    let moves = c .before .before .before .before .before .before .before .before .before .before .advance in
-    let put = c .before .before .before .before .put-note in
-    going-on _ _ _ _ _ ready (a .args .start .params) (loop .k) (loop .l) _ _ _ _ g (c .before .before .before .before .before .before .before .before .before .before .before .before .before .before .before .loop-test .taken) (omega (arith, a .pre .1)) (a .pre .2)
-    _ (rw place at (c .before .before .before .before .before .before .before .before .before .before .before .before .before .known-input-at .ensures))
-    _ _ (rw stamp at (moves .ensures)) (omega (arith, c .before .before .before .before .before .before .before .before .before .before .before .before .before .before .before .loop-test .taken, g .few, g .room, a .pre .1))
-    _ (rw stamp at (c .before .before .before .before .before .before .before .at-moment .ensures))
-    _ (c .before .before .before .before .before .before .act-on .ensures)
-    _ (put .ensures .0) _ (put .ensures .1) (put .kept .0 ∙ moves .kept .0)
-    _ (c .before .scenes-left .ensures)
+    let within = c .before .before .before .before .before .before .before .before .before .before .loop-test .taken in
+    let place = c .before .before .before .before .before .before .before .before .before .input-place .ensures in
+    let f = turn _ _ _ _ _ ready _ _ _ _ _ g within in
+    let stamp = rw place at (c .before .before .before .before .before .before .before .before .stamp-at .ensures) in
+    let moves = c .before .before .before .before .before .before .advance in
+    let moved = c .before .before .before .at-moment in
+    let barrier = c .before .barrier-to .ensures in
+    let kind = c .before .before .kind-at .ensures in
+    ⊎-elim
+    (λ w.
+    let means = w .2 .ensures in
+    let free = rw (kind _ means) at (sym barrier ∙ w .1 .given .1) in
+    rw (w .10, w .11, w .12, w .13, w .14)
+    (going-taken _ _ _ _ _ ready (a .args .start .params) (loop .k) (loop .l) _ _ _ _ g within (omega (arith, a .pre .1)) (a .pre .2) _ (rw place at means) _ _ (rw stamp at (moves .ensures)) (omega (arith, within, g .few, g .room, a .pre .1)) _ (rw stamp at (moved .ensures)) free _ (w .3 .ensures) _ (w .5 .ensures .0) _ (w .5 .ensures .1) (w .5 .kept .0 ∙ moves .kept .0) _ (w .8 .ensures)))
+    (λ w.
+    let bars = rw (kind (f .input) (rw place (f .meant))) at (sym barrier ∙ w .1 .given .1) in
+    rw (w .4, w .5, w .6, w .7, w .8, w .3 .ensures)
+    (going-stopped _ _ _ _ _ ready (a .args .start .params) (loop .k) (loop .l) _ _ _ _ g within (omega (arith, a .pre .1)) (a .pre .2) (f .input) (f .meant) _ _ (rw stamp at (moves .ensures)) (omega (arith, within, g .few, g .room, a .pre .1)) (moves .kept .0) _ (rw stamp at (moved .ensures)) (w .1 .given .0 .0) bars))
+    (c .match .came)
 
 same-length : tie.Need-same-length Inv-loop μ-loop
 same-length c = c .before .before .loop .inv .room
@@ -116,15 +144,22 @@ play-inputs-spec =
     (λ c κs. search needs)
     loop-holds
     (λ c κs. search needs)
-    known-input-at-requires
     stamp-at-requires
     advance-requires
     (λ c κs. search needs)
-    act-on-requires
+    kind-at-requires
+    barrier-to-requires
+    (λ c. search needs)
+    known-input-at-requires
+    take-requires
     put-note-requires
     cast-answers
     slice-write-answers
     (λ c κs. search needs)
+    (λ c. search needs)
+    (λ c κs. search needs)
+    cast-answers-2
+    slice-write-answers-2
     add-i
     loop-less
     loop-again

@@ -11,7 +11,7 @@ unfolding ticked clocked
 returns c =
     let a = c .before .before .before .before .before .before .before .args in
     let l = c .before .before .before .before .lamp-of .ensures in
-    let m = rw l at (c .before .before .before .due-timers .ensures (a .s .scenes)) in
+    let m = rw l at (c .before .before .before .run-timers .ensures (a .s .scenes)) in
     simp (c .state-of .ensures, c .before .at-moment .ensures, m, l) (rw (moved-lamp (a .s .params) (a .s .scenes) (lampOf (a .s)) (a .t)) refl)
 
 pub move-clock-spec : {M : Type 1} → statement M

@@ -1,38 +1,49 @@
-use Rattle.records.proofs.Written.{none-fits, one-fits, two-fit}
-use Rattle.timers.proofs.Moves.{three-timers}
 use borrow.Author.Needs.{needs}
+use Rattle.rules.proofs.Laws.Steps.{rank}
+use Rattle.timers.proofs.Moves.{Noted, noted-first, noted-few, noted-on, noted-last, due-has-room, due-lowers-the-rank}
+use mathlib.Core.Path.{sym, _∙_}
 use Rattle.timers.proofs.clock.run_timers.Statement.{statement}
 use Rattle.timers.proofs.clock.run_timers.Tie as tie
 
-add-requires : tie.Need-add-requires
-add-requires c κs = rw (c .before .none .ensures) none-fits
+abbrev Inv-loop : tie.InvT-loop
+Inv-loop p l t ph₀ written₀ ph written = Noted p l t ph written
 
-add-requires-2 : tie.Need-add-requires-2
-add-requires-2 c κs = rw (c .before .add .ensures, c .before .before .written .ensures, c .before .before .before .none .ensures) (one-fits _ _)
+abbrev μ-loop : tie.MeasureT-loop
+μ-loop p l t ph₀ written₀ ph written = rank ph
 
-add-requires-3 : tie.Need-add-requires-3
-add-requires-3 c κs =
-    rw (c .before .add2 .ensures, c .before .before .written2 .ensures, c .before .before .before .add .ensures, c .before .before .before .before .written .ensures, c .before .before .before .before .before .none .ensures)
-    (two-fit _ _ _)
+loop-holds : tie.Need-loop-holds Inv-loop μ-loop
+loop-holds c = rw (c .none .ensures) (noted-first _ _ _)
 
-returns : tie.Need-returns
-returns c = λ k.
-    let a = c .before .before .before .before .before .before .before .before .before .before .args in
-    let timers = three-timers (a .p) k (a .l) (a .t) _ _ _ (c .before .before .before .before .before .before .before .before .before .tick-once .ensures k) (c .before .before .before .before .before .before .before .before .tick-once2 .ensures k) (c .before .before .before .before .before .before .before .tick-once3 .ensures k) in
-    simp (c .add3 .ensures, c .before .written3 .ensures, c .before .before .add2 .ensures, c .before .before .before .written2 .ensures, c .before .before .before .before .add .ensures, c .before .before .before .before .before .written .ensures, c .before .before .before .before .before .before .none .ensures) timers
+run-timer-requires : tie.Need-run-timer-requires Inv-loop μ-loop
+run-timer-requires c κs =
+    let a = c .before .before .before .before in
+    due-has-room (a .args .p) (c .before .before .loop .ph) (a .args .t) (sym (c .before .is-due .ensures) ∙ c .if1 .taken) (a .pre)
+
+add-requires : tie.Need-add-requires Inv-loop μ-loop
+add-requires c κs = noted-few _ _ _ _ _ (c .before .before .before .loop .inv)
+
+loop-less : tie.Need-loop-less Inv-loop μ-loop
+loop-less c =
+    let a = c .before .before .before .before .before .before .args in
+    rw (c .before .run-timer .ensures) (due-lowers-the-rank (a .p) (a .l) (c .before .before .before .before .loop .ph) (a .t) (sym (c .before .before .before .is-due .ensures) ∙ c .before .before .if1 .taken))
+
+loop-again : tie.Need-loop-again Inv-loop μ-loop
+loop-again c = rw (c .add .ensures, c .before .run-timer .ensures) (noted-on _ _ _ _ _ (c .before .before .before .before .loop .inv) (sym (c .before .before .before .is-due .ensures) ∙ c .before .before .if1 .taken))
+
+returns : tie.Need-returns Inv-loop μ-loop
+returns c = λ k. noted-last _ _ _ _ _ (c .before .before .loop .inv) (sym (c .before .is-due .ensures) ∙ c .if1 .left) k
 
 pub run-timers-spec : {M : Type 1} → statement M
 run-timers-spec =
     tie.close
     (tie.spec
+    Inv-loop
+    μ-loop
     (λ c κs. search needs)
+    loop-holds
     (λ c κs. search needs)
-    (λ c κs. search needs)
-    (λ c κs. search needs)
-    (λ c κs. search needs)
+    run-timer-requires
     add-requires
-    (λ c κs. search needs)
-    add-requires-2
-    (λ c κs. search needs)
-    add-requires-3
+    loop-less
+    loop-again
     returns)

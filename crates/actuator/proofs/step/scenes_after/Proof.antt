@@ -1,0 +1,11 @@
+use Rattle.orders.proofs.Lessons.{only-a-lesson-teaches}
+use mathlib.Core.Path.{sym, _∙_}
+use borrow.Author.Needs.{needs}
+use Rattle.actuator.proofs.step.scenes_after.Statement.{statement}
+use Rattle.actuator.proofs.step.scenes_after.Tie as tie
+
+returns-2 : tie.Need-returns-2
+returns-2 c = sym (only-a-lesson-teaches _ _ (sym (c .before .is-lesson .ensures) ∙ c .if1 .left))
+
+pub scenes-after-spec : {M : Type 1} → statement M
+scenes-after-spec = tie.close (tie.spec (λ c κs. search needs) (λ c κs. search needs) (λ c. search needs) returns-2)
