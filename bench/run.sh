@@ -1,5 +1,5 @@
 #!/usr/bin/env bash
-# Instructions and time of the proved run against the second model in Rust, for 0, 256, 1,024 and 2,048 inputs.
+# Instructions and time of the proved run against the second model in Rust, over five kinds of show (shows.rs).
 # Needs valgrind and rustc. Both sides are compiled for this machine's own processor: the proved run from the very code that
 # `rt staticlib house` compiles, at -O3.
 set -eu
@@ -27,31 +27,46 @@ native_object() {
         -Wno-override-module 2>/dev/null
 }
 
-# counted WHICH N CALLS: the instructions of the whole program.
+# counted SHOW N WHICH CALLS: the instructions of the whole program.
 counted() {
-    valgrind --tool=callgrind --callgrind-out-file=/dev/null "$out/bench" count "$1" "$2" "$3" 2>&1 |
+    valgrind --tool=callgrind --callgrind-out-file=/dev/null "$out/bench" count "$@" 2>&1 |
         sed -n 's/.*Collected : *\([0-9]*\).*/\1/p'
 }
 
-# instructions WHICH N: those of one call, a tenth of what ten calls more cost.
+# instructions SHOW N WHICH: those of one call, a tenth of what ten calls more cost.
 instructions() {
-    echo $((($(counted "$1" "$2" 11) - $(counted "$1" "$2" 1)) / 10))
+    echo $((($(counted "$@" 11) - $(counted "$@" 1)) / 10))
+}
+
+# per_input A N: of a call, or of one of its inputs.
+per_input() {
+    awk "BEGIN { printf \"%.1f\", $1 / ($2 ? $2 : 1) }"
+}
+
+ratio() {
+    awk "BEGIN { printf \"%.2f\", $1 / $2 }"
 }
 
 rt check house >"$out/check" 2>&1
 native_object
 rustc --edition 2021 -C opt-level=3 -C codegen-units=1 bench/bench.rs -o "$out/bench" -C link-arg="$out/house.o"
+"$out/bench" shows >"$out/shows"
 
-echo "| inputs | instructions, proved | instructions, Rust | ratio |"
-echo "|---|---|---|---|"
-for n in 0 256 1024 2048; do
-    a=$(instructions house_run "$n")
-    b=$(instructions model_run "$n")
-    echo "| $n | $a | $b | $(awk "BEGIN { printf \"%.2f\", $a / $b }") |"
-done
+echo "| show | inputs | change | change nothing | stopped | records | of timers |"
+echo "|---|---|---|---|---|---|---|"
+while read -r show lengths; do
+    n=${lengths##* }
+    echo "| $show | $n | $("$out/bench" mix "$show" "$n" | sed 's/ / | /g') |"
+done <"$out/shows"
 echo
-echo "| inputs | ns, proved | ns, Rust | ratio |"
-echo "|---|---|---|---|"
-"$out/bench" time | while read -r n a b; do
-    echo "| $n | $a | $b | $(awk "BEGIN { printf \"%.2f\", $a / $b }") |"
-done
+echo "| show | inputs | instructions an input, proved | Rust | ratio | ns an input, proved | Rust | ratio |"
+echo "|---|---|---|---|---|---|---|---|"
+while read -r show lengths; do
+    for n in $lengths; do
+        a=$(instructions "$show" "$n" house_run)
+        b=$(instructions "$show" "$n" model_run)
+        read -r x y < <("$out/bench" time "$show" "$n")
+        echo "| $show | $n | $(per_input "$a" "$n") | $(per_input "$b" "$n") | $(ratio "$a" "$b")" \
+            "| $(per_input "$x" "$n") | $(per_input "$y" "$n") | $(ratio "$x" "$y") |"
+    done
+done <"$out/shows"

@@ -122,14 +122,15 @@ fn play_inputs(file: &[u8], n: u32, start: State, records: &mut [u8], answers: &
                 k = table;
                 let next = d.lamp;
                 l = next;
+                i += 1;
             }
             Barrier::Stopped(why) => {
                 count = m.count;
                 answers[i as usize] = stopped_number(why);
                 l = moved;
+                i += 1;
             }
         }
-        i += 1;
     }
     Ended {
         state: state_of(p, k, l),

@@ -9,7 +9,6 @@ use borrow.Author.Needs.{needs}
 use denote.Ref.{now}
 use native.Mathlib.Omega.{arith}
 use Prim.Native.Nat.{_-_}
-use mathlib.Core.Logic.{⊎-elim}
 use mathlib.Core.Path.{sym, _∙_}
 use Rattle.player.proofs.play.play_inputs.Statement.{statement}
 use Rattle.player.proofs.play.play_inputs.Tie as tie
@@ -91,37 +90,50 @@ slice-write-answers-2 : tie.Need-slice-write-answers-2 Inv-loop μ-loop
 slice-write-answers-2 c = omega (arith, c .before .before .before .before .before .before .before .before .before .before .before .before .before .loop-test .taken, c .before .before .before .before .before .before .before .before .before .before .before .before .before .before .loop .inv .places, c .before .before .before .before .before .before .before .before .before .before .before .before .before .before .before .before .before .before .before .before .before .pre .2)
 
 add-i : tie.Need-add-i Inv-loop μ-loop
-add-i c = omega (arith, c .before .before .before .before .before .before .before .before .before .before .loop-test .taken, ready-to (c .before .before .before .before .before .before .before .before .before .before .before .before) .few)
+add-i c = omega (arith, c .before .before .before .before .before .before .before .before .before .before .before .before .before .before .before .before .before .before .before .loop-test .taken, ready-to (c .before .before .before .before .before .before .before .before .before .before .before .before .before .before .before .before .before .before .before .before .before) .few)
 
 loop-less : tie.Need-loop-less Inv-loop μ-loop
-loop-less c = omega (arith, c .before .before .before .before .before .before .before .before .before .before .loop-test .taken)
+loop-less c = omega (arith, c .before .before .before .before .before .before .before .before .before .before .before .before .before .before .before .before .before .before .before .loop-test .taken)
 
 loop-again : tie.Need-loop-again Inv-loop μ-loop
 unfolding barrier
 loop-again c =
-    let ready = ready-to (c .before .before .before .before .before .before .before .before .before .before .before .before) in
-    let a = c .before .before .before .before .before .before .before .before .before .before .before .before .before .before .before .before .before .before in
-    let loop = c .before .before .before .before .before .before .before .before .before .before .before .loop in
+    let ready = ready-to (c .before .before .before .before .before .before .before .before .before .before .before .before .before .before .before .before .before .before .before .before .before) in
+    let a = c .before .before .before .before .before .before .before .before .before .before .before .before .before .before .before .before .before .before .before .before .before .before .before .before .before .before .before in
+    let loop = c .before .before .before .before .before .before .before .before .before .before .before .before .before .before .before .before .before .before .before .before .loop in
     let g = loop .inv in
-    let within = c .before .before .before .before .before .before .before .before .before .before .loop-test .taken in
-    let place = c .before .before .before .before .before .before .before .before .before .input-place .ensures in
+    let within = c .before .before .before .before .before .before .before .before .before .before .before .before .before .before .before .before .before .before .before .loop-test .taken in
+    let place = c .before .before .before .before .before .before .before .before .before .before .before .before .before .before .before .before .before .before .input-place .ensures in
+    let stamp = rw place at (c .before .before .before .before .before .before .before .before .before .before .before .before .before .before .before .before .before .stamp-at .ensures) in
+    let moves = c .before .before .before .before .before .before .before .before .before .before .before .before .before .before .before .advance in
+    let moved = c .before .before .before .before .before .before .before .before .before .before .before .before .at-moment in
+    let put = c .before .before .before .before .put-note in
+    let means = c .before .before .before .before .before .before .before .known-input-at .ensures in
+    let free = rw (c .before .before .before .before .before .before .before .before .before .before .before .kind-at .ensures _ means) at (sym (c .before .before .before .before .before .before .before .before .before .before .barrier-to .ensures) ∙ c .before .before .before .before .before .before .before .before .enum-told .given .1) in
+    going-taken _ _ _ _ _ ready (a .args .start .params) (loop .k) (loop .l) _ _ _ _ g within (omega (arith, a .pre .1)) (a .pre .2) _ (rw place at means) _ _ (rw stamp at (moves .ensures)) (omega (arith, within, g .few, g .room, a .pre .1)) _ (rw stamp at (moved .ensures)) free _ (c .before .before .before .before .before .before .take .ensures) _ (put .ensures .0) _ (put .ensures .1) (put .kept .0 ∙ moves .kept .0) _ (c .before .scenes-after .ensures)
+
+add-i-2 : tie.Need-add-i-2 Inv-loop μ-loop
+add-i-2 c = omega (arith, c .before .before .before .before .before .before .before .before .before .before .before .before .before .loop-test .taken, ready-to (c .before .before .before .before .before .before .before .before .before .before .before .before .before .before .before) .few)
+
+loop-less-2 : tie.Need-loop-less-2 Inv-loop μ-loop
+loop-less-2 c = omega (arith, c .before .before .before .before .before .before .before .before .before .before .before .before .before .loop-test .taken)
+
+loop-again-2 : tie.Need-loop-again-2 Inv-loop μ-loop
+unfolding barrier
+loop-again-2 c =
+    let ready = ready-to (c .before .before .before .before .before .before .before .before .before .before .before .before .before .before .before) in
+    let a = c .before .before .before .before .before .before .before .before .before .before .before .before .before .before .before .before .before .before .before .before .before in
+    let loop = c .before .before .before .before .before .before .before .before .before .before .before .before .before .before .loop in
+    let g = loop .inv in
+    let within = c .before .before .before .before .before .before .before .before .before .before .before .before .before .loop-test .taken in
+    let place = c .before .before .before .before .before .before .before .before .before .before .before .before .input-place .ensures in
+    let stamp = rw place at (c .before .before .before .before .before .before .before .before .before .before .before .stamp-at .ensures) in
+    let moves = c .before .before .before .before .before .before .before .before .before .advance in
+    let moved = c .before .before .before .before .before .before .at-moment in
     let f = turn _ _ _ _ _ ready _ _ _ _ _ g within in
-    let stamp = rw place at (c .before .before .before .before .before .before .before .before .stamp-at .ensures) in
-    let moves = c .before .before .before .before .before .before .advance in
-    let moved = c .before .before .before .at-moment in
-    let barrier = c .before .barrier-to .ensures in
-    let kind = c .before .before .kind-at .ensures in
-    ⊎-elim
-    (λ w.
-    let means = w .2 .ensures in
-    let free = rw (kind _ means) at (sym barrier ∙ w .1 .given .1) in
-    rw (w .10, w .11, w .12, w .13, w .14)
-    (going-taken _ _ _ _ _ ready (a .args .start .params) (loop .k) (loop .l) _ _ _ _ g within (omega (arith, a .pre .1)) (a .pre .2) _ (rw place at means) _ _ (rw stamp at (moves .ensures)) (omega (arith, within, g .few, g .room, a .pre .1)) _ (rw stamp at (moved .ensures)) free _ (w .3 .ensures) _ (w .5 .ensures .0) _ (w .5 .ensures .1) (w .5 .kept .0 ∙ moves .kept .0) _ (w .8 .ensures)))
-    (λ w.
-    let bars = rw (kind (f .input) (rw place (f .meant))) at (sym barrier ∙ w .1 .given .1) in
-    rw (w .4, w .5, w .6, w .7, w .8, w .3 .ensures)
-    (going-stopped _ _ _ _ _ ready (a .args .start .params) (loop .k) (loop .l) _ _ _ _ g within (omega (arith, a .pre .1)) (a .pre .2) (f .input) (f .meant) _ _ (rw stamp at (moves .ensures)) (omega (arith, within, g .few, g .room, a .pre .1)) (moves .kept .0) _ (rw stamp at (moved .ensures)) (w .1 .given .0 .0) bars))
-    (c .match .came)
+    let bars = rw (c .before .before .before .before .before .kind-at .ensures (f .input) (rw place (f .meant))) at (sym (c .before .before .before .before .barrier-to .ensures) ∙ c .before .before .b .given .1) in
+    rw (c .stopped-number .ensures)
+    (going-stopped _ _ _ _ _ ready (a .args .start .params) (loop .k) (loop .l) _ _ _ _ g within (omega (arith, a .pre .1)) (a .pre .2) (f .input) (f .meant) _ _ (rw stamp at (moves .ensures)) (omega (arith, within, g .few, g .room, a .pre .1)) (moves .kept .0) _ (rw stamp at (moved .ensures)) (c .before .before .b .given .0 .0) bars)
 
 same-length : tie.Need-same-length Inv-loop μ-loop
 same-length c = c .before .before .loop .inv .room
@@ -156,13 +168,16 @@ play-inputs-spec =
     cast-answers
     slice-write-answers
     (λ c κs. search needs)
+    add-i
+    loop-less
+    loop-again
     (λ c. search needs)
     (λ c κs. search needs)
     cast-answers-2
     slice-write-answers-2
-    add-i
-    loop-less
-    loop-again
+    add-i-2
+    loop-less-2
+    loop-again-2
     (λ c κs. search needs)
     same-length
     same-length-2
