@@ -2,23 +2,24 @@
 use Prim.Native.Nat.{ℕ, _+_, _≤_}
 use mathlib.Core.Bool.{true, false}
 use mathlib.Core.List.{List, [], _++_}
-use mathlib.Core.Path.{_≡_, refl, sym, _∙_}
+use mathlib.Core.Path.{_≡_, refl, ap, _∙_}
 use lib.ListN.{length, length-append}
 use native.Mathlib.Omega.{arith}
 use Rattle.rules.specs.declared.parameters.Params.{Params}
 use Rattle.rules.specs.declared.parameters.Scene.{Scene}
 use Rattle.rules.specs.declared.phase.Phase.{Phase}
+use Rattle.rules.specs.declared.state.State.{State}
 use Rattle.rules.specs.declared.record.Record.{Record}
 use Rattle.rules.specs.Phases.{deadline}
 use Rattle.rules.specs.Layout.{recordPlace}
-use Rattle.rules.specs.Steps.{clockMove}
+use Rattle.rules.specs.Steps.{atMoment, clockMove}
 use Rattle.rules.specs.Runs.{recordsOctets}
 use Rattle.lamps.specs.declared.lamp.Lamp.{Lamp}
-use Rattle.lamps.specs.Lamps.{stateOf}
+use Rattle.lamps.specs.Lamps.{lampOf, stateOf, alone}
 use Rattle.octets.specs.Splice.{splice}
 use Rattle.records.specs.Notes.{listed}
 use Rattle.timers.specs.Ticks.{timerOf, dueBy}
-use Rattle.timers.proofs.Moves.{Running, running-first, running-on, running-last, running-few}
+use Rattle.timers.proofs.Moves.{moved-lamp, Running, running-first, running-on, running-last, running-few}
 use Rattle.buffers.proofs.Splices.{records-none, records-more}
 use Rattle.player.specs.Playing.{MovedBy}
 
@@ -52,7 +53,7 @@ module _ (p : Params) (l : Lamp) (t before : ℕ) (r₀ : List ℕ) where
           room = long ∙ i .room;
         }
 
-    pub into-last : dueBy (deadline now) t ≡ false → (k : List Scene) → MovedBy (clockMove (stateOf p k l) t) before r₀ (record { phase = now; count = n }) r₁
+    pub into-last : dueBy (deadline now) t ≡ false → (k : List Scene) → MovedBy (clockMove (stateOf p k l) t) before r₀ (record { lamp = lampOf (atMoment (alone l) t now); count = n }) r₁
     into-last e k =
         let whole = running-last p l t now (i .wrote) (i .running) e k in
-        record { phase = sym (whole .0); count = rw (whole .1) (i .count); records = rw (whole .1) (i .records) }
+        record { lamp = rw (← whole .0) (ap (λ (u : State). lampOf u) (moved-lamp p k l t)); count = rw (whole .1) (i .count); records = rw (whole .1) (i .records) }

@@ -16,17 +16,17 @@ use Rattle.rules.specs.declared.barrier.Barrier.the-variants.{Open, Stopped}
 use Rattle.rules.specs.Orders.{order}
 use Rattle.rules.specs.Answers.{stoppedNumber}
 use Rattle.rules.specs.Barriers.{barrier}
-use Rattle.rules.specs.Steps.{Stepped, atMoment, clockMove, act, step}
+use Rattle.rules.specs.Steps.{Stepped, clockMove, act, step}
 use Rattle.rules.proofs.Laws.Lists.{still, andThen-assoc}
 use Rattle.inputs.specs.Meaning.{isMeant}
 use Rattle.lamps.specs.declared.lamp.Lamp.{Lamp}
-use Rattle.lamps.specs.Lamps.{lampOf, stateOf, alone}
+use Rattle.lamps.specs.Lamps.{stateOf}
 use Rattle.actuator.specs.declared.step.Done.{Done}
 use Rattle.records.specs.declared.notes.Note.{Note}
 use Rattle.records.specs.declared.notes.Note.the-variants.{Silent, Wrote}
 use Rattle.records.specs.Notes.{firstOf, listed}
 use Rattle.actuator.specs.Acts.{done, doneBy, stoppedBy}
-use Rattle.timers.proofs.Moves.{moved-lamp}
+use Rattle.timers.proofs.Moves.{joined}
 use Rattle.actuator.proofs.Taken.{open-is-taken, open-teaches, barred-is-stopped, barred-keeps, acting-keeps, later, step-splits, later-joined}
 use Rattle.player.specs.declared.play.Moment.{Moment}
 use Rattle.player.specs.Playing.{found, listIn, Ready, Filled, Advanced}
@@ -40,7 +40,7 @@ use Rattle.rules.specs.Files.{cues, endTime, readInputs}
 use Rattle.rules.specs.Runs.{recordsOctets}
 use Rattle.rules.proofs.Refusals.Readings.{First, first-read}
 use Rattle.rules.proofs.Laws.Inputs.{input-number}
-use Rattle.rules.proofs.Laws.Soundness.{step-is-sound, step-clock}
+use Rattle.rules.proofs.Laws.Soundness.{move-keeps, step-is-sound, step-clock}
 use Rattle.rules.proofs.Laws.Records.{an-input-writes-at-most-three}
 use Rattle.octets.specs.Splice.{splice}
 use Rattle.octets.proofs.Splices.{splice-none, octet-more}
@@ -67,18 +67,19 @@ listed-few Silent = omega arith
 listed-few (Wrote r) = omega arith
 
 -- what the code has after the clock move and after the input, part by part, is what the step of the rules gives
-module _ (p : Params) (k : List Scene) (l : Lamp) (x : Input) (t before : ℕ) (r r₁ : List ℕ) (m : Moment) (moves : Advanced p l t before r m r₁)
-    (moved : Lamp) (there : moved ≡ lampOf (atMoment (alone l) t (m .phase))) where
+module _ (p : Params) (k : List Scene) (l : Lamp) (x : Input) (t before : ℕ) (r r₁ : List ℕ) (m : Moment) (moves : Advanced p l t before r m r₁) where
   abbrev met : State
   met = stateOf p k l
 
   abbrev gives : Stepped
   gives = step met x t
 
-  at-the-move : stateOf p k moved ≡ clockMove met t .state
-  at-the-move = rw (there, moves k .phase) (moved-lamp p k l t)
+  at-the-move : stateOf p k (m .lamp) ≡ clockMove met t .state
+  at-the-move =
+      let kept = move-keeps met t in
+      rw (moves k .lamp) (joined (clockMove met t .state) p k (ap (λ (u : State). u .params) kept) (ap (λ (u : State). u .scenes) kept))
 
-  module _ (d : Done) (acts : d ≡ done (act (still (stateOf p k moved)) x)) where
+  module _ (d : Done) (acts : d ≡ done (act (still (stateOf p k (m .lamp))) x)) where
     acts-there : d ≡ done (later met x t)
     acts-there = rw at-the-move at acts
 
@@ -90,7 +91,7 @@ module _ (p : Params) (k : List Scene) (l : Lamp) (x : Input) (t before : ℕ) (
     unfolding done
     answers-there = rw acts-there (sym (step-splits met x t .1))
 
-    pub state-there : (table : List Scene) → table ≡ act (still (stateOf p k moved)) x .state .scenes → stateOf p table (d .lamp) ≡ gives .state
+    pub state-there : (table : List Scene) → table ≡ act (still (stateOf p k (m .lamp))) x .state .scenes → stateOf p table (d .lamp) ≡ gives .state
     unfolding done
     state-there table teaches = rw (rw at-the-move at teaches, acts-there) (later-joined met x t ∙ sym (step-splits met x t .0))
 
@@ -195,39 +196,36 @@ module _ (file : List ℕ) (n : ℕ) (start : State) (r₀ a₀ : List ℕ) (rea
     (g : Going file n start r₀ a₀ r a (stateOf p table l) k i) where
   going-on : i < n → 8 ≤ length r₀ → n ≤ length a₀ → (x : Input) → inputAt file (inputPlace i) ≡ Meant x
       → (m : Moment) (r₁ : List ℕ) → Advanced p l (stampAt file (inputPlace i)) k r m r₁ → 8 * k ≤ length r
-      → (moved : Lamp) → moved ≡ lampOf (atMoment (alone l) (stampAt file (inputPlace i)) (m .phase))
-      → (d : Done) → d ≡ done (act (still (stateOf p table moved)) x)
+      → (d : Done) → d ≡ done (act (still (stateOf p table (m .lamp))) x)
       → (count : ℕ) → count ≡ m .count + length (listed (d .note))
       → (r₂ : List ℕ) → r₂ ≡ splice r₁ (8 * m .count) (recordsOctets (listed (d .note))) → length r₂ ≡ length r
-      → (left : List Scene) → left ≡ act (still (stateOf p table moved)) x .state .scenes
+      → (left : List Scene) → left ≡ act (still (stateOf p table (m .lamp))) x .state .scenes
       → Going file n start r₀ a₀ r₂ (set a i (d .answer)) (stateOf p left (d .lamp)) count (i + 1)
-  going-on h some enough x means m r₁ moves room moved there d acts count counts r₂ writes long left teaches =
+  going-on h some enough x means m r₁ moves room d acts count counts r₂ writes long left teaches =
       let f = turn file n start r₀ a₀ ready r a (stateOf p table l) k i g h in
       let t : ℕ = stampAt file (inputPlace i) in
       let same : x ≡ f .input = same-input (f .input) x (inputAt file (inputPlace i)) (f .meant) means in
       let step-on = going-step file n start r₀ a₀ ready r a (stateOf p table l) k i g h some enough r₂ in
-      rw (state-there p table l x t k r r₁ m moves moved there d acts left teaches, answers-there p table l x t k r r₁ m moves moved there d acts, count-there p table l x t k r r₁ m moves moved there d acts count counts, same)
-      (step-on (rw same at (records-there p table l x t k r r₁ m moves moved there d acts (omega (arith, room)) r₂ writes)) long)
+      rw (state-there p table l x t k r r₁ m moves d acts left teaches, answers-there p table l x t k r r₁ m moves d acts, count-there p table l x t k r r₁ m moves d acts count counts, same)
+      (step-on (rw same at (records-there p table l x t k r r₁ m moves d acts (omega (arith, room)) r₂ writes)) long)
 
   -- an input that is taken, and one that is stopped
   pub going-taken : i < n → 8 ≤ length r₀ → n ≤ length a₀ → (x : Input) → inputAt file (inputPlace i) ≡ Meant x
       → (m : Moment) (r₁ : List ℕ) → Advanced p l (stampAt file (inputPlace i)) k r m r₁ → 8 * k ≤ length r
-      → (moved : Lamp) → moved ≡ lampOf (atMoment (alone l) (stampAt file (inputPlace i)) (m .phase))
-      → barrier (stateOf p table moved) x ≡ Open
-      → (d : Done) → d ≡ doneBy (stateOf p table moved) x (order (stateOf p table moved) x)
+      → barrier (stateOf p table (m .lamp)) x ≡ Open
+      → (d : Done) → d ≡ doneBy (stateOf p table (m .lamp)) x (order (stateOf p table (m .lamp)) x)
       → (count : ℕ) → count ≡ m .count + length (listed (d .note))
       → (r₂ : List ℕ) → r₂ ≡ splice r₁ (8 * m .count) (recordsOctets (listed (d .note))) → length r₂ ≡ length r
-      → (left : List Scene) → left ≡ order (stateOf p table moved) x .scenes
+      → (left : List Scene) → left ≡ order (stateOf p table (m .lamp)) x .scenes
       → Going file n start r₀ a₀ r₂ (set a i (d .answer)) (stateOf p left (d .lamp)) count (i + 1)
-  going-taken h some enough x means m r₁ moves room moved there free d takes count counts r₂ writes long left teaches =
-      going-on h some enough x means m r₁ moves room moved there d (takes ∙ open-is-taken (stateOf p table moved) x free) count counts r₂ writes long left (teaches ∙ open-teaches (stateOf p table moved) x free)
+  going-taken h some enough x means m r₁ moves room free d takes count counts r₂ writes long left teaches =
+      going-on h some enough x means m r₁ moves room d (takes ∙ open-is-taken (stateOf p table (m .lamp)) x free) count counts r₂ writes long left (teaches ∙ open-teaches (stateOf p table (m .lamp)) x free)
 
   pub going-stopped : i < n → 8 ≤ length r₀ → n ≤ length a₀ → (x : Input) → inputAt file (inputPlace i) ≡ Meant x
       → (m : Moment) (r₁ : List ℕ) → Advanced p l (stampAt file (inputPlace i)) k r m r₁ → 8 * k ≤ length r → length r₁ ≡ length r
-      → (moved : Lamp) → moved ≡ lampOf (atMoment (alone l) (stampAt file (inputPlace i)) (m .phase))
-      → (why : Why) → barrier (stateOf p table moved) x ≡ Stopped why
-      → Going file n start r₀ a₀ r₁ (set a i (stoppedNumber why)) (stateOf p table moved) (m .count) (i + 1)
+      → (why : Why) → barrier (stateOf p table (m .lamp)) x ≡ Stopped why
+      → Going file n start r₀ a₀ r₁ (set a i (stoppedNumber why)) (stateOf p table (m .lamp)) (m .count) (i + 1)
   unfolding stoppedBy
-  going-stopped h some enough x means m r₁ moves room long moved there why bars =
-      let met : State = stateOf p table moved in
-      going-on h some enough x means m r₁ moves room moved there (stoppedBy met why) (barred-is-stopped met x why bars) (m .count) (omega arith) r₁ (records-none r₁ (8 * m .count)) long table (barred-keeps met x why bars)
+  going-stopped h some enough x means m r₁ moves room long why bars =
+      let met : State = stateOf p table (m .lamp) in
+      going-on h some enough x means m r₁ moves room (stoppedBy met why) (barred-is-stopped met x why bars) (m .count) (omega arith) r₁ (records-none r₁ (8 * m .count)) long table (barred-keeps met x why bars)

@@ -16,7 +16,7 @@ use Rattle.rules.specs.Lists.{Cue, Played}
 use Rattle.rules.specs.Files.{Reading, cues, bad, inputCount, endTime, parametersIn, readInputs, readFile}
 use Rattle.rules.specs.Runs.{recordsOctets}
 use Rattle.lamps.specs.declared.lamp.Lamp.{Lamp}
-use Rattle.lamps.specs.Lamps.{stateOf}
+use Rattle.lamps.specs.Lamps.{lampOf, stateOf}
 use Rattle.octets.specs.Splice.{splice}
 use Rattle.player.specs.declared.play.Ended.{Ended}
 use Rattle.player.specs.declared.play.Moment.{Moment}
@@ -54,9 +54,9 @@ pub record Filled (from : ℕ) (p : Played) (records₀ answers₀ : List ℕ) (
   pub records : records₁ ≡ splice records₀ (recordPlace from) (recordsOctets (p .records))
   pub answers : answers₁ ≡ splice answers₀ 0 (p .answers)
 
--- a clock move, where so many records stand before it: the phase that it leaves, and the records of its timers after those
+-- a clock move, where so many records stand before it: the lamp that it leaves, and the records of its timers after those
 pub record MovedBy (m : Moved) (before : ℕ) (records₀ : List ℕ) (r : Moment) (records₁ : List ℕ) : Type 0 where
-  pub phase : r .phase ≡ m .state .phase
+  pub lamp : r .lamp ≡ lampOf (m .state)
   pub count : r .count ≡ before + length (m .records)
   pub records : records₁ ≡ splice records₀ (recordPlace before) (recordsOctets (m .records))
 

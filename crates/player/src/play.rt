@@ -43,9 +43,9 @@ pub struct Ended {
     pub count: u32,
 }
 
-// What a clock move leaves: the phase, and how many records stand in the buffer.
+// What a clock move leaves: the lamp, and how many records stand in the buffer.
 pub struct Moment {
-    pub phase: Phase,
+    pub lamp: Lamp,
     pub count: u32,
 }
 
@@ -70,11 +70,10 @@ fn run_timers_into(records: &mut [u8], count: u32, p: Params, l: Lamp, t: u32) -
         let timer = run_timer(p, l, ph);
         let note = timer.note;
         n = put_note(records, n, note);
-        let next = timer.phase;
-        ph = next;
+        ph = timer.phase;
     }
     Moment {
-        phase: ph,
+        lamp: at_moment(l, t, ph),
         count: n,
     }
 }
@@ -90,7 +89,10 @@ fn advance(records: &mut [u8], count: u32, p: Params, l: Lamp, t: u32) -> Moment
         let waiting = l;
         run_timers_into(records, count, times, waiting, t)
     } else {
-        Moment { phase: ph, count }
+        Moment {
+            lamp: at_moment(l, t, ph),
+            count,
+        }
     }
 }
 
@@ -106,10 +108,8 @@ fn play_inputs(file: &[u8], n: u32, start: State, records: &mut [u8], answers: &
     let mut i: u32 = 0;
     while i < n {
         let at = input_place(i);
-        let t = stamp_at(file, at);
-        let m = advance(records, count, p, l, t);
-        let ph = m.phase;
-        let moved = at_moment(l, t, ph);
+        let m = advance(records, count, p, l, stamp_at(file, at));
+        let moved = m.lamp;
         let b = barrier_to(moved, kind_at(file, at));
         match b {
             Barrier::Open => {
@@ -120,8 +120,7 @@ fn play_inputs(file: &[u8], n: u32, start: State, records: &mut [u8], answers: &
                 answers[i as usize] = d.answer;
                 let table = scenes_after(p, k, moved, x);
                 k = table;
-                let next = d.lamp;
-                l = next;
+                l = d.lamp;
                 i += 1;
             }
             Barrier::Stopped(why) => {

@@ -74,8 +74,7 @@ pub fn run_timers(p: Params, l: Lamp, t: u32) -> Ticked
         let note = timer.note;
         let more = notes::add(written, note);
         written = more;
-        let next = timer.phase;
-        ph = next;
+        ph = timer.phase;
     }
     Ticked {
         phase: ph,

@@ -4,6 +4,7 @@ use Rattle.barriers.proofs.KindRange.{kind-range}
 use Rattle.phases.proofs.Rooms.{sound-room, moved-roomy}
 use Rattle.lamps.specs.Lamps.{stateOf}
 use Rattle.rules.specs.Barriers.{barrier}
+use Rattle.rules.proofs.Laws.Soundness.{move-clock}
 use Rattle.rules.proofs.Laws.Records.{a-move-writes-at-most-two}
 use borrow.Author.Needs.{needs}
 use denote.Ref.{now}
@@ -27,7 +28,7 @@ loop-holds : tie.Need-loop-holds Inv-loop μ-loop
 loop-holds c = going-first _ _ _ _ _ (ready-to c)
 
 stamp-at-requires : tie.Need-stamp-at-requires Inv-loop μ-loop
-stamp-at-requires c κs = omega (arith, c .input-place .ensures, ready-to (c .before .before .before) .whole)
+stamp-at-requires c κs = omega (arith, c .before .input-place .ensures, ready-to (c .before .before .before .before) .whole)
 
 advance-requires : tie.Need-advance-requires Inv-loop μ-loop
 advance-requires c κs =
@@ -36,7 +37,7 @@ advance-requires c κs =
     let g = c .before .before .before .before .loop .inv in
     let within = c .before .before .before .loop-test .taken in
     let f = turn _ _ _ _ _ ready _ _ _ _ _ g within in
-    (rw (c .before .stamp-at .ensures, c .before .before .input-place .ensures) (sound-room (stateOf (a .args .start .params) (c .before .before .before .before .loop .k) (c .before .before .before .before .loop .l)) _ (g .safe) (omega (arith, f .timely, ready .timely))), omega (arith, within, g .few, ready .few), omega (arith, within, g .few, g .room, a .pre .1))
+    (rw (c .stamp-at .ensures, c .before .before .input-place .ensures) (sound-room (stateOf (a .args .start .params) (c .before .before .before .before .loop .k) (c .before .before .before .before .loop .l)) _ (g .safe) (omega (arith, f .timely, ready .timely))), omega (arith, within, g .few, ready .few), omega (arith, within, g .few, g .room, a .pre .1))
 
 kind-at-requires : tie.Need-kind-at-requires Inv-loop μ-loop
 kind-at-requires c κs =
@@ -61,7 +62,7 @@ take-requires c κs =
     let l = c .before .before .before .before .before .before .before .before .before .before .before .before .before .loop .l in
     let g = c .before .before .before .before .before .before .before .before .before .before .before .before .before .loop .inv in
     let f = turn _ _ _ _ _ ready _ _ _ _ _ g (c .before .before .before .before .before .before .before .before .before .before .before .before .loop-test .taken) in
-    rw (c .before .before .before .before .before .at-moment .ensures, c .before .before .before .before .before .before .before .before .advance .ensures k .phase, c .before .before .before .before .before .before .before .before .before .before .stamp-at .ensures, c .before .before .before .before .before .before .before .before .before .before .before .input-place .ensures)
+    rw (c .before .before .before .before .before .before .before .before .advance .ensures k .lamp, c .before .before .before .before .before .before .before .before .before .stamp-at .ensures, c .before .before .before .before .before .before .before .before .before .before .before .input-place .ensures, move-clock (stateOf (a .start .params) k l) _)
     (moved-roomy (stateOf (a .start .params) k l) _ (g .safe) (f .risen) (omega (arith, f .timely, ready .timely)))
 
 put-note-requires : tie.Need-put-note-requires Inv-loop μ-loop
@@ -73,7 +74,7 @@ put-note-requires c κs =
     let g = c .before .before .before .before .before .before .before .before .before .before .before .before .before .before .before .loop .inv in
     let within = c .before .before .before .before .before .before .before .before .before .before .before .before .before .before .loop-test .taken in
     let moves = c .before .before .before .before .before .before .before .before .before .before .advance in
-    let few = a-move-writes-at-most-two (stateOf (a .args .start .params) k l) (c .before .before .before .before .before .before .before .before .before .before .before .before .stamp-at .result) in
+    let few = a-move-writes-at-most-two (stateOf (a .args .start .params) k l) (c .before .before .before .before .before .before .before .before .before .before .before .stamp-at .result) in
     let own = listed-few (c .before .take .result .note) in
     (omega (arith, within, few, moves .ensures k .count, g .few, ready .few), omega (arith, within, few, own, moves .ensures k .count, moves .kept .0, g .few, g .room, a .pre .1))
 
@@ -104,13 +105,12 @@ loop-again c =
     let g = loop .inv in
     let within = c .before .before .before .before .before .before .before .before .before .before .before .before .before .before .before .before .before .before .before .loop-test .taken in
     let place = c .before .before .before .before .before .before .before .before .before .before .before .before .before .before .before .before .before .before .input-place .ensures in
-    let stamp = rw place at (c .before .before .before .before .before .before .before .before .before .before .before .before .before .before .before .before .before .stamp-at .ensures) in
+    let stamp = rw place at (c .before .before .before .before .before .before .before .before .before .before .before .before .before .before .before .before .stamp-at .ensures) in
     let moves = c .before .before .before .before .before .before .before .before .before .before .before .before .before .before .before .advance in
-    let moved = c .before .before .before .before .before .before .before .before .before .before .before .before .at-moment in
     let put = c .before .before .before .before .put-note in
     let means = c .before .before .before .before .before .before .before .known-input-at .ensures in
     let free = rw (c .before .before .before .before .before .before .before .before .before .before .before .kind-at .ensures _ means) at (sym (c .before .before .before .before .before .before .before .before .before .before .barrier-to .ensures) ∙ c .before .before .before .before .before .before .before .before .enum-told .given .1) in
-    going-taken _ _ _ _ _ ready (a .args .start .params) (loop .k) (loop .l) _ _ _ _ g within (omega (arith, a .pre .1)) (a .pre .2) _ (rw place at means) _ _ (rw stamp at (moves .ensures)) (omega (arith, within, g .few, g .room, a .pre .1)) _ (rw stamp at (moved .ensures)) free _ (c .before .before .before .before .before .before .take .ensures) _ (put .ensures .0) _ (put .ensures .1) (put .kept .0 ∙ moves .kept .0) _ (c .before .scenes-after .ensures)
+    going-taken _ _ _ _ _ ready (a .args .start .params) (loop .k) (loop .l) _ _ _ _ g within (omega (arith, a .pre .1)) (a .pre .2) _ (rw place at means) _ _ (rw stamp at (moves .ensures)) (omega (arith, within, g .few, g .room, a .pre .1)) free _ (c .before .before .before .before .before .before .take .ensures) _ (put .ensures .0) _ (put .ensures .1) (put .kept .0 ∙ moves .kept .0) _ (c .before .scenes-after .ensures)
 
 add-i-2 : tie.Need-add-i-2 Inv-loop μ-loop
 add-i-2 c = omega (arith, c .before .before .before .before .before .before .before .before .before .before .before .before .before .loop-test .taken, ready-to (c .before .before .before .before .before .before .before .before .before .before .before .before .before .before .before) .few)
@@ -127,13 +127,12 @@ loop-again-2 c =
     let g = loop .inv in
     let within = c .before .before .before .before .before .before .before .before .before .before .before .before .before .loop-test .taken in
     let place = c .before .before .before .before .before .before .before .before .before .before .before .before .input-place .ensures in
-    let stamp = rw place at (c .before .before .before .before .before .before .before .before .before .before .before .stamp-at .ensures) in
+    let stamp = rw place at (c .before .before .before .before .before .before .before .before .before .before .stamp-at .ensures) in
     let moves = c .before .before .before .before .before .before .before .before .before .advance in
-    let moved = c .before .before .before .before .before .before .at-moment in
     let f = turn _ _ _ _ _ ready _ _ _ _ _ g within in
     let bars = rw (c .before .before .before .before .before .kind-at .ensures (f .input) (rw place (f .meant))) at (sym (c .before .before .before .before .barrier-to .ensures) ∙ c .before .before .b .given .1) in
     rw (c .stopped-number .ensures)
-    (going-stopped _ _ _ _ _ ready (a .args .start .params) (loop .k) (loop .l) _ _ _ _ g within (omega (arith, a .pre .1)) (a .pre .2) (f .input) (f .meant) _ _ (rw stamp at (moves .ensures)) (omega (arith, within, g .few, g .room, a .pre .1)) (moves .kept .0) _ (rw stamp at (moved .ensures)) (c .before .before .b .given .0 .0) bars)
+    (going-stopped _ _ _ _ _ ready (a .args .start .params) (loop .k) (loop .l) _ _ _ _ g within (omega (arith, a .pre .1)) (a .pre .2) (f .input) (f .meant) _ _ (rw stamp at (moves .ensures)) (omega (arith, within, g .few, g .room, a .pre .1)) (moves .kept .0) (c .before .before .b .given .0 .0) bars)
 
 same-length : tie.Need-same-length Inv-loop μ-loop
 same-length c = c .before .before .loop .inv .room
@@ -158,7 +157,6 @@ play-inputs-spec =
     (λ c κs. search needs)
     stamp-at-requires
     advance-requires
-    (λ c κs. search needs)
     kind-at-requires
     barrier-to-requires
     (λ c. search needs)

@@ -41,10 +41,10 @@ loop-again c =
     rw timer (into-on (a .args .p) (a .args .l) (a .args .t) (a .args .count) _ _ _ _ (c .before .before .before .before .before .before .before .loop .inv) (sym (c .before .before .before .before .before .before .is-due .ensures) ∙ c .before .before .before .before .before .if1 .taken) (omega (arith, a .pre .2)) _ (rw timer at (put .ensures .0)) _ (rw timer at (put .ensures .1)) (put .kept .0))
 
 same-length : tie.Need-same-length Inv-loop μ-loop
-same-length c = c .before .before .loop .inv .room
+same-length c = c .before .before .before .loop .inv .room
 
 returns : tie.Need-returns Inv-loop μ-loop
-returns c = λ k. into-last _ _ _ _ _ _ _ _ (c .before .before .loop .inv) (sym (c .before .is-due .ensures) ∙ c .if1 .left) k
+returns c = λ k. rw (c .at-moment .ensures) (into-last _ _ _ _ _ _ _ _ (c .before .before .before .loop .inv) (sym (c .before .before .is-due .ensures) ∙ c .before .if1 .left) k)
 
 pub run-timers-into-spec : {M : Type 1} → statement M
 run-timers-into-spec =
@@ -58,5 +58,6 @@ run-timers-into-spec =
     put-note-requires
     loop-less
     loop-again
+    (λ c κs. search needs)
     same-length
     returns)
