@@ -58,9 +58,9 @@ fn fresh_in(file: &[u8]) -> State
     fresh_with(params_of(parameters), scenes_of(parameters))
 }
 
-// The timers due at or before t, until none is: their records follow those before, which are at most three for each of 2,048
-// inputs.
-fn run_timers_into(records: &mut [u8], count: u32, p: Params, l: Lamp, t: u32) -> Moment
+// The clock of a lamp moves to t: the timers due, until none is. Their records follow those before, which are at most three for
+// each of 2,048 inputs.
+fn advance(records: &mut [u8], count: u32, p: Params, l: Lamp, t: u32) -> Moment
     requires { ⌜ Room p t × (count ≤ 3 * mostInputs) × (recordPlace (count + 2) ≤ length (now records)) ⌝ }
     ensures { λ r. ⌜ Advanced p l t count (now (records .entry)) r (now (records .exit)) ⌝ }
 {
@@ -75,24 +75,6 @@ fn run_timers_into(records: &mut [u8], count: u32, p: Params, l: Lamp, t: u32) -
     Moment {
         lamp: at_moment(l, t, ph),
         count: n,
-    }
-}
-
-// The clock of a lamp moves to t. Most moves meet no timer; only those that do pay for the copies.
-fn advance(records: &mut [u8], count: u32, p: Params, l: Lamp, t: u32) -> Moment
-    requires { ⌜ Room p t × (count ≤ 3 * mostInputs) × (recordPlace (count + 2) ≤ length (now records)) ⌝ }
-    ensures { λ r. ⌜ Advanced p l t count (now (records .entry)) r (now (records .exit)) ⌝ }
-{
-    let ph = l.phase;
-    if is_due(ph, t) {
-        let times = p;
-        let waiting = l;
-        run_timers_into(records, count, times, waiting, t)
-    } else {
-        Moment {
-            lamp: at_moment(l, t, ph),
-            count,
-        }
     }
 }
 

@@ -60,9 +60,6 @@ quiet : (x : Deadline) (t : ℕ) → dueBy x t ≡ false → Quiet t x
 quiet Never t e = tt
 quiet (At d) t e = leb-false d t e
 
-pub nothing-due : (p : Params) (k : List Scene) (l : Lamp) (t : ℕ) → dueBy (deadline (l .phase)) t ≡ false → clockMove (stateOf p k l) t ≡ record { state = atMoment (stateOf p k l) t (l .phase); records = [] }
-nothing-due p k l t e = no-timer-due-no-move (stateOf p k l) t (quiet (deadline (l .phase)) t e)
-
 -- ---- one timer after the other
 
 -- so far these records were written and the lamp has come to this phase: what is left of the move is the move from there
