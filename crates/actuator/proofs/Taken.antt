@@ -1,6 +1,6 @@
 -- An input at the moved clock does what the rules say: it is taken, or stopped. A step is the clock move, and then that.
 use Prim.Native.Nat.{ℕ, _≤_}
-use mathlib.Core.Bool.{Bool, true, false, cond, _&&_}
+use mathlib.Core.Bool.{true, false, _&&_}
 use mathlib.Core.List.{List, [], _∷_, _++_}
 use mathlib.Core.Path.{_≡_, refl, sym, ap, _∙_}
 use lib.ListN.{length}
@@ -16,7 +16,7 @@ use Rattle.rules.specs.declared.barrier.Barrier.the-variants.{Open, Stopped}
 use Rattle.rules.specs.Inputs.{kind}
 use Rattle.rules.specs.Orders.{withPhase, order}
 use Rattle.rules.specs.Barriers.{barrier}
-use Rattle.rules.specs.Status.{value, attributes, sameStatus, recordOf, written}
+use Rattle.rules.specs.Status.{value, attributes, sameStatus, recordOf}
 use Rattle.rules.specs.Answers.{answer, samePhase, sameFlags, sameScenes, sameButClock}
 use Rattle.rules.specs.Steps.{Stepped, atMoment, clockMove, taken, meet, act, step}
 use Rattle.rules.specs.Lists.{Played}
@@ -32,12 +32,12 @@ use Rattle.orders.specs.Lights.{isLight, lightPhase}
 use Rattle.orders.proofs.Lights.{light-is-granted, other-orders-keep-the-table}
 use Rattle.timers.specs.declared.clock.Ticked.{Ticked}
 use Rattle.actuator.specs.declared.step.Done.{Done}
-use Rattle.records.specs.declared.notes.Note.the-variants.{Silent, Wrote}
+use Rattle.records.specs.declared.notes.Note.the-variants.{Silent}
 use Rattle.records.specs.Notes.{noteOf, added, notes, firstOf}
 use Rattle.timers.specs.Ticks.{ticked}
 use Rattle.actuator.specs.Acts.{done, doneBy, stoppedBy, acted}
 use Rattle.timers.proofs.Moves.{joined, moved-lamp}
-use Rattle.records.proofs.Written.{added-first}
+use Rattle.records.proofs.Written.{first-written, added-first}
 
 -- ---- taken
 
@@ -98,14 +98,6 @@ module _ (p : Params) (k : List Scene) (l : Lamp) (i : Input) where
   other-stays after e same = sym e ∙ sym (same-lamp l after (rw e (sym (order-keeps met i .clock))) same)
 
 -- ---- at the moved clock
-
-first-written : (cause : ℕ) (before after : State) → noteOf cause before after ≡ firstOf (written cause before after)
-unfolding noteOf written
-first-written cause before after = go (sameStatus before after)
-  where
-    go : (same : Bool) → cond same Silent (Wrote (recordOf cause after)) ≡ firstOf (cond same [] (recordOf cause after ∷ []))
-    go true = refl
-    go false = refl
 
 module _ (s : State) (i : Input) where
   pub open-is-taken : barrier s i ≡ Open → doneBy s i (order s i) ≡ done (act (still s) i)

@@ -11,7 +11,7 @@ use Rattle.rules.specs.declared.input.Input.{Input}
 use Rattle.rules.specs.declared.input.Input.the-variants.{NumberedSceneControl, SwitchOnOffForced}
 use Rattle.rules.specs.declared.input.Decoded.{Decoded}
 use Rattle.rules.specs.declared.input.Decoded.the-variants.{Meant, Wrong}
-use Rattle.rules.specs.Inputs.{kind, zeroOrOne, sceneMeant, forceMeant, decoded, inputAt}
+use Rattle.rules.specs.Inputs.{zeroOrOne, sceneMeant, forceMeant, decoded, inputAt}
 use Rattle.base.proofs.Tests.{cond-case, either-way, no}
 use Rattle.rules.proofs.Laws.Inputs.{no-other-kind}
 use Rattle.inputs.specs.Meaning.{isMeant, forceOf}
@@ -122,55 +122,9 @@ pub not-meant : (d : Decoded) → isMeant d ≡ false → Wrong ≡ d
 not-meant (Meant i) h = no (sym h)
 not-meant Wrong h = refl
 
--- ---- the kind that was read is the kind of the input
-
--- the kind of the input that is meant, if one is
-abbrev kindIn : Decoded → ℕ → ℕ
-kindIn (Meant i) k = kind i
-kindIn Wrong k = k
-
-bit-kind : (k value : ℕ) (off on : Input) → kind off ≡ k → kind on ≡ k → kindIn (zeroOrOne value off on) k ≡ k
-unfolding zeroOrOne
-bit-kind k value off on e f =
-    cond-case (λ d. kindIn d k ≡ k) (eqb value 0) _ _ (λ zero. e)
-    (λ some. either-way (λ d. kindIn d k ≡ k) (eqb value 1) _ _ f refl)
-
-scene-kind : (value : ℕ) → kindIn (sceneMeant value) 3 ≡ 3
-unfolding sceneMeant
-scene-kind value = either-way (λ d. kindIn d 3 ≡ 3) (eqb (value / 64 % 2) 0) _ _ refl refl
-
-force-kind : (value : ℕ) → kindIn (forceMeant value) 4 ≡ 4
-unfolding forceMeant
-force-kind value =
-    either-way (λ d. kindIn d 4 ≡ 4) (leb value 1) _ _ refl
-    (either-way (λ d. kindIn d 4 ≡ 4) (eqb value 2) _ _ refl
-    (either-way (λ d. kindIn d 4 ≡ 4) (eqb value 3) _ _ refl refl))
-
--- this kind, or another one
-this-kind : (k j : ℕ) (x y : Decoded) → kindIn x j ≡ j → kindIn y k ≡ k → kindIn (cond (eqb k j) x y) k ≡ k
-this-kind k j x y this other = cond-case (λ d. kindIn d k ≡ k) (eqb k j) x y (λ e. rw (eqb-true k j e) this) (λ e. other)
-
-decoded-kind : (k value : ℕ) → kindIn (decoded k value) k ≡ k
-unfolding decoded
-decoded-kind k value =
-    this-kind k 1 _ _ (bit-kind 1 value _ _ refl refl)
-    (this-kind k 2 _ _ (bit-kind 2 value _ _ refl refl)
-    (this-kind k 3 _ _ (scene-kind value)
-    (this-kind k 4 _ _ (force-kind value)
-    (this-kind k 5 _ _ (bit-kind 5 value _ _ refl refl)
-    (this-kind k 6 _ _ (bit-kind 6 value _ _ refl refl)
-    (this-kind k 7 _ _ (bit-kind 7 value _ _ refl refl)
-    (this-kind k 8 _ _ (bit-kind 8 value _ _ refl refl) refl)))))))
-
 -- where an input starts, it is what its kind and its value mean
 pub known-at : (octets : List ℕ) (at : ℕ) → isMeant (inputAt octets at) ≡ true → inputAt octets at ≡ decoded (octet octets (at + 4)) (octet octets (at + 5))
 unfolding inputAt
 known-at octets at =
     cond-case (λ d. isMeant d ≡ true → d ≡ decoded (octet octets (at + 4)) (octet octets (at + 5))) (eqb (octet octets (at + 6)) 0 && eqb (octet octets (at + 7)) 0) _ _ (λ zeros meant. refl)
     (λ others meant. no meant)
-
--- and has that kind
-pub kind-at : (octets : List ℕ) (at : ℕ) (i : Input) → inputAt octets at ≡ Meant i → octet octets (at + 4) ≡ kind i
-kind-at octets at i e =
-    let read : decoded (octet octets (at + 4)) (octet octets (at + 5)) ≡ Meant i = sym (known-at octets at (rw e refl)) ∙ e in
-    sym (rw read at (decoded-kind (octet octets (at + 4)) (octet octets (at + 5))))

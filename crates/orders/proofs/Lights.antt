@@ -1,5 +1,5 @@
 -- An order to the light changes the phase alone, and the scene table where it is a lesson: what it asks for is granted.
-use mathlib.Core.Bool.{Bool, true, false}
+use mathlib.Core.Bool.{true, false}
 use mathlib.Core.List.{List}
 use mathlib.Core.Path.{_≡_, refl, sym}
 use Rattle.rules.specs.declared.parameters.Params.{Params}

@@ -22,10 +22,9 @@ use Rattle.inputs.specs.Meaning.{isMeant}
 use Rattle.lamps.specs.declared.lamp.Lamp.{Lamp}
 use Rattle.lamps.specs.Lamps.{stateOf}
 use Rattle.actuator.specs.declared.step.Done.{Done}
-use Rattle.records.specs.declared.notes.Note.{Note}
-use Rattle.records.specs.declared.notes.Note.the-variants.{Silent, Wrote}
-use Rattle.records.specs.Notes.{firstOf, listed}
+use Rattle.records.specs.Notes.{listed}
 use Rattle.actuator.specs.Acts.{done, doneBy, stoppedBy}
+use Rattle.records.proofs.Written.{listed-first}
 use Rattle.timers.proofs.Moves.{joined}
 use Rattle.actuator.proofs.Taken.{open-is-taken, open-teaches, barred-is-stopped, barred-keeps, acting-keeps, later, step-splits, later-joined}
 use Rattle.player.specs.declared.play.Moment.{Moment}
@@ -55,16 +54,6 @@ inputIn Wrong other = other
 
 same-input : (x y : Input) (d : Decoded) → d ≡ Meant x → d ≡ Meant y → y ≡ x
 same-input x y d e f = ap (λ (z : Decoded). inputIn z x) (sym f ∙ e)
-
--- a record by value is the list that it was taken from
-listed-first : (k : List Record) → length k ≤ 1 → listed (firstOf k) ≡ k
-listed-first [] few = refl
-listed-first (r ∷ []) few = refl
-listed-first (r ∷ q ∷ k) few = absurd (omega arith)
-
-pub listed-few : (x : Note) → length (listed x) ≤ 1
-listed-few Silent = omega arith
-listed-few (Wrote r) = omega arith
 
 -- what the code has after the clock move and after the input, part by part, is what the step of the rules gives
 module _ (p : Params) (k : List Scene) (l : Lamp) (x : Input) (t before : ℕ) (r r₁ : List ℕ) (m : Moment) (moves : Advanced p l t before r m r₁) where

@@ -30,7 +30,6 @@ use parameters::read::scenes_of;
 use records::status::record_of;
 use rules::barrier::Barrier;
 use rules::parameters::Params;
-use rules::phase::Phase;
 use rules::state::State;
 use states::fresh::fresh_with;
 use timers::clock::is_due;

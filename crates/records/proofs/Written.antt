@@ -2,7 +2,7 @@
 use Prim.Native.Nat.{ℕ, _≤_}
 use mathlib.Core.Bool.{Bool, true, false, cond}
 use mathlib.Core.List.{List, [], _∷_, _++_, append-nil}
-use mathlib.Core.Path.{_≡_, refl}
+use mathlib.Core.Path.{_≡_, refl, sym, ap, _∙_}
 use lib.ListN.{length}
 use native.Mathlib.Omega.{arith}
 use Rattle.rules.specs.declared.state.State.{State}
@@ -24,13 +24,22 @@ silent : (l : List Record) → added (notes l) Silent ≡ notes (l ++ [])
 unfolding added
 silent l = rw (append-nil l)
 
--- one record at most, at the end
-pub added-first : (l d : List Record) → length l ≤ 2 → length d ≤ 1 → added (notes l) (firstOf d) ≡ notes (l ++ d)
-added-first l [] room few = silent l
-added-first l (r ∷ []) room few = wrote l r room
-added-first l (r ∷ q ∷ d) room few = absurd (omega arith)
+-- ---- a note and the list that it stands for
 
--- what a change wrote, as a list
+pub listed-few : (x : Note) → length (listed x) ≤ 1
+listed-few Silent = omega arith
+listed-few (Wrote r) = omega arith
+
+pub listed-first : (l : List Record) → length l ≤ 1 → listed (firstOf l) ≡ l
+listed-first [] few = refl
+listed-first (r ∷ []) few = refl
+listed-first (r ∷ q ∷ l) few = absurd (omega arith)
+
+first-listed : (x : Note) → firstOf (listed x) ≡ x
+first-listed Silent = refl
+first-listed (Wrote r) = refl
+
+-- what a change wrote
 pub listed-written : (cause : ℕ) (before after : State) → listed (noteOf cause before after) ≡ written cause before after
 unfolding noteOf written
 listed-written cause before after = by (sameStatus before after)
@@ -39,10 +48,17 @@ listed-written cause before after = by (sameStatus before after)
     by true = refl
     by false = refl
 
--- one note more, at the end of the list
+pub first-written : (cause : ℕ) (before after : State) → noteOf cause before after ≡ firstOf (written cause before after)
+first-written cause before after = sym (first-listed (noteOf cause before after)) ∙ ap firstOf (listed-written cause before after)
+
+-- ---- one more, at the end of the list
+
 pub added-listed : (l : List Record) (x : Note) → length l ≤ 2 → added (notes l) x ≡ notes (l ++ listed x)
 added-listed l Silent room = silent l
 added-listed l (Wrote r) room = wrote l r room
+
+pub added-first : (l d : List Record) → length l ≤ 2 → length d ≤ 1 → added (notes l) (firstOf d) ≡ notes (l ++ d)
+added-first l d room few = rw (listed-first d few) at (added-listed l (firstOf d) room)
 
 pub notes-count : (l : List Record) → notes l .count ≡ length l
 unfolding notes

@@ -1,4 +1,4 @@
-use Prim.Native.Nat.{_+_, _*_, _-_, _≤_}
+use Prim.Native.Nat.{_*_, _-_, _≤_}
 use Rattle.rules.specs.Layout.{mostInputs, inputPlace}
 use lib.ListN.{length}
 use borrow.Author.Needs.{needs}

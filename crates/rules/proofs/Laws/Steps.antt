@@ -1,5 +1,5 @@
 -- One timer: it runs at its own moment or not at all, and three of them leave nothing due.
-use Prim.Native.Nat.{ℕ, suc, _-_, _≤_, _<_}
+use Prim.Native.Nat.{ℕ, zero, suc, _-_, _≤_, _<_}
 use mathlib.Core.Bool.{Bool, _||_}
 use mathlib.Core.Logic.{_⊎_, inl, inr}
 use mathlib.Core.Path.{_≡_, refl}
@@ -60,18 +60,6 @@ timer-rank p night (Timed d) = cond-zero (λ (x : Phase). rank x ≤ 1) (p .prew
 timer-rank p night (Warning d) = omega arith
 timer-rank p night (Ending d) = omega arith
 
--- and a phase that has one is not at rest
-some-left : (phase : Phase) (d : ℕ) → deadline phase ≡ At d → rank phase ≡ suc (rank phase - 1)
-some-left Dark d e = cc
-some-left Lit d e = cc
-some-left (Starting timed x) d e = refl
-some-left (Timed x) d e = refl
-some-left (Warning x) d e = refl
-some-left (Ending x) d e = refl
-
-pub a-timer-lowers-the-rank : (p : Params) (night : Bool) (phase : Phase) (d : ℕ) → deadline phase ≡ At d → rank (atDeadline p night phase) < rank phase
-a-timer-lowers-the-rank p night phase d e = omega (arith, timer-rank p night phase, some-left phase d e)
-
 -- nothing is due at t, or at most n timers are left
 abbrev Left : ℕ → ℕ → Phase → Type 0
 Left n t phase = Quiet t (deadline phase) ⊎ (rank phase ≤ n)
@@ -89,6 +77,14 @@ none-left t (Starting timed d) (inr few) = omega arith
 none-left t (Timed d) (inr few) = omega arith
 none-left t (Warning d) (inr few) = omega arith
 none-left t (Ending d) (inr few) = omega arith
+
+-- so a timer that runs always leaves fewer
+pub a-timer-lowers-the-rank : (p : Params) (night : Bool) (phase : Phase) (d : ℕ) → deadline phase ≡ At d → rank (atDeadline p night phase) < rank phase
+a-timer-lowers-the-rank p night phase d e = go (rank phase) refl
+  where
+    go : (n : ℕ) → rank phase ≡ n → rank (atDeadline p night phase) < rank phase
+    go zero none = absurd (omega (arith, rw e at (none-left d phase (inr (omega (arith, none))))))
+    go (suc n) some = omega (arith, timer-rank p night phase, some)
 
 most-left : (t : ℕ) (phase : Phase) → Left 3 t phase
 most-left t Dark = inl tt
