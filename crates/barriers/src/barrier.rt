@@ -1,7 +1,6 @@
 // Which input counts: the barriers of each kind as one table, and the first that an input meets.
 ghost use mathlib.Core.Path.{_≡_};
 ghost use Prim.Native.Nat.{_≤_};
-ghost use Rattle.rules.specs.Inputs.{kind};
 ghost use Rattle.rules.specs.Barriers.{rowOf, firstBarrier};
 use base::logic::both;
 use lamps::flags::bus_is_down;
@@ -12,7 +11,6 @@ use rules::barrier::Barrier;
 use rules::barrier::Row;
 use rules::barrier::Why;
 use rules::input::Force;
-use rules::input::Input;
 use rules::state::Link;
 
 // What stops "the low inputs: switch, timed, scene, night".
@@ -51,21 +49,6 @@ const POWER: Row = Row {
     lock: false,
     force: false,
 };
-
-pub fn kind_of(i: Input) -> u8
-    ensures { λ r. ⌜ r ≡ kind i ⌝ }
-{
-    match i {
-        Input::SwitchOnOff(_) => 1,
-        Input::TimedStartStop(_) => 2,
-        Input::NumberedSceneControl(_, _) => 3,
-        Input::SwitchOnOffForced(_) => 4,
-        Input::LockDevice(_) => 5,
-        Input::NightMode(_) => 6,
-        Input::Bus(_) => 7,
-        Input::Power(_) => 8,
-    }
-}
 
 // The table: a row for each kind, from 1 SwitchOnOff to 8 power. It is read by a match, so that it is not built anew for every input.
 fn row_of(kind: u8) -> Row

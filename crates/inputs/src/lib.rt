@@ -1,4 +1,4 @@
-// Inputs: eight octets, with a stamp, a kind and a value.
+// Inputs: eight octets, with a stamp, a kind and a value, and what they carry once they are known.
 ghost use mathlib.Core.Path.{_≡_};
 ghost use Prim.Native.Nat.{_+_, _≤_};
 ghost use mathlib.Core.Bool.{true, _&&_};
@@ -16,6 +16,8 @@ use rules::input::Decoded;
 use rules::input::Event;
 use rules::input::Force;
 use rules::input::Input;
+
+pub mod value;
 
 // Whether a kind and a value mean an input. Every kind takes 0 and 1; only a scene and a force take more.
 fn is_known(kind: u8, value: u8) -> bool

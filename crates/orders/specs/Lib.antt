@@ -1,2 +1,2 @@
-pub mod Lessons
+pub mod Kinds
 pub mod Lights

@@ -1,4 +1,5 @@
-// What an input does, where nothing stops it: to the light, to what outranks the light, and to the scene table.
+// What an input does, where nothing stops it: to the light, to what outranks the light, and to the scene table. The order is chosen by
+// the number of its kind; what it does to the phase is told by a small function for each order (phases::order).
 ghost use mathlib.Core.Path.{_≡_};
 ghost use mathlib.Core.Bool.{false};
 ghost use mathlib.Core.List.{List};
@@ -6,8 +7,8 @@ ghost use Rattle.rules.specs.declared.parameters.Scene.{Scene};
 ghost use Rattle.rules.specs.Orders.{order};
 ghost use Rattle.phases.specs.Room.{Room, Roomy};
 ghost use Rattle.lamps.specs.Lamps.{lampOf, stateOf};
-ghost use Rattle.orders.specs.Lessons.{teaches};
 ghost use Rattle.orders.specs.Lights.{asks, isLight, lightPhase};
+use inputs::value;
 use lamps::lamp::Lamp;
 use overrides::force;
 use overrides::link;
@@ -21,35 +22,15 @@ use switching::scene;
 use switching::wish;
 use switching::wish::Wish;
 
-// Whether an input is an order to the light: it changes the phase and nothing else of the lamp.
-pub fn is_light(i: Input) -> bool
-    ensures { λ r. ⌜ r ≡ isLight i ⌝ }
-{
-    match i {
-        Input::SwitchOnOff(_) => true,
-        Input::TimedStartStop(_) => true,
-        Input::NumberedSceneControl(_, _) => true,
-        Input::SwitchOnOffForced(_) => false,
-        Input::LockDevice(_) => false,
-        Input::NightMode(_) => false,
-        Input::Bus(_) => false,
-        Input::Power(_) => false,
-    }
-}
-
 // What an input asks of the light in this phase.
 fn asked(k: [Scene; 8], ph: Phase, i: Input) -> Wish
     ensures { λ r. ⌜ r ≡ asks k ph i ⌝ }
 {
-    match i {
-        Input::SwitchOnOff(on) => wish::switch_asks(on),
-        Input::TimedStartStop(start) => wish::timed_asks(ph, start),
-        Input::NumberedSceneControl(learn, number) => wish::scene_asks(k, learn, number),
-        Input::SwitchOnOffForced(_) => Wish::Nothing,
-        Input::LockDevice(_) => Wish::Nothing,
-        Input::NightMode(_) => Wish::Nothing,
-        Input::Bus(_) => Wish::Nothing,
-        Input::Power(_) => Wish::Nothing,
+    match value::kind_of(i) {
+        1 => wish::switch_asks(value::switch_in(i)),
+        2 => wish::timed_asks(ph, value::switch_in(i)),
+        3 => wish::scene_asks(k, value::is_lesson(i), value::scene_in(i)),
+        _ => Wish::Nothing,
     }
 }
 
@@ -62,37 +43,19 @@ pub fn light_order(p: Params, k: [Scene; 8], l: Lamp, i: Input) -> Phase
     light::grant(p, l, asked(k, ph, i))
 }
 
-// The lamp after any other order.
+// The lamp after any other order. There is no other kind than these.
 pub fn other_order(p: Params, l: Lamp, i: Input) -> Lamp
-    requires { ⌜ Room p (l .clock) ⌝ }
-    ensures { λ r. ⌜ (isLight i ≡ false → (k : List Scene) → r ≡ lampOf (order (stateOf p k l) i)) ⌝ }
+    requires { ⌜ Room p (l .clock) × (isLight i ≡ false) ⌝ }
+    ensures { λ r. ⌜ ((k : List Scene) → r ≡ lampOf (order (stateOf p k l) i)) ⌝ }
 {
     let link = l.link;
-    match i {
-        Input::SwitchOnOff(_) => l,
-        Input::TimedStartStop(_) => l,
-        Input::NumberedSceneControl(_, _) => l,
-        Input::SwitchOnOffForced(f) => force::force_order(p, l, f),
-        Input::LockDevice(on) => lock::lock_order(p, l, on),
-        Input::NightMode(on) => light::night_order(p, l, on),
-        Input::Bus(event) => link::bus_event(p, l, link, event),
-        Input::Power(event) => link::power_event(p, l, link, event),
-    }
-}
-
-// Whether an input is to learn: no other one can change the scene table.
-pub fn is_lesson(i: Input) -> bool
-    ensures { λ r. ⌜ r ≡ teaches i ⌝ }
-{
-    match i {
-        Input::SwitchOnOff(_) => false,
-        Input::TimedStartStop(_) => false,
-        Input::NumberedSceneControl(learn, _) => learn,
-        Input::SwitchOnOffForced(_) => false,
-        Input::LockDevice(_) => false,
-        Input::NightMode(_) => false,
-        Input::Bus(_) => false,
-        Input::Power(_) => false,
+    match value::kind_of(i) {
+        4 => force::force_order(p, l, value::force_in(i)),
+        5 => lock::lock_order(p, l, value::switch_in(i)),
+        6 => light::night_order(p, l, value::switch_in(i)),
+        7 => link::bus_event(p, l, link, value::event_in(i)),
+        8 => link::power_event(p, l, link, value::event_in(i)),
+        _ => l,
     }
 }
 
@@ -100,14 +63,5 @@ pub fn is_lesson(i: Input) -> bool
 pub fn table_after(p: Params, k: [Scene; 8], l: Lamp, i: Input) -> [Scene; 8]
     ensures { λ r. ⌜ r ≡ order (stateOf p k l) i .scenes ⌝ }
 {
-    match i {
-        Input::SwitchOnOff(_) => k,
-        Input::TimedStartStop(_) => k,
-        Input::NumberedSceneControl(learn, number) => scene::taught(p, k, l, learn, number),
-        Input::SwitchOnOffForced(_) => k,
-        Input::LockDevice(_) => k,
-        Input::NightMode(_) => k,
-        Input::Bus(_) => k,
-        Input::Power(_) => k,
-    }
+    scene::taught(p, k, l, value::is_lesson(i), value::scene_in(i))
 }

@@ -6,8 +6,6 @@ use lib.Dec.{eqb}
 use Rattle.rules.specs.declared.parameters.Scene.{Scene}
 use Rattle.rules.specs.declared.phase.Phase.{Phase}
 use Rattle.rules.specs.declared.phase.Phase.the-variants.{Dark, Lit, Starting, Timed, Warning, Ending}
-use Rattle.rules.specs.declared.input.Force.{Force}
-use Rattle.rules.specs.declared.input.Force.the-variants.{Free, Off, On}
 use Rattle.rules.specs.declared.state.Link.{Link}
 use Rattle.rules.specs.declared.state.Link.the-variants.{Up, BusDown, PowerDown}
 use Rattle.rules.specs.declared.state.State.{State}
@@ -15,6 +13,7 @@ use Rattle.rules.specs.declared.barrier.Why.{Why}
 use Rattle.rules.specs.declared.barrier.Why.the-variants.{NoPower, NoBus, Locked, Forced}
 use Rattle.rules.specs.declared.barrier.Barrier.{Barrier}
 use Rattle.rules.specs.declared.barrier.Barrier.the-variants.{Open, Stopped}
+use Rattle.rules.specs.Inputs.{forceNumber}
 
 -- "Answer octet, first that fits: 5 power down, 4 bus down, 3 lock, 2 force"
 abbrev pub stoppedNumber : Why → ℕ
@@ -49,11 +48,6 @@ due (Ending d) = d
 
 unfoldable pub samePhase : Phase → Phase → Bool
 samePhase a b = eqb (phaseNumber a) (phaseNumber b) && eqb (due a) (due b)
-
-abbrev pub forceNumber : Force → ℕ
-forceNumber Free = 0
-forceNumber Off = 1
-forceNumber On = 2
 
 abbrev pub linkNumber : Link → ℕ
 linkNumber Up = 0

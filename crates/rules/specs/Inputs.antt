@@ -4,7 +4,9 @@ use mathlib.Core.Bool.{true, false, cond, _&&_}
 use mathlib.Core.List.{List}
 use lib.Dec.{eqb, leb}
 use Rattle.octets.specs.BigEndian.{octet, be32}
+use Rattle.rules.specs.declared.input.Force.{Force}
 use Rattle.rules.specs.declared.input.Force.the-variants.{Free, Off, On}
+use Rattle.rules.specs.declared.input.Event.{Event}
 use Rattle.rules.specs.declared.input.Event.the-variants.{Failure, Return}
 use Rattle.rules.specs.declared.input.Input.{Input}
 use Rattle.rules.specs.declared.input.Input.the-variants.{SwitchOnOff, TimedStartStop, NumberedSceneControl, SwitchOnOffForced, LockDevice, NightMode, Bus, Power}
@@ -22,6 +24,40 @@ kind (LockDevice lock) = 5
 kind (NightMode night) = 6
 kind (Bus event) = 7
 kind (Power event) = 8
+
+-- "4 forced: 0 and 1 no control, 2 Off, 3 On." (no control is written as 0)
+abbrev pub forceNumber : Force → ℕ
+forceNumber Free = 0
+forceNumber Off = 2
+forceNumber On = 3
+
+-- "7 bus and 8 power: 0 failure, 1 return."
+abbrev pub eventNumber : Event → ℕ
+eventNumber Failure = 0
+eventNumber Return = 1
+
+-- "3 scene: .. low six bits the number" (an input of another kind has none)
+abbrev pub sceneNumber : Input → ℕ
+sceneNumber (SwitchOnOff on) = 0
+sceneNumber (TimedStartStop start) = 0
+sceneNumber (NumberedSceneControl learn number) = number
+sceneNumber (SwitchOnOffForced force) = 0
+sceneNumber (LockDevice lock) = 0
+sceneNumber (NightMode night) = 0
+sceneNumber (Bus event) = 0
+sceneNumber (Power event) = 0
+
+-- "each with its own value": the value octet of an input. With the kind it is decoded to that input (proofs/Laws/Inputs.antt
+-- `an-input-is-what-its-octets-mean`), where a scene's number is at most 63.
+abbrev pub inputValue : Input → ℕ
+inputValue (SwitchOnOff on) = cond on 1 0
+inputValue (TimedStartStop start) = cond start 1 0
+inputValue (NumberedSceneControl learn number) = cond learn 128 0 + number
+inputValue (SwitchOnOffForced force) = forceNumber force
+inputValue (LockDevice lock) = cond lock 1 0
+inputValue (NightMode night) = cond night 1 0
+inputValue (Bus event) = eventNumber event
+inputValue (Power event) = eventNumber event
 
 -- "0 or 1"
 unfoldable pub zeroOrOne : ℕ → Input → Input → Decoded

@@ -20,7 +20,8 @@ use Rattle.rules.specs.declared.barrier.Barrier.{Barrier}
 use Rattle.rules.specs.declared.barrier.Barrier.the-variants.{Open, Stopped}
 use Rattle.rules.specs.Orders.{order}
 use Rattle.rules.specs.Barriers.{barrier}
-use Rattle.rules.specs.Answers.{answer, phaseNumber, due, forceNumber, linkNumber, samePhase, sameScene, sameScenes, sameFlags, sameButClock}
+use Rattle.rules.specs.Inputs.{forceNumber}
+use Rattle.rules.specs.Answers.{answer, phaseNumber, due, linkNumber, samePhase, sameScene, sameScenes, sameFlags, sameButClock}
 use Rattle.rules.specs.Steps.{atMoment, Moved, taken, meet, act}
 use Rattle.base.proofs.Tests.{and-left, and-right, beq-true, beq-same, eqb-same}
 use Rattle.rules.proofs.Laws.Orders.{order-keeps}
@@ -47,7 +48,7 @@ phase-back (Warning d) = refl
 phase-back (Ending d) = refl
 
 forceOf : ℕ → Force
-forceOf n = cond (eqb n 0) Free (cond (eqb n 1) Off On)
+forceOf n = cond (eqb n 0) Free (cond (eqb n 2) Off On)
 
 force-back : (f : Force) → forceOf (forceNumber f) ≡ f
 unfolding forceOf

@@ -1,11 +1,12 @@
--- What an accepted kind and value mean: an input of that very kind, whose scene number is at most 63.
-use Prim.Native.Nat.{ℕ, _+_, _/_, _%_, _≤_, _<_}
-use mathlib.Core.Bool.{true, false, cond, _&&_}
+-- What an accepted kind and value mean: an input of that very kind and value, whose scene number is at most 63; and back.
+use Prim.Native.Nat.{ℕ, zero, suc, _+_, _/_, _%_, _≤_, _<_}
+use mathlib.Core.Bool.{Bool, true, false, cond, _&&_}
 use mathlib.Core.List.{List}
-use mathlib.Core.Path.{_≡_, refl}
+use mathlib.Core.Logic.{_⊎_, inl, inr}
+use mathlib.Core.Path.{_≡_, refl, sym, _∙_}
 use native.Mathlib.Omega.{arith}
 use lib.Dec.{eqb, leb}
-use borrow.Author.Tests.{eqb-true, ne-eqb}
+use borrow.Author.Tests.{leb-true, eqb-true, eqb-false, eq-eqb, ne-eqb}
 use Rattle.octets.specs.BigEndian.{octet}
 use Rattle.rules.specs.declared.input.Force.the-variants.{Free, Off, On}
 use Rattle.rules.specs.declared.input.Event.the-variants.{Failure, Return}
@@ -13,59 +14,110 @@ use Rattle.rules.specs.declared.input.Input.{Input}
 use Rattle.rules.specs.declared.input.Input.the-variants.{SwitchOnOff, TimedStartStop, NumberedSceneControl, SwitchOnOffForced, LockDevice, NightMode, Bus, Power}
 use Rattle.rules.specs.declared.input.Decoded.{Decoded}
 use Rattle.rules.specs.declared.input.Decoded.the-variants.{Meant, Wrong}
-use Rattle.rules.specs.Inputs.{kind, zeroOrOne, sceneMeant, forceMeant, decoded, inputAt}
+use Rattle.rules.specs.Inputs.{kind, sceneNumber, inputValue, zeroOrOne, sceneMeant, forceMeant, decoded, inputAt}
 use Rattle.base.proofs.Tests.{cond-case}
-use Rattle.rules.proofs.Laws.Orders.{sceneNumber}
 
--- an input of the kind k, if it means one at all
-abbrev OfKind : ℕ → Decoded → Type 0
-OfKind k Wrong = Unit {0}
-OfKind k (Meant i) = (kind i ≡ k) × (sceneNumber i ≤ 63)
+-- an input of the kind k, if it means one at all, written with that value (of a force, 1 is no control as well as 0)
+abbrev OfKind : ℕ → ℕ → Decoded → Type 0
+OfKind k v Wrong = Unit {0}
+OfKind k v (Meant i) = (kind i ≡ k) × (sceneNumber i ≤ 63) × (v ≤ 255 → (inputValue i ≡ v) ⊎ ((k ≡ 4) × (v ≡ 1) × (inputValue i ≡ 0)))
 
-zero-or-one-means : (k value : ℕ) (zero one : Input) → OfKind k (Meant zero) → OfKind k (Meant one) → OfKind k (zeroOrOne value zero one)
+zero-or-one-means : (k v : ℕ) (none one : Input) → (kind none ≡ k) × (sceneNumber none ≤ 63) × (inputValue none ≡ 0) → (kind one ≡ k) × (sceneNumber one ≤ 63) × (inputValue one ≡ 1)
+    → OfKind k v (zeroOrOne v none one)
 unfolding zeroOrOne
-zero-or-one-means k value zero one f g =
-    cond-case (OfKind k) (eqb value 0) _ _ (λ e. f)
-    (λ e. cond-case (OfKind k) (eqb value 1) (Meant one) Wrong (λ e. g) (λ e. tt))
+zero-or-one-means k v none one f g =
+    cond-case (OfKind k v) (eqb v 0) _ _ (λ e. (f .0, f .1, λ octet. inl (f .2 ∙ sym (eqb-true v 0 e))))
+    (λ e. cond-case (OfKind k v) (eqb v 1) (Meant one) Wrong (λ e. (g .0, g .1, λ octet. inl (g .2 ∙ sym (eqb-true v 1 e)))) (λ e. tt))
+
+-- bit 7 and six bits below it
+scene-value : (v : ℕ) (b : Bool) → eqb (v / 128) 1 ≡ b → v / 64 % 2 ≡ 0 → v ≤ 255 → cond b 128 0 + v % 64 ≡ v
+scene-value v true e f octet = let one = eqb-true (v / 128) 1 e in omega arith
+scene-value v false e f octet = let other = eqb-false (v / 128) 1 e in omega arith
 
 -- a rest of 64 is at most 63
-scene-means : (value : ℕ) → OfKind 3 (sceneMeant value)
+scene-means : (v : ℕ) → OfKind 3 v (sceneMeant v)
 unfolding sceneMeant
-scene-means value =
-    cond-case (OfKind 3) (eqb (value / 64 % 2) 0) (Meant (NumberedSceneControl (eqb (value / 128) 1) (value % 64))) Wrong (λ e. (refl, omega arith)) (λ e. tt)
+scene-means v =
+    cond-case (OfKind 3 v) (eqb (v / 64 % 2) 0) (Meant (NumberedSceneControl (eqb (v / 128) 1) (v % 64))) Wrong
+    (λ e. (refl, omega arith, λ octet. inl (scene-value v _ refl (eqb-true _ _ e) octet)))
+    (λ e. tt)
 
-force-means : (value : ℕ) → OfKind 4 (forceMeant value)
+force-means : (v : ℕ) → OfKind 4 v (forceMeant v)
 unfolding forceMeant
-force-means value =
-    cond-case (OfKind 4) (leb value 1) (Meant (SwitchOnOffForced Free)) _ (λ e. omega arith)
-    (λ e. cond-case (OfKind 4) (eqb value 2) (Meant (SwitchOnOffForced Off)) _ (λ e. omega arith)
-    (λ e. cond-case (OfKind 4) (eqb value 3) (Meant (SwitchOnOffForced On)) Wrong (λ e. omega arith) (λ e. tt)))
+force-means v =
+    cond-case (OfKind 4 v) (leb v 1) (Meant (SwitchOnOffForced Free)) _ (λ e. (refl, omega arith, λ octet. free v (leb-true v 1 e)))
+    (λ e. cond-case (OfKind 4 v) (eqb v 2) (Meant (SwitchOnOffForced Off)) _ (λ e. (refl, omega arith, λ octet. inl (sym (eqb-true v 2 e))))
+    (λ e. cond-case (OfKind 4 v) (eqb v 3) (Meant (SwitchOnOffForced On)) Wrong (λ e. (refl, omega arith, λ octet. inl (sym (eqb-true v 3 e)))) (λ e. tt)))
+  where
+    free : (n : ℕ) → n ≤ 1 → (inputValue (SwitchOnOffForced Free) ≡ n) ⊎ ((kind (SwitchOnOffForced Free) ≡ 4) × (n ≡ 1) × (inputValue (SwitchOnOffForced Free) ≡ 0))
+    free zero few = inl refl
+    free (suc n) few = inr (refl, omega arith, refl)
 
 -- the choice of a kind
-if-kind : (k j : ℕ) (x y : Decoded) → OfKind j x → OfKind k y → OfKind k (cond (eqb k j) x y)
-if-kind k j x y f g = cond-case (OfKind k) (eqb k j) x y (λ e. rw (eqb-true k j e) f) (λ e. g)
+if-kind : (k v j : ℕ) (x y : Decoded) → OfKind j v x → OfKind k v y → OfKind k v (cond (eqb k j) x y)
+if-kind k v j x y f g = cond-case (OfKind k v) (eqb k j) x y (λ e. rw (eqb-true k j e) f) (λ e. g)
 
-decoded-means : (k value : ℕ) → OfKind k (decoded k value)
+decoded-means : (k v : ℕ) → OfKind k v (decoded k v)
 unfolding decoded
-decoded-means k value =
-    if-kind k 1 _ _ (zero-or-one-means 1 value (SwitchOnOff false) (SwitchOnOff true) (omega arith) (omega arith))
-    (if-kind k 2 _ _ (zero-or-one-means 2 value (TimedStartStop false) (TimedStartStop true) (omega arith) (omega arith))
-    (if-kind k 3 _ _ (scene-means value)
-    (if-kind k 4 _ _ (force-means value)
-    (if-kind k 5 _ _ (zero-or-one-means 5 value (LockDevice false) (LockDevice true) (omega arith) (omega arith))
-    (if-kind k 6 _ _ (zero-or-one-means 6 value (NightMode false) (NightMode true) (omega arith) (omega arith))
-    (if-kind k 7 _ _ (zero-or-one-means 7 value (Bus Failure) (Bus Return) (omega arith) (omega arith))
-    (if-kind k 8 _ _ (zero-or-one-means 8 value (Power Failure) (Power Return) (omega arith) (omega arith))
+decoded-means k v =
+    if-kind k v 1 _ _ (zero-or-one-means 1 v (SwitchOnOff false) (SwitchOnOff true) (omega arith) (omega arith))
+    (if-kind k v 2 _ _ (zero-or-one-means 2 v (TimedStartStop false) (TimedStartStop true) (omega arith) (omega arith))
+    (if-kind k v 3 _ _ (scene-means v)
+    (if-kind k v 4 _ _ (force-means v)
+    (if-kind k v 5 _ _ (zero-or-one-means 5 v (LockDevice false) (LockDevice true) (omega arith) (omega arith))
+    (if-kind k v 6 _ _ (zero-or-one-means 6 v (NightMode false) (NightMode true) (omega arith) (omega arith))
+    (if-kind k v 7 _ _ (zero-or-one-means 7 v (Bus Failure) (Bus Return) (omega arith) (omega arith))
+    (if-kind k v 8 _ _ (zero-or-one-means 8 v (Power Failure) (Power Return) (omega arith) (omega arith))
     tt)))))))
+
+-- what is read is what was written: an octet of value that means an input is that input's value, but that a force of 1 is written as 0
+pub read-as-written : (k v : ℕ) (i : Input) → v ≤ 255 → decoded k v ≡ Meant i → (kind i ≡ k) × ((inputValue i ≡ v) ⊎ ((k ≡ 4) × (v ≡ 1) × (inputValue i ≡ 0)))
+read-as-written k v i octet e = let means = rw e at (decoded-means k v) in (means .0, means .2 octet)
+
+scene-back : (v : ℕ) (learn : Bool) (number : ℕ) → v / 64 % 2 ≡ 0 → eqb (v / 128) 1 ≡ learn → v % 64 ≡ number → sceneMeant v ≡ Meant (NumberedSceneControl learn number)
+unfolding sceneMeant
+scene-back v learn number six seven low = rw (six, seven, low) refl
+
+-- and what is written is read back: an input, by its kind and value, is that input (a scene's number has six bits)
+pub an-input-is-what-its-octets-mean : (i : Input) → sceneNumber i ≤ 63 → decoded (kind i) (inputValue i) ≡ Meant i
+unfolding decoded zeroOrOne forceMeant
+an-input-is-what-its-octets-mean (SwitchOnOff true) small = refl
+an-input-is-what-its-octets-mean (SwitchOnOff false) small = refl
+an-input-is-what-its-octets-mean (TimedStartStop true) small = refl
+an-input-is-what-its-octets-mean (TimedStartStop false) small = refl
+an-input-is-what-its-octets-mean (NumberedSceneControl true number) small = scene-back (128 + number) true number (omega arith) (eq-eqb ((128 + number) / 128) 1 (omega (arith, small))) (omega (arith, small))
+an-input-is-what-its-octets-mean (NumberedSceneControl false number) small = scene-back (0 + number) false number (omega arith) (ne-eqb ((0 + number) / 128) 1 (λ e. omega (arith, e, small))) (omega (arith, small))
+an-input-is-what-its-octets-mean (SwitchOnOffForced Free) small = refl
+an-input-is-what-its-octets-mean (SwitchOnOffForced Off) small = refl
+an-input-is-what-its-octets-mean (SwitchOnOffForced On) small = refl
+an-input-is-what-its-octets-mean (LockDevice true) small = refl
+an-input-is-what-its-octets-mean (LockDevice false) small = refl
+an-input-is-what-its-octets-mean (NightMode true) small = refl
+an-input-is-what-its-octets-mean (NightMode false) small = refl
+an-input-is-what-its-octets-mean (Bus Failure) small = refl
+an-input-is-what-its-octets-mean (Bus Return) small = refl
+an-input-is-what-its-octets-mean (Power Failure) small = refl
+an-input-is-what-its-octets-mean (Power Return) small = refl
+
+-- there are eight kinds
+pub kind-range : (i : Input) → (1 ≤ kind i) × (kind i ≤ 8)
+kind-range (SwitchOnOff on) = omega arith
+kind-range (TimedStartStop start) = omega arith
+kind-range (NumberedSceneControl learn number) = omega arith
+kind-range (SwitchOnOffForced force) = omega arith
+kind-range (LockDevice lock) = omega arith
+kind-range (NightMode night) = omega arith
+kind-range (Bus event) = omega arith
+kind-range (Power event) = omega arith
 
 pub meant-kind : (k value : ℕ) (i : Input) → decoded k value ≡ Meant i → kind i ≡ k
 meant-kind k value i e = (rw e at (decoded-means k value)) .0
 
 -- the input at a place is what its kind and value mean, or wrong
-input-means : (octets : List ℕ) (at : ℕ) → OfKind (octet octets (at + 4)) (inputAt octets at)
+input-means : (octets : List ℕ) (at : ℕ) → OfKind (octet octets (at + 4)) (octet octets (at + 5)) (inputAt octets at)
 unfolding inputAt
 input-means octets at =
-    cond-case (OfKind (octet octets (at + 4))) (eqb (octet octets (at + 6)) 0 && eqb (octet octets (at + 7)) 0) (decoded (octet octets (at + 4)) (octet octets (at + 5))) Wrong
+    cond-case (OfKind (octet octets (at + 4)) (octet octets (at + 5))) (eqb (octet octets (at + 6)) 0 && eqb (octet octets (at + 7)) 0) (decoded (octet octets (at + 4)) (octet octets (at + 5))) Wrong
     (λ zeros. decoded-means (octet octets (at + 4)) (octet octets (at + 5)))
     (λ others. tt)
 

@@ -19,22 +19,11 @@ use Rattle.rules.specs.declared.state.Link.{Link}
 use Rattle.rules.specs.declared.state.Link.the-variants.{Up, BusDown, PowerDown}
 use Rattle.rules.specs.declared.state.State.{State}
 use Rattle.rules.specs.Scenes.{recalled, learnt}
-use Rattle.rules.specs.Inputs.{kind}
+use Rattle.rules.specs.Inputs.{kind, sceneNumber}
 use Rattle.rules.specs.Phases.{output}
 use Rattle.rules.specs.declared.phase.Phase.the-variants.{Dark, Lit}
 use Rattle.rules.specs.Orders.{withForce, withLink, withLock, standing, held, settle, switch, timed, recall, learn, scene, nightMode, forced, locked, unlocked, lockDevice, busMode, bus, powerFails, powerReturns, power, order}
 use Rattle.base.proofs.Tests.{cond-case}
-
--- the number of a scene input, 0 for the others
-abbrev pub sceneNumber : Input → ℕ
-sceneNumber (SwitchOnOff on) = 0
-sceneNumber (TimedStartStop start) = 0
-sceneNumber (NumberedSceneControl learn number) = number
-sceneNumber (SwitchOnOffForced force) = 0
-sceneNumber (LockDevice lock) = 0
-sceneNumber (NightMode night) = 0
-sceneNumber (Bus event) = 0
-sceneNumber (Power event) = 0
 
 -- a state with these parameters, this clock, and these scenes or those that are taught
 pub record Kept (p : Params) (t : ℕ) (k taught : List Scene) (u : State) : Type 0 where

@@ -15,6 +15,7 @@ use Rattle.rules.specs.declared.state.State.{State}
 use Rattle.rules.specs.declared.barrier.Barrier.{Barrier}
 use Rattle.rules.specs.declared.barrier.Barrier.the-variants.{Open, Stopped}
 use Rattle.base.specs.Time.{lastStamp}
+use Rattle.rules.specs.Inputs.{sceneNumber}
 use Rattle.rules.specs.Parameters.{timeInRange, paramsInRange}
 use Rattle.rules.specs.Scenes.{entryInRange, scenesInRange}
 use Rattle.rules.specs.Phases.{output, deadline}
@@ -31,7 +32,7 @@ use Rattle.rules.proofs.Laws.Holding.{Fits, fits-view, fits-consistent,
 use Rattle.rules.proofs.Laws.Steps.{Quiet, fired, tick-case, tick-keeps, three-are-enough}
 use Rattle.rules.proofs.Laws.Scenes.{learnt-in-range}
 use Rattle.rules.proofs.Laws.Fitting.{order-fits}
-use Rattle.rules.proofs.Laws.Orders.{sceneNumber, order-keeps}
+use Rattle.rules.proofs.Laws.Orders.{order-keeps}
 
 -- ---- the rules of a sound state by name
 
