@@ -14,11 +14,10 @@ ghost use Rattle.lamps.specs.Lamps.{stateOf};
 ghost use Rattle.orders.specs.Lights.{isLight};
 ghost use Rattle.actuator.specs.Acts.{doneBy, acted};
 use barriers::barrier::barrier_to;
-use barriers::barrier::kind_of;
+use inputs::value::is_lesson;
+use inputs::value::kind_of;
 use lamps::lamp;
 use lamps::lamp::Lamp;
-use orders::is_lesson;
-use orders::is_light;
 use orders::light_order;
 use orders::other_order;
 use orders::table_after;
@@ -135,15 +134,14 @@ fn take_other(p: Params, l: Lamp, i: Input) -> Done
     }
 }
 
-// An input at the moved clock that nothing stops.
+// An input at the moved clock that nothing stops: kinds 1 to 3 are orders to the light.
 pub fn take(p: Params, k: [Scene; 8], l: Lamp, i: Input) -> Done
     requires { ⌜ Roomy p (l .clock) (l .phase) ⌝ }
     ensures { λ r. ⌜ r ≡ doneBy (stateOf p k l) i (order (stateOf p k l) i) ⌝ }
 {
-    if is_light(i) {
-        take_light(p, k, l, i)
-    } else {
-        take_other(p, l, i)
+    match kind_of(i) {
+        1..=3 => take_light(p, k, l, i),
+        _ => take_other(p, l, i),
     }
 }
 

@@ -1,6 +1,5 @@
 -- What an input carries (01: "An input is one of eight kinds, each with its own value"): a switch value, a scene, a force or an event.
 -- A kind that does not carry the thing asked for gives one that nobody reads.
-use Prim.Native.Nat.{ℕ}
 use mathlib.Core.Bool.{Bool, false}
 use Rattle.rules.specs.declared.input.Force.{Force}
 use Rattle.rules.specs.declared.input.Force.the-variants.{Free}
@@ -20,7 +19,7 @@ switchIn (NightMode value) = value
 switchIn (Bus event) = false
 switchIn (Power event) = false
 
--- kind 3: whether it is to learn (no other kind does), and the scene's number
+-- kind 3: whether it is to learn (no other kind does); the scene's number is `sceneNumber` of the rules
 abbrev pub teaches : Input → Bool
 teaches (SwitchOnOff value) = false
 teaches (TimedStartStop value) = false
@@ -30,16 +29,6 @@ teaches (LockDevice value) = false
 teaches (NightMode value) = false
 teaches (Bus event) = false
 teaches (Power event) = false
-
-abbrev pub sceneIn : Input → ℕ
-sceneIn (SwitchOnOff value) = 0
-sceneIn (TimedStartStop value) = 0
-sceneIn (NumberedSceneControl learns number) = number
-sceneIn (SwitchOnOffForced force) = 0
-sceneIn (LockDevice value) = 0
-sceneIn (NightMode value) = 0
-sceneIn (Bus event) = 0
-sceneIn (Power event) = 0
 
 -- kind 4
 abbrev pub forceIn : Input → Force

@@ -1,7 +1,7 @@
 // The kind of an input, and what it carries. Each is told from all cases, so that a kind more has to say what it carries.
 ghost use mathlib.Core.Path.{_≡_};
-ghost use Rattle.rules.specs.Inputs.{kind};
-ghost use Rattle.inputs.specs.Values.{switchIn, teaches, sceneIn, forceIn, eventIn};
+ghost use Rattle.rules.specs.Inputs.{kind, sceneNumber};
+ghost use Rattle.inputs.specs.Values.{switchIn, teaches, forceIn, eventIn};
 use rules::input::Event;
 use rules::input::Force;
 use rules::input::Input;
@@ -55,7 +55,7 @@ pub fn is_lesson(i: Input) -> bool
 
 // The number of the scene of kind 3.
 pub fn scene_in(i: Input) -> u8
-    ensures { λ r. ⌜ r ≡ sceneIn i ⌝ }
+    ensures { λ r. ⌜ r ≡ sceneNumber i ⌝ }
 {
     match i {
         Input::SwitchOnOff(_) => 0,

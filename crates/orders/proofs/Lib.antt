@@ -1,2 +1,3 @@
+pub mod ByKind
 pub mod Lessons
 pub mod Lights

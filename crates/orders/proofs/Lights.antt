@@ -16,11 +16,11 @@ use Rattle.rules.specs.Orders.{withPhase, timedStop, held, switch, timed, recal
 use Rattle.base.proofs.Tests.{no}
 use Rattle.lamps.specs.declared.lamp.Lamp.{Lamp}
 use Rattle.lamps.specs.Lamps.{lampOf, stateOf, alone}
+use Rattle.inputs.specs.Values.{teaches}
 use Rattle.switching.specs.declared.wish.Wish.{Wish}
 use Rattle.switching.specs.Wishes.{stopAsks, recallAsks, sceneAsks, granted}
 use Rattle.switching.proofs.Scenes.{learning-keeps-the-lamp}
-use Rattle.orders.specs.Lessons.{teaches}
-use Rattle.orders.specs.Lights.{isLight, lightPhase}
+use Rattle.orders.specs.Lights.{isLight, asks, lightPhase}
 use Rattle.orders.proofs.Lessons.{only-a-lesson-teaches}
 
 module _ (p : Params) (k : List Scene) (l : Lamp) where
@@ -45,7 +45,7 @@ module _ (p : Params) (k : List Scene) (l : Lamp) where
   recall-is-granted (Output false) = refl
 
   pub light-is-granted : (i : Input) → isLight i ≡ true → lampOf (order (stateOf p k l) i) ≡ lampOf (withPhase (alone l) (lightPhase p k l i))
-  unfolding lightPhase order switch timed scene sceneAsks granted held
+  unfolding lightPhase asks order switch timed scene sceneAsks granted held
   light-is-granted (SwitchOnOff true) e = refl
   light-is-granted (SwitchOnOff false) e = refl
   light-is-granted (TimedStartStop true) e = refl

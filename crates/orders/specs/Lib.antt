@@ -1,2 +1,2 @@
-pub mod Kinds
+pub mod ByKind
 pub mod Lights

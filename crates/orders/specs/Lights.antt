@@ -6,11 +6,11 @@ use Rattle.rules.specs.declared.parameters.Params.{Params}
 use Rattle.rules.specs.declared.parameters.Scene.{Scene}
 use Rattle.rules.specs.declared.phase.Phase.{Phase}
 use Rattle.rules.specs.declared.input.Input.{Input}
-use Rattle.rules.specs.Inputs.{kind}
+use Rattle.rules.specs.Inputs.{kind, sceneNumber}
 use Rattle.rules.specs.Orders.{held}
 use Rattle.lamps.specs.declared.lamp.Lamp.{Lamp}
 use Rattle.lamps.specs.Lamps.{alone}
-use Rattle.inputs.specs.Values.{switchIn, teaches, sceneIn}
+use Rattle.inputs.specs.Values.{switchIn, teaches}
 use Rattle.switching.specs.declared.wish.Wish.{Wish}
 use Rattle.switching.specs.declared.wish.Wish.the-variants.{Nothing}
 use Rattle.switching.specs.Wishes.{switchAsks, timedAsks, sceneAsks, granted}
@@ -23,7 +23,7 @@ unfoldable pub asks : List Scene → Phase → Input → Wish
 asks k phase i =
     cond (eqb (kind i) 1) (switchAsks (switchIn i))
     (cond (eqb (kind i) 2) (timedAsks phase (switchIn i))
-    (cond (eqb (kind i) 3) (sceneAsks k (teaches i) (sceneIn i)) Nothing))
+    (cond (eqb (kind i) 3) (sceneAsks k (teaches i) (sceneNumber i)) Nothing))
 
 -- the phase that it leaves
 unfoldable pub lightPhase : Params → List Scene → Lamp → Input → Phase

@@ -2,7 +2,8 @@
 ghost use mathlib.Core.Path.{_≡_};
 ghost use mathlib.Core.Bool.{_&&_};
 ghost use Rattle.lamps.specs.Lamps.{alone};
-ghost use Rattle.rules.specs.Answers.{phaseNumber, samePhase, forceNumber, linkNumber, sameFlags};
+ghost use Rattle.rules.specs.Inputs.{forceNumber};
+ghost use Rattle.rules.specs.Answers.{phaseNumber, samePhase, linkNumber, sameFlags};
 use base::logic::alike;
 use base::logic::both;
 use lamps::lamp::Lamp;
@@ -37,8 +38,8 @@ fn force_number(force: Force) -> u8
 {
     match force {
         Force::Free => 0,
-        Force::Off => 1,
-        Force::On => 2,
+        Force::Off => 2,
+        Force::On => 3,
     }
 }
 

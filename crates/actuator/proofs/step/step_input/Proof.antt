@@ -1,7 +1,7 @@
 use Rattle.records.specs.Notes.{notes, added}
 use Rattle.timers.specs.Ticks.{ticked}
 use Rattle.lamps.specs.Lamps.{stateOf}
-use Rattle.barriers.proofs.KindRange.{kind-range}
+use Rattle.rules.proofs.Laws.Inputs.{kind-range}
 use Rattle.actuator.specs.Acts.{stoppedBy}
 use Rattle.actuator.proofs.Taken.{open-is-taken, open-teaches, barred-is-stopped, barred-keeps, step-by-parts}
 use Rattle.phases.proofs.Rooms.{sound-room, moved-roomy}

@@ -1,6 +1,6 @@
 use Rattle.player.proofs.Turns.{Going, going-first, turn, turn-meant, going-taken, going-stopped, going-last}
 use Rattle.player.specs.Playing.{Ready}
-use Rattle.barriers.proofs.KindRange.{kind-range}
+use Rattle.rules.proofs.Laws.Inputs.{kind-range}
 use Rattle.records.proofs.Written.{listed-few}
 use Rattle.phases.proofs.Rooms.{sound-room, moved-roomy}
 use Rattle.lamps.specs.Lamps.{stateOf}

@@ -1,0 +1,18 @@
+-- An order by the number of its kind is the order of the rules.
+use mathlib.Core.Path.{_≡_, refl}
+use Rattle.rules.specs.declared.input.Input.{Input}
+use Rattle.rules.specs.declared.input.Input.the-variants.{SwitchOnOff, TimedStartStop, NumberedSceneControl, SwitchOnOffForced, LockDevice, NightMode, Bus, Power}
+use Rattle.rules.specs.declared.state.State.{State}
+use Rattle.rules.specs.Orders.{order}
+use Rattle.orders.specs.ByKind.{orderByKind}
+
+pub an-order-is-by-its-kind : (s : State) (i : Input) → orderByKind s i ≡ order s i
+unfolding orderByKind order
+an-order-is-by-its-kind s (SwitchOnOff value) = refl
+an-order-is-by-its-kind s (TimedStartStop value) = refl
+an-order-is-by-its-kind s (NumberedSceneControl learns number) = refl
+an-order-is-by-its-kind s (SwitchOnOffForced force) = refl
+an-order-is-by-its-kind s (LockDevice value) = refl
+an-order-is-by-its-kind s (NightMode value) = refl
+an-order-is-by-its-kind s (Bus event) = refl
+an-order-is-by-its-kind s (Power event) = refl
