@@ -4,6 +4,8 @@ use mathlib.Core.Bool.{Bool, _&&_}
 use lib.Dec.{leb}
 use Rattle.base.specs.declared.refusal.Refusal.{Refusal}
 use Rattle.base.specs.declared.refusal.Refusal.the-variants.{WrongLength, WrongVersion, WrongActuators, WrongLayout, BadParameter, BadInput, BadStamp, ShortBuffer, UnsoundState}
+use Rattle.base.specs.declared.refusal.Check.{Check}
+use Rattle.base.specs.declared.refusal.Check.the-variants.{Passed, Refused}
 use Rattle.base.specs.Time.{lastStamp}
 
 -- the table's first column
@@ -17,6 +19,15 @@ number BadInput = 6
 number BadStamp = 7
 number ShortBuffer = 8
 number UnsoundState = 9
+
+-- what a check finds, as a code and a place: "an accepted call has code 0, place 0", a refused one the number and the place of its row
+abbrev pub codeOf : Check → ℕ
+codeOf Passed = 0
+codeOf (Refused why place) = number why
+
+abbrev pub placeOf : Check → ℕ
+placeOf Passed = 0
+placeOf (Refused why place) = place
 
 -- single inputs "9, 6, 7", clock moves "9, 7" (in this order: rules, Calls.antt): "7 stamp below .. the clock, above .. (single input or clock move: 864,000)"
 unfoldable pub stampInRange : ℕ → ℕ → Bool

@@ -14,9 +14,9 @@ use Rattle.base.specs.declared.refusal.Check.the-variants.{Passed, Refused}
 use Rattle.rules.specs.Inputs.{inputAt, stampAt}
 use Rattle.rules.specs.Lists.{cue}
 use Rattle.rules.specs.Layout.{inputPlace}
-use Rattle.rules.specs.Files.{Reading, cues, bad, before, readOne, readInputs}
+use Rattle.rules.specs.Files.{Reading, cues, bad, before, readOne, readInputs, verdict}
 use Rattle.inputs.specs.Meaning.{isMeant}
-use Rattle.cues.specs.Verdict.{verdict, checkOne}
+use Rattle.cues.specs.Checks.{checkOne}
 
 -- the first of two refusals
 abbrev firstOf : Check → Check → Check

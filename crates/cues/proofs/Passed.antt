@@ -5,9 +5,8 @@ use Prim.Native.Nat.{ℕ}
 use native.Mathlib.Omega.{arith}
 use Rattle.base.specs.declared.refusal.Check.the-variants.{Passed}
 use Rattle.rules.specs.Lists.{Cue}
-use Rattle.rules.specs.Files.{Reading, cues, bad, readFile}
+use Rattle.rules.specs.Files.{Reading, cues, bad, readFile, verdict}
 use Rattle.rules.proofs.Refusals.Files.{GoodFile, good-file}
-use Rattle.cues.specs.Verdict.{verdict}
 
 -- only a list of cues passes
 pub passed-has-cues : (reading : Reading) → verdict reading ≡ Passed → (list : List Cue) × (reading ≡ cues list)

@@ -11,11 +11,10 @@ use Rattle.base.specs.declared.refusal.Refusal.{Refusal}
 use Rattle.base.specs.declared.refusal.Refusal.the-variants.{ShortBuffer}
 use Rattle.base.specs.declared.refusal.Check.the-variants.{Passed, Refused}
 use Rattle.rules.specs.Layout.{recordsRoom}
-use Rattle.rules.specs.Files.{Reading, cues, bad, inputCount, readFile, roomy}
+use Rattle.rules.specs.Files.{Reading, cues, bad, inputCount, readFile, roomy, verdict}
 use Rattle.rules.specs.Runs.{playFile, accepted, refused, runCall}
 use Rattle.base.proofs.Tests.{both}
 use Rattle.rules.proofs.Refusals.Runs.{a-bad-file-is-refused, a-short-buffer-is-refused, a-good-file-is-played}
-use Rattle.cues.specs.Verdict.{verdict}
 use Rattle.player.specs.declared.play.Ended.{Ended}
 use Rattle.player.specs.Playing.{found, listIn, Filled}
 use Rattle.house.specs.Reports.{refusal, report, whole}

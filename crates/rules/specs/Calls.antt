@@ -21,7 +21,7 @@ use Rattle.rules.specs.Parameters.{paramsOf, scenesOf, checkParameters}
 use Rattle.rules.specs.Inputs.{inputAt, stampAt}
 use Rattle.rules.specs.Steps.{Moved, Stepped, fresh, clockMove, step}
 use Rattle.rules.specs.Soundness.{sound}
-use Rattle.base.specs.Refusals.{number, stampInRange}
+use Rattle.base.specs.Refusals.{number, codeOf, placeOf, stampInRange}
 
 -- ---- the fresh state from parameters alone
 
@@ -52,9 +52,12 @@ unfoldable pub ownState : State
 ownState = fresh leastParams noScenes
 
 -- "Parameters alone give the fresh state."
+abbrev pub freshState : List ℕ → Check → State
+freshState octets Passed = fresh (paramsOf octets) (scenesOf octets)
+freshState octets (Refused why place) = ownState
+
 unfoldable pub freshBy : List ℕ → Check → Fresh
-freshBy octets Passed = record { state = fresh (paramsOf octets) (scenesOf octets); code = 0; place = 0 }
-freshBy octets (Refused why place) = record { state = ownState; code = number why; place = place }
+freshBy octets found = record { state = freshState octets found; code = codeOf found; place = placeOf found }
 
 unfoldable pub freshCall : List ℕ → Fresh
 freshCall octets = freshBy octets (checkParameters octets)

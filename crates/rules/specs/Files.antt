@@ -57,6 +57,11 @@ pub data Reading : Type 0 where
   cues : List Cue → Reading
   bad : Refusal → ℕ → Reading
 
+-- a reading without its cues: the code and the place of a call are those of its verdict
+abbrev pub verdict : Reading → Check
+verdict (cues list) = Passed
+verdict (bad why place) = Refused why place
+
 abbrev pub before : Cue → Reading → Reading
 before c (cues later) = cues (c ∷ later)
 before c (bad why place) = bad why place

@@ -15,4 +15,5 @@ pub mod Calls
 pub mod Files
 pub mod Runs
 pub mod Soundness
+pub mod Refusals
 pub mod Promises

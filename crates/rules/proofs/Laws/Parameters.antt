@@ -20,48 +20,26 @@ use Rattle.rules.specs.Parameters.{delay, paramsOf, sceneAt, scenesOf, g
 use Rattle.rules.specs.Scenes.{entryInRange, absent, scenesInRange}
 use Rattle.rules.specs.Steps.{fresh}
 use Rattle.rules.specs.Soundness.{sound}
+use Rattle.rules.specs.Refusals.{GoodParameters, FirstBad, FoundWhen}
 use Rattle.base.proofs.Tests.{no, neither-left, cond-case}
 use Rattle.rules.proofs.Laws.Soundness.{fresh-is-sound}
 
 -- ---- exactly what is answered
 
-pub record Accepted (octets : List ℕ) : Type 0 where
-  pub whole : length octets ≡ 32
-  pub good : (j : ℕ) → j < 32 → badOctet octets j ≡ false
-
-pub record FirstBad (octets : List ℕ) (at : ℕ) : Type 0 where
-  pub whole : length octets ≡ 32
-  pub within : at < 32
-  pub bad : badOctet octets at ≡ true
-  pub good : (j : ℕ) → j < at → badOctet octets j ≡ false
-
--- when the check gives an answer: two of the nine refusals, and the others never
-abbrev pub GivenWhen : List ℕ → Check → Type 0
-GivenWhen octets Passed = Accepted octets
-GivenWhen octets (Refused WrongLength place) = (place ≡ 0) × (length octets ≡ 32 → ⊥)
-GivenWhen octets (Refused WrongVersion place) = ⊥
-GivenWhen octets (Refused WrongActuators place) = ⊥
-GivenWhen octets (Refused WrongLayout place) = ⊥
-GivenWhen octets (Refused BadParameter place) = FirstBad octets place
-GivenWhen octets (Refused BadInput place) = ⊥
-GivenWhen octets (Refused BadStamp place) = ⊥
-GivenWhen octets (Refused ShortBuffer place) = ⊥
-GivenWhen octets (Refused UnsoundState place) = ⊥
-
 -- from a place on, when every octet before it is good
-lowest-given : (octets : List ℕ) → length octets ≡ 32 → (left at : ℕ) → at + left ≡ 32 → ((j : ℕ) → j < at → badOctet octets j ≡ false) → GivenWhen octets (lowestBad octets left at)
+lowest-given : (octets : List ℕ) → length octets ≡ 32 → (left at : ℕ) → at + left ≡ 32 → ((j : ℕ) → j < at → badOctet octets j ≡ false) → FoundWhen octets (lowestBad octets left at)
 unfolding lowestBad
 lowest-given octets whole zero at end good = record { whole = whole; good = λ j within. good j (omega arith) }
 lowest-given octets whole (suc left) at end good =
-    cond-case (GivenWhen octets) (badOctet octets at) (Refused BadParameter at) (lowestBad octets left (at + 1))
+    cond-case (FoundWhen octets) (badOctet octets at) (Refused BadParameter at) (lowestBad octets left (at + 1))
     (λ bad. record { whole = whole; within = omega arith; bad = bad; good = good })
     (λ fine. lowest-given octets whole left (at + 1) (omega arith) (below-more (λ j. badOctet octets j ≡ false) at good fine))
 
 -- the length first, then every octet from 0 on
-check-given : (octets : List ℕ) → GivenWhen octets (checkParameters octets)
+check-given : (octets : List ℕ) → FoundWhen octets (checkParameters octets)
 unfolding checkParameters
 check-given octets =
-    cond-case (GivenWhen octets) (eqb (length octets) 32) (lowestBad octets 32 0) (Refused WrongLength 0)
+    cond-case (FoundWhen octets) (eqb (length octets) 32) (lowestBad octets 32 0) (Refused WrongLength 0)
     (λ whole. lowest-given octets (eqb-true _ _ whole) 32 0 refl (below-none _))
     (λ other. (refl, eqb-false _ _ other))
 
@@ -77,7 +55,7 @@ same-place octets a b f g =
     omega arith
 
 -- no two answers fit
-one-answer : (octets : List ℕ) (x y : Check) → GivenWhen octets x → GivenWhen octets y → x ≡ y
+one-answer : (octets : List ℕ) (x y : Check) → FoundWhen octets x → FoundWhen octets y → x ≡ y
 one-answer octets Passed Passed f g = refl
 one-answer octets Passed (Refused WrongLength place) f g = absurd (g .1 (f .whole))
 one-answer octets Passed (Refused BadParameter place) f g = clash octets place (g .bad) (f .good place (g .within))
@@ -89,7 +67,7 @@ one-answer octets (Refused BadParameter place) (Refused WrongLength other) f g =
 one-answer octets (Refused BadParameter place) (Refused BadParameter other) f g = ap (Refused BadParameter) (same-place octets place other f g)
 
 -- an answer is given exactly when it fits: the answer given fits, and no other does
-pub lowest-bad-octet : (octets : List ℕ) (x : Check) → (checkParameters octets ≡ x) ↔ GivenWhen octets x
+pub lowest-bad-octet : (octets : List ℕ) (x : Check) → (checkParameters octets ≡ x) ↔ FoundWhen octets x
 lowest-bad-octet octets x = (λ e. rw e at (check-given octets), λ fits. one-answer octets (checkParameters octets) x (check-given octets) fits)
 
 -- ---- accepted octets are parameters in range
@@ -110,7 +88,7 @@ unfolding paramsOf
 passed-has-some-time octets passed = omega (arith, some-time octets (lowest-bad-octet octets Passed .0 passed .good 4 (omega arith)))
 
 -- a mode that is not refused is at most the greatest of its octet
-modes-in-range : (octets : List ℕ) → Accepted octets → (octet octets 8 ≤ 2) × (octet octets 9 ≤ 3) × (octet octets 10 ≤ 2) × (octet octets 11 ≤ 2) × (octet octets 12 ≤ 2)
+modes-in-range : (octets : List ℕ) → GoodParameters octets → (octet octets 8 ≤ 2) × (octet octets 9 ≤ 3) × (octet octets 10 ≤ 2) × (octet octets 11 ≤ 2) × (octet octets 12 ≤ 2)
 unfolding badOctet greatest
 modes-in-range octets a = (
   ltb-false _ _ (a .good 8 (omega arith)),
@@ -120,7 +98,7 @@ modes-in-range octets a = (
   ltb-false _ _ (a .good 12 (omega arith)),
 )
 
-params-in-range : (octets : List ℕ) → ((i : ℕ) → octet octets i < 256) → Accepted octets → paramsInRange (paramsOf octets) ≡ true
+params-in-range : (octets : List ℕ) → ((i : ℕ) → octet octets i < 256) → GoodParameters octets → paramsInRange (paramsOf octets) ≡ true
 unfolding paramsInRange paramsOf
 params-in-range octets small a =
     let modes = modes-in-range octets a in
@@ -159,7 +137,7 @@ record Used (octets : List ℕ) (n : ℕ) : Type 0 where
   new : numberAbove octets (numberOf octets n) n ≡ false
 
 -- a number that is not refused is new, or 255
-used-or-unused : (octets : List ℕ) (n : ℕ) → Accepted octets → n < 8 → Used octets n ⊎ (numberOf octets n ≡ 255)
+used-or-unused : (octets : List ℕ) (n : ℕ) → GoodParameters octets → n < 8 → Used octets n ⊎ (numberOf octets n ≡ 255)
 unfolding badNumber
 used-or-unused octets n a within =
     cond-case (λ (b : Bool). b ≡ false → Used octets n ⊎ (numberOf octets n ≡ 255)) (leb (numberOf octets n) 63)
@@ -169,14 +147,14 @@ used-or-unused octets n a within =
     (sym (number-octet octets n) ∙ a .good (16 + 2 * n) (omega arith))
 
 -- the flags of an unused entry, if not refused, are 0
-unused-flags : (octets : List ℕ) (n : ℕ) → Accepted octets → n < 8 → numberOf octets n ≡ 255 → octet octets (16 + 2 * n + 1) ≡ 0
+unused-flags : (octets : List ℕ) (n : ℕ) → GoodParameters octets → n < 8 → numberOf octets n ≡ 255 → octet octets (16 + 2 * n + 1) ≡ 0
 unfolding badFlags
 unused-flags octets n a within unused =
     let next : 16 + 2 * n + 1 ≡ 17 + 2 * n = omega arith in
     rw next (eqb-true _ _ (not-false _ (simp (unused) at (sym (flags-octet octets n) ∙ a .good (17 + 2 * n) (omega arith)))))
 
 -- a used entry needs only a number up to 63, an unused one only flags that are 0
-entry-in-range : (octets : List ℕ) (n : ℕ) → Accepted octets → n < 8 → entryInRange (sceneAt octets (16 + 2 * n)) ≡ true
+entry-in-range : (octets : List ℕ) (n : ℕ) → GoodParameters octets → n < 8 → entryInRange (sceneAt octets (16 + 2 * n)) ≡ true
 unfolding entryInRange sceneAt
 entry-in-range octets n a within =
     ⊎-elim
@@ -196,7 +174,7 @@ above-differs octets number (suc n) m new earlier =
     ]
 
 -- a used number does not come again: it would be refused at the later entry
-later-differs : (octets : List ℕ) (m n : ℕ) → Accepted octets → n < 8 → m < n → numberOf octets m ≤ 63 → eqb (numberOf octets n) (numberOf octets m) ≡ false
+later-differs : (octets : List ℕ) (m n : ℕ) → GoodParameters octets → n < 8 → m < n → numberOf octets m ≤ 63 → eqb (numberOf octets n) (numberOf octets m) ≡ false
 later-differs octets m n a within earlier few =
     ne-eqb (numberOf octets n) (numberOf octets m)
     (λ same. ⊎-elim
@@ -210,14 +188,14 @@ entries octets zero n = []
 entries octets (suc left) n = sceneAt octets (16 + 2 * n) ∷ entries octets left (n + 1)
 
 -- so no later entry has it
-used-is-absent : (octets : List ℕ) (m left n : ℕ) → Accepted octets → n + left ≡ 8 → m < n → numberOf octets m ≤ 63 → absent (entries octets left n) (numberOf octets m) ≡ true
+used-is-absent : (octets : List ℕ) (m left n : ℕ) → GoodParameters octets → n + left ≡ 8 → m < n → numberOf octets m ≤ 63 → absent (entries octets left n) (numberOf octets m) ≡ true
 unfolding absent entries sceneAt
 used-is-absent octets m zero n a end earlier few = refl
 used-is-absent octets m (suc left) n a end earlier few =
     simp (later-differs octets m n a (omega arith) earlier few, used-is-absent octets m left (n + 1) a (omega arith) (omega arith) few)
 
 -- entry by entry: each is in range, and unused or absent from the later ones
-entries-in-range : (octets : List ℕ) (left n : ℕ) → Accepted octets → n + left ≡ 8 → scenesInRange (entries octets left n) ≡ true
+entries-in-range : (octets : List ℕ) (left n : ℕ) → GoodParameters octets → n + left ≡ 8 → scenesInRange (entries octets left n) ≡ true
 unfolding scenesInRange entries sceneAt
 entries-in-range octets zero n a end = refl
 entries-in-range octets (suc left) n a end =

@@ -25,10 +25,11 @@ use Rattle.rules.specs.Soundness.{sound}
 use Rattle.base.specs.Refusals.{stampInRange}
 use Rattle.rules.specs.Parameters.{checkParameters}
 use Rattle.rules.specs.Calls.{freshBy, freshCall, places, singleDone, singleRefused, singleMeant, singleCall, moveDone, moveRefused, moveCall}
+use Rattle.rules.specs.Refusals.{GoodParameters, FirstBad, FoundWhen, FreshCodes, SingleCodes, MoveCodes}
 use Rattle.base.proofs.Tests.{both, no}
 use Rattle.rules.proofs.Laws.Soundness.{own-state-is-sound, move-is-sound, step-is-sound}
 use Rattle.rules.proofs.Laws.Inputs.{input-number}
-use Rattle.rules.proofs.Laws.Parameters.{Accepted, FirstBad, GivenWhen, lowest-bad-octet, passed-is-sound}
+use Rattle.rules.proofs.Laws.Parameters.{lowest-bad-octet, passed-is-sound}
 use Rattle.rules.proofs.Laws.Records.{a-move-writes-at-most-two, an-input-writes-at-most-three, places-hold-all}
 
 not-meant : {A : Type 0} {i : Input} → Wrong ≡ Meant i → A
@@ -65,13 +66,6 @@ module _ (s : State) (octets : List ℕ) where
   pub good-is-played : (i : Input) → sound s ≡ true → inputAt octets 0 ≡ Meant i → stampInRange (s .clock) (stampAt octets 0) ≡ true → singleCall s octets ≡ singleDone (step s i (stampAt octets 0))
   unfolding singleCall singleMeant
   good-is-played i h m e = rw (h, m, e)
-
--- each code of a single input, exactly when the table gives it
-pub record SingleCodes (s : State) (octets : List ℕ) (code : ℕ) : Type 0 where
-  pub nine : (code ≡ 9) ↔ (sound s ≡ false)
-  pub six : (code ≡ 6) ↔ ((sound s ≡ true) × (inputAt octets 0 ≡ Wrong))
-  pub seven : (code ≡ 7) ↔ ((i : Input) × (sound s ≡ true) × (inputAt octets 0 ≡ Meant i) × (stampInRange (s .clock) (stampAt octets 0) ≡ false))
-  pub zero : (code ≡ 0) ↔ ((i : Input) × (sound s ≡ true) × (inputAt octets 0 ≡ Meant i) × (stampInRange (s .clock) (stampAt octets 0) ≡ true))
 
 pub single-refused-exactly-when : (s : State) (octets : List ℕ) → SingleCodes s octets (singleCall s octets .code)
 single-refused-exactly-when s octets = by (single-finds s octets)
@@ -143,12 +137,6 @@ move-finds s stamp = by (sound s) (stampInRange (s .clock) stamp) refl refl
     by false c h e = MoveFinds.not-sound h
     by true false h e = MoveFinds.untimely h e
     by true true h e = moves h e
-
--- each code of a clock move, exactly when the table gives it
-pub record MoveCodes (s : State) (stamp code : ℕ) : Type 0 where
-  pub nine : (code ≡ 9) ↔ (sound s ≡ false)
-  pub seven : (code ≡ 7) ↔ ((sound s ≡ true) × (stampInRange (s .clock) stamp ≡ false))
-  pub zero : (code ≡ 0) ↔ ((sound s ≡ true) × (stampInRange (s .clock) stamp ≡ true))
 
 pub move-refused-exactly-when : (s : State) (stamp : ℕ) → MoveCodes s stamp (moveCall s stamp .code)
 move-refused-exactly-when s stamp = by (move-finds s stamp)
@@ -226,21 +214,14 @@ fresh-call-is-sound octets small = by (checkParameters octets) refl
     by Passed h = unfold freshBy in passed-is-sound octets small h
     by (Refused why place) h = unfold freshBy in own-state-is-sound
 
--- each code of parameters alone, exactly when the table gives it, with its place
-pub record FreshCodes (octets : List ℕ) (code place : ℕ) : Type 0 where
-  pub one : (code ≡ 1) ↔ (length octets ≡ 32 → ⊥)
-  pub five : (code ≡ 5) ↔ FirstBad octets place
-  pub zero : (code ≡ 0) ↔ Accepted octets
-  pub no-place : (code ≡ 5 → ⊥) → place ≡ 0
-
 pub fresh-refused-exactly-when : (octets : List ℕ) → FreshCodes octets (freshCall octets .code) (freshCall octets .place)
 unfolding freshCall
 fresh-refused-exactly-when octets = by (checkParameters octets) (lowest-bad-octet octets (checkParameters octets) .0 refl)
   where
-    good-is-not-bad : (at : ℕ) → Accepted octets → FirstBad octets at → ⊥
+    good-is-not-bad : (at : ℕ) → GoodParameters octets → FirstBad octets at → ⊥
     good-is-not-bad at a f = no (sym (a .good at (f .within)) ∙ f .bad)
 
-    by : (c : Check) → GivenWhen octets c → FreshCodes octets (freshBy octets c .code) (freshBy octets c .place)
+    by : (c : Check) → FoundWhen octets c → FreshCodes octets (freshBy octets c .code) (freshBy octets c .place)
     by Passed a =
         unfold freshBy in
         record {

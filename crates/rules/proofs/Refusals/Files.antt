@@ -26,77 +26,9 @@ use Rattle.rules.specs.Lists.{Cue, cue}
 use Rattle.rules.specs.Parameters.{checkParameters}
 use Rattle.rules.specs.Layout.{inputPlace}
 use Rattle.rules.specs.Files.{version, actuators, parametersOffset, inputCount, inputsOffset, endTime, parametersIn, layoutRight, Reading, cues, bad, before, readOne, readInputs, afterCheck, readFile}
+use Rattle.rules.specs.Refusals.{FoundWhen, GoodLayout, GoodHeader, GoodStart, stampBefore, GoodInput, FirstWrong, FirstUntimely, GivenWhen, GoodFile, CueAt, Says}
 use Rattle.base.proofs.Tests.{no, both, cond-case}
-use Rattle.rules.proofs.Laws.Parameters as accepted
 use Rattle.rules.proofs.Laws.Parameters.{lowest-bad-octet}
-
--- ---- the rows of the table
-
--- "offset of parameters (20); .. count n of inputs (0 to 2,048); .. offset of inputs (52); .. end time (at most 864,000).
--- The file is exactly 52+8n octets."
-pub record GoodLayout (file : List ℕ) : Type 0 where
-  pub parameters : parametersOffset file ≡ 20
-  pub few : inputCount file ≤ 2048
-  pub inputs : inputsOffset file ≡ 52
-  pub end : endTime file ≤ 864_000
-  pub whole : length file ≡ 52 + 8 * inputCount file
-
--- rows 1 to 4 do not hold
-pub record GoodHeader (file : List ℕ) : Type 0 where
-  pub long : 52 ≤ length file
-  pub version : version file ≡ 1
-  pub actuators : actuators file ≡ 1
-  pub layout : GoodLayout file
-
--- nor does row 5
-pub record GoodStart (file : List ℕ) : Type 0 where
-  pub header : GoodHeader file
-  pub passed : checkParameters (parametersIn file) ≡ Passed
-
--- the stamp before that of an input; before the first it is 0
-abbrev pub stampBefore : List ℕ → ℕ → ℕ
-stampBefore file zero = 0
-stampBefore file (suc j) = stampAt file (inputPlace j)
-
--- an input that neither row 6 nor row 7 holds for
-pub record GoodInput (file : List ℕ) (j : ℕ) : Type 0 where
-  pub input : Input
-  pub means : inputAt file (inputPlace j) ≡ Meant input
-  pub risen : stampBefore file j ≤ stampAt file (inputPlace j)
-  pub timely : stampAt file (inputPlace j) ≤ endTime file
-
--- row 6 holds for this input, and no row for any before it
-pub record FirstWrong (file : List ℕ) (place : ℕ) : Type 0 where
-  pub start : GoodStart file
-  pub within : place < inputCount file
-  pub wrong : inputAt file (inputPlace place) ≡ Wrong
-  pub good : (j : ℕ) → j < place → GoodInput file j
-
--- row 7 holds for this input but not row 6, and no row for any before it
-pub record FirstUntimely (file : List ℕ) (place : ℕ) : Type 0 where
-  pub start : GoodStart file
-  pub within : place < inputCount file
-  pub input : Input
-  pub means : inputAt file (inputPlace place) ≡ Meant input
-  pub untimely : (stampAt file (inputPlace place) < stampBefore file place) ⊎ (endTime file < stampAt file (inputPlace place))
-  pub good : (j : ℕ) → j < place → GoodInput file j
-
--- when a file is refused for a reason, at a place
-abbrev pub GivenWhen : List ℕ → Refusal → ℕ → Type 0
-GivenWhen file WrongLength place = (place ≡ 0) × (length file < 52)
-GivenWhen file WrongVersion place = (place ≡ 0) × (52 ≤ length file) × (version file ≡ 1 → ⊥)
-GivenWhen file WrongActuators place = (place ≡ 0) × (52 ≤ length file) × (version file ≡ 1) × (actuators file ≡ 1 → ⊥)
-GivenWhen file WrongLayout place = (place ≡ 0) × (52 ≤ length file) × (version file ≡ 1) × (actuators file ≡ 1) × (GoodLayout file → ⊥)
-GivenWhen file BadParameter place = GoodHeader file × (checkParameters (parametersIn file) ≡ Refused BadParameter place)
-GivenWhen file BadInput place = FirstWrong file place
-GivenWhen file BadStamp place = FirstUntimely file place
-GivenWhen file ShortBuffer place = ⊥
-GivenWhen file UnsoundState place = ⊥
-
--- no row holds
-pub record GoodFile (file : List ℕ) : Type 0 where
-  pub start : GoodStart file
-  pub good : (j : ℕ) → j < inputCount file → GoodInput file j
 
 -- ---- the tests of the header
 
@@ -231,9 +163,9 @@ read-given file =
     by header Passed e = inputs-given file (record { header = header; passed = e }) (inputCount file) 0 (omega arith) (below-none _)
     by header (Refused why place) e = refused why (lowest-bad-octet (parametersIn file) (Refused why place) .0 e) e
       where
-        refused : (why : Refusal) → accepted.GivenWhen (parametersIn file) (Refused why place) → checkParameters (parametersIn file) ≡ Refused why place → GivenWhen file why place
+        refused : (why : Refusal) → FoundWhen (parametersIn file) (Refused why place) → checkParameters (parametersIn file) ≡ Refused why place → GivenWhen file why place
         refused WrongLength g e = absurd (g .1 (parameters-whole file (header .long)))
-        refused BadParameter g e = (header, e)
+        refused BadParameter g e = (header, g)
 
 -- an accepted file is good; here by its octets, input by input
 pub good-file : (file : List ℕ) (list : List Cue) → readFile file ≡ cues list → GoodFile file
@@ -285,7 +217,7 @@ refused-exactly-when file why place = (λ e. rw e at (read-given file), by why)
     by WrongVersion g = other-version file (g .1) (g .2) ∙ rw (g .0)
     by WrongActuators g = other-actuators file (g .1) (g .2) (g .3) ∙ rw (g .0)
     by WrongLayout g = other-layout file (g .1) (g .2) (g .3) (layout-false file (g .4)) ∙ rw (g .0)
-    by BadParameter g = good-header file (g .0) ∙ rw (g .1)
+    by BadParameter g = good-header file (g .0) ∙ rw (lowest-bad-octet (parametersIn file) (Refused BadParameter place) .1 (g .1))
     by BadInput g = good-start file (g .start) ∙ first-ends file BadInput place (inputCount file) 0 (omega arith) (omega (arith, g .within)) (g .good) (λ later. wrong-ends file place later (g .wrong))
     by BadStamp g =
         good-start file (g .start) ∙
@@ -293,18 +225,6 @@ refused-exactly-when file why place = (λ e. rw e at (read-given file), by why)
         (λ later. untimely-ends file place later (g .input) (g .means) (g .untimely))
 
 -- ---- the cues of an accepted file
-
--- the k-th of a list of cues, from 0
-abbrev pub CueAt : List Cue → ℕ → Cue → Type 0
-CueAt [] k c = ⊥
-CueAt (d ∷ later) zero c = d ≡ c
-CueAt (d ∷ later) (suc k) c = CueAt later k c
-
--- what input j of a file says is the k-th cue
-pub record Says (file : List ℕ) (j : ℕ) (list : List Cue) (k : ℕ) : Type 0 where
-  pub input : Input
-  pub means : inputAt file (inputPlace j) ≡ Meant input
-  pub listed : CueAt list k (cue (stampAt file (inputPlace j)) input)
 
 -- these many inputs from index i on
 record SaysFrom (file : List ℕ) (i left : ℕ) (list : List Cue) : Type 0 where

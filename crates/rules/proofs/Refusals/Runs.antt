@@ -1,13 +1,16 @@
 -- The run over a cue file: what it finds, what it writes, and how much.
-use Prim.Native.Nat.{ℕ, _+_, _*_, _≤_}
-use mathlib.Core.Bool.{Bool, true, false}
+use Prim.Native.Nat.{ℕ, _+_, _*_, _≤_, _<_}
+use mathlib.Core.Bool.{Bool, true, false, cond}
 use mathlib.Core.List.{List, [], _∷_, _++_}
-use mathlib.Core.Logic.{_↔_}
-use mathlib.Core.Path.{_≡_, refl, _∙_}
+use mathlib.Core.Logic.{_↔_, _⊎_, inl, inr, ⊎-elim}
+use mathlib.Core.Path.{_≡_, refl, sym, ap, _∙_}
 use native.Mathlib.Omega.{arith}
 use lib.ListN.{length, drop, length-append}
+use lib.Dec.{eqb, leb}
+use borrow.Author.Tests.{leb-true, le-leb}
 use Rattle.rules.specs.declared.state.State.{State}
 use Rattle.rules.specs.declared.record.Record.{Record}
+use Rattle.rules.specs.declared.call.Ran.{Ran}
 use Rattle.base.specs.declared.refusal.Refusal.{Refusal}
 use Rattle.base.specs.declared.refusal.Refusal.the-variants.{WrongLength, WrongVersion, WrongActuators, WrongLayout, BadParameter, BadInput, BadStamp, ShortBuffer, UnsoundState}
 use Rattle.rules.specs.Parameters.{paramsOf, scenesOf}
@@ -17,9 +20,12 @@ use Rattle.base.specs.Refusals.{number}
 use Rattle.rules.specs.Calls.{ownState}
 use Rattle.rules.specs.Files.{Reading, cues, bad, inputCount, endTime, parametersIn, readFile, roomy, ifRoomy, readCall}
 use Rattle.octets.specs.BigEndian.{octets32}
-use Rattle.rules.specs.Runs.{recordOctets, recordsOctets, over, Whole, playFile, accepted, refused, runBy, runCall}
+use Rattle.rules.specs.Layout.{recordsRoom}
+use Rattle.rules.specs.Refusals.{GivenWhen, GoodFile, RoomFor, RunCodes, TakenApart}
+use Rattle.rules.specs.Runs.{recordOctets, recordsOctets, over, Whole, playFile, accepted, refused, runBy, runCall, packed, answeredBy, houseRun}
 use Rattle.rules.proofs.Laws.Records.{a-move-writes-at-most-two, an-input-writes-at-most-three}
-use Rattle.rules.proofs.Refusals.Files.{cues-are-the-octets}
+use Rattle.base.proofs.Tests.{no, both}
+use Rattle.rules.proofs.Refusals.Files.{good-file, refused-exactly-when, accepted-exactly-when, cues-are-the-octets}
 
 -- ---- what a run finds
 
@@ -68,14 +74,119 @@ some-number BadStamp = omega arith
 some-number ShortBuffer = omega arith
 some-number UnsoundState = omega arith
 
--- a run is accepted exactly when its file is and both buffers have room
-pub run-accepted-exactly-when : (file records answers : List ℕ) → (runCall file records answers .report .code ≡ 0) ↔ ((list : List Cue) × (readFile file ≡ cues list) × (roomy file records answers ≡ true))
-run-accepted-exactly-when file records answers = (by (run-finds file records answers), λ e. rw (a-good-file-is-played file records answers (e .0) (e .1) (e .2)) (unfold accepted in refl))
-  where
-    by : {w : Whole} → RunFinds file records answers w → w .report .code ≡ 0 → (list : List Cue) × (readFile file ≡ cues list) × (roomy file records answers ≡ true)
-    by (at-fault why place read) zero = unfold refused in absurd (omega (arith, some-number why, zero))
-    by (no-room list read room) zero = unfold refused in absurd (omega (arith, zero))
-    by (played list read room) zero = (list, read, room)
+-- no two rows of the table have one number
+refusalOf : ℕ → Refusal
+refusalOf n =
+    cond (eqb n 1) WrongLength
+    (cond (eqb n 2) WrongVersion
+    (cond (eqb n 3) WrongActuators
+    (cond (eqb n 4) WrongLayout
+    (cond (eqb n 5) BadParameter
+    (cond (eqb n 6) BadInput
+    (cond (eqb n 7) BadStamp
+    (cond (eqb n 8) ShortBuffer UnsoundState)))))))
+
+number-back : (why : Refusal) → refusalOf (number why) ≡ why
+unfolding refusalOf
+number-back WrongLength = refl
+number-back WrongVersion = refl
+number-back WrongActuators = refl
+number-back WrongLayout = refl
+number-back BadParameter = refl
+number-back BadInput = refl
+number-back BadStamp = refl
+number-back ShortBuffer = refl
+number-back UnsoundState = refl
+
+module _ (file records answers : List ℕ) where
+  abbrev code : ℕ
+  code = runCall file records answers .report .code
+
+  abbrev place : ℕ
+  place = runCall file records answers .report .place
+
+  -- so code and place name what the call reads
+  told : (why : Refusal) (p : ℕ) → (code ≡ number why) × (place ≡ p) → readCall file records answers ≡ bad why p
+  unfolding runCall runBy accepted refused
+  told why p = by (readCall file records answers)
+    where
+      by : (x : Reading) → (runBy x file records answers .report .code ≡ number why) × (runBy x file records answers .report .place ≡ p) → x ≡ bad why p
+      by (cues list) e = absurd (omega (arith, some-number why, e .0))
+      by (bad other q) e = let same : other ≡ why = sym (number-back other) ∙ ap refusalOf (e .0) ∙ number-back why in rw (same, e .1) refl
+
+  -- the buffers' room, as the table has it
+  room-true : roomy file records answers ≡ true → RoomFor (inputCount file) records answers
+  unfolding roomy
+  room-true h = let e = both (leb (recordsRoom (inputCount file)) (length records)) _ h in record { wide = leb-true _ _ (e .0); long = leb-true _ _ (e .1) }
+
+  room-good : RoomFor (inputCount file) records answers → roomy file records answers ≡ true
+  unfolding roomy
+  room-good r = simp (le-leb (recordsRoom (inputCount file)) (length records) (r .wide), le-leb (inputCount file) (length answers) (r .long))
+
+  -- a call is refused for what its file is refused for, or, with a good file, for its buffers
+  call-refused : (why : Refusal) (p : ℕ) → readCall file records answers ≡ bad why p → GivenWhen file why p ⊎ ((number why ≡ 8) × GoodFile file × (RoomFor (inputCount file) records answers → ⊥))
+  unfolding readCall
+  call-refused why p = by (roomy file records answers) (readFile file) refl refl
+    where
+      by : (b : Bool) (x : Reading) → roomy file records answers ≡ b → readFile file ≡ x → ifRoomy b x ≡ bad why p → GivenWhen file why p ⊎ ((number why ≡ 8) × GoodFile file × (RoomFor (inputCount file) records answers → ⊥))
+      by true x room read e = inl (refused-exactly-when file why p .0 (read ∙ e))
+      by false (bad other q) room read e = inl (refused-exactly-when file why p .0 (read ∙ e))
+      by false (cues list) room read e = inr (cc, good-file file list read, λ wide. no (sym room ∙ room-good wide))
+
+  -- each row but the eighth is the file's
+  row : (why : Refusal) (p : ℕ) → (number why ≡ 8 → ⊥) → ((code ≡ number why) × (place ≡ p)) ↔ GivenWhen file why p
+  row why p other = (λ e. ⊎-elim (λ g. g) (λ short. absurd (other (short .0))) (call-refused why p (told why p e)), λ g. rw (code, place, a-bad-file-is-refused file records answers why p (refused-exactly-when file why p .1 g)) (unfold refused in (refl, refl)))
+
+  zero-means : code ≡ 0 → GoodFile file × RoomFor (inputCount file) records answers
+  zero-means = by (run-finds file records answers)
+    where
+      by : {w : Whole} → RunFinds file records answers w → w .report .code ≡ 0 → GoodFile file × RoomFor (inputCount file) records answers
+      by (at-fault why p read) zero = unfold refused in absurd (omega (arith, some-number why, zero))
+      by (no-room list read room) zero = unfold refused in absurd (omega (arith, zero))
+      by (played list read room) zero = (good-file file list read, room-true room)
+
+  zero-given : GoodFile file × RoomFor (inputCount file) records answers → code ≡ 0
+  zero-given g = let read = accepted-exactly-when file .1 (g .0) in rw (code, a-good-file-is-played file records answers (read .0) (read .1) (room-good (g .1))) (unfold accepted in refl)
+
+  eight-given : GoodFile file × (RoomFor (inputCount file) records answers → ⊥) → code ≡ 8
+  eight-given g = by (roomy file records answers) refl
+    where
+      by : (b : Bool) → roomy file records answers ≡ b → code ≡ 8
+      by true room = absurd (g .1 (room-true room))
+      by false room = let read = accepted-exactly-when file .1 (g .0) in rw (code, a-short-buffer-is-refused file records answers (read .0) (read .1) room) (unfold refused in refl)
+
+  no-place : (code ≡ 5 → ⊥) → (code ≡ 6 → ⊥) → (code ≡ 7 → ⊥) → place ≡ 0
+  no-place = by (run-finds file records answers)
+    where
+      rows : (why : Refusal) (p : ℕ) → GivenWhen file why p → (number why ≡ 5 → ⊥) → (number why ≡ 6 → ⊥) → (number why ≡ 7 → ⊥) → p ≡ 0
+      rows WrongLength p g a b c = g .0
+      rows WrongVersion p g a b c = g .0
+      rows WrongActuators p g a b c = g .0
+      rows WrongLayout p g a b c = g .0
+      rows BadParameter p g a b c = absurd (a refl)
+      rows BadInput p g a b c = absurd (b refl)
+      rows BadStamp p g a b c = absurd (c refl)
+
+      by : {w : Whole} → RunFinds file records answers w → (w .report .code ≡ 5 → ⊥) → (w .report .code ≡ 6 → ⊥) → (w .report .code ≡ 7 → ⊥) → w .report .place ≡ 0
+      by (at-fault why p read) = unfold refused in rows why p (refused-exactly-when file why p .0 read)
+      by (no-room list read room) = unfold refused in λ a b c. refl
+      by (played list read room) = unfold accepted in λ a b c. refl
+
+  -- "Given exactly when", of the run
+  pub run-refused-exactly-when : RunCodes file records answers code place
+  run-refused-exactly-when =
+      record {
+        one = (λ e. row WrongLength place (λ o. omega arith) .0 (e, refl) .1, λ short. row WrongLength 0 (λ o. omega arith) .1 (refl, short) .0);
+        two = (λ e. let g = row WrongVersion place (λ o. omega arith) .0 (e, refl) in (g .1, g .2), λ g. row WrongVersion 0 (λ o. omega arith) .1 (refl, g .0, g .1) .0);
+        three = (λ e. let g = row WrongActuators place (λ o. omega arith) .0 (e, refl) in (g .1, g .2, g .3), λ g. row WrongActuators 0 (λ o. omega arith) .1 (refl, g .0, g .1, g .2) .0);
+        four = (λ e. let g = row WrongLayout place (λ o. omega arith) .0 (e, refl) in (g .1, g .2, g .3, g .4), λ g. row WrongLayout 0 (λ o. omega arith) .1 (refl, g .0, g .1, g .2, g .3) .0);
+        five = λ p. row BadParameter p (λ o. omega arith);
+        six = λ p. row BadInput p (λ o. omega arith);
+        seven = λ p. row BadStamp p (λ o. omega arith);
+        eight = (λ e. ⊎-elim (λ g. absurd g) (λ short. (short .1, short .2)) (call-refused ShortBuffer place (told ShortBuffer place (e, refl))), eight-given);
+        zero = (zero-means, zero-given);
+        no-place = no-place;
+      }
 
 -- "A refused call writes nothing to the lent memory", its count is 0, and its state is the fresh one of the table
 pub a-refused-run-writes-nothing : (file records answers : List ℕ) → (runCall file records answers .report .code ≡ 0 → ⊥) →
@@ -141,3 +252,36 @@ module _ (file records answers : List ℕ) (list : List Cue) (read : readFile fi
   pub records-are-as-counted : runCall file records answers .records ≡ recordsOctets (playFile file list .records) ++ drop (8 * runCall file records answers .report .count) records
   unfolding accepted over
   records-are-as-counted = rw (a-good-file-is-played file records answers list read room, records-length (playFile file list .records))
+
+-- ---- the number to C
+
+-- code, place and count are found again in the number that they are packed into, where place and count have room
+apart : (r : Ran) → r .place < 65_536 → r .count < 4_294_967_296 → TakenApart (packed r) r
+unfolding packed
+apart r narrow few =
+    record {
+      code = omega (arith, narrow, few);
+      place = omega (arith, narrow, few);
+      count = omega (arith, narrow, few);
+    }
+
+-- they have: a place is an octet of the parameters or the index of an input, and a count is at most 3n+3
+narrow-place : (file : List ℕ) (why : Refusal) (p : ℕ) → GivenWhen file why p → p < 65_536
+narrow-place file WrongLength p g = omega (arith, g .0)
+narrow-place file WrongVersion p g = omega (arith, g .0)
+narrow-place file WrongActuators p g = omega (arith, g .0)
+narrow-place file WrongLayout p g = omega (arith, g .0)
+narrow-place file BadParameter p g = omega (arith, g .1 .within)
+narrow-place file BadInput p g = omega (arith, g .within, g .start .header .layout .few)
+narrow-place file BadStamp p g = omega (arith, g .within, g .start .header .layout .few)
+
+pub the-number-is-taken-apart : (file records answers : List ℕ) → TakenApart (houseRun file records answers .number) (runCall file records answers .report)
+unfolding houseRun answeredBy
+the-number-is-taken-apart file records answers = by (run-finds file records answers) refl
+  where
+    by : {w : Whole} → RunFinds file records answers w → runCall file records answers ≡ w → TakenApart (packed (w .report)) (w .report)
+    by (at-fault why p read) e = unfold refused in apart _ (narrow-place file why p (refused-exactly-when file why p .0 read)) (omega arith)
+    by (no-room list read room) e = unfold refused in apart _ (omega arith) (omega arith)
+    by (played list read room) e =
+        let few = rw e at (record-count-is-one-plus-changes file records answers list read room .1) in
+        unfold accepted in apart _ (omega arith) (omega (arith, few, good-file file list read .start .header .layout .few))

@@ -1,7 +1,7 @@
 use mathlib.Core.Path.{sym, _∙_, ap}
 use borrow.Author.Needs.{needs}
+use Rattle.rules.specs.Files.{verdict}
 use Rattle.rules.proofs.Refusals.Files.{layout-true, short-file, other-version, other-actuators, other-layout, good-header}
-use Rattle.cues.specs.Verdict.{verdict}
 use Rattle.cues.proofs.check.check_file.Statement.{statement}
 use Rattle.cues.proofs.check.check_file.Tie as tie
 

@@ -3,8 +3,7 @@ use mathlib.Core.Path.{_≡_, sym, _∙_}
 use native.Mathlib.Nat.{sub-zero}
 use denote.Ref.{now}
 use borrow.Author.Needs.{needs}
-use Rattle.rules.specs.Files.{readInputs}
-use Rattle.cues.specs.Verdict.{verdict}
+use Rattle.rules.specs.Files.{readInputs, verdict}
 use Rattle.cues.proofs.Inputs.{none-left, good-goes-on, bad-ends}
 use Rattle.cues.proofs.check.check_inputs.Statement.{statement}
 use Rattle.cues.proofs.check.check_inputs.Tie as tie

@@ -1,5 +1,5 @@
 use mathlib.Core.Path.{sym, _∙_}
-use Rattle.cues.specs.Verdict.{checkOne}
+use Rattle.cues.specs.Checks.{checkOne}
 use borrow.Author.Needs.{needs}
 use Rattle.cues.proofs.check.check_one.Statement.{statement}
 use Rattle.cues.proofs.check.check_one.Tie as tie
