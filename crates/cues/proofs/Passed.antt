@@ -6,7 +6,8 @@ use native.Mathlib.Omega.{arith}
 use Rattle.base.specs.declared.refusal.Check.the-variants.{Passed}
 use Rattle.rules.specs.Lists.{Cue}
 use Rattle.rules.specs.Files.{Reading, cues, bad, readFile, verdict}
-use Rattle.rules.proofs.Refusals.Files.{GoodFile, good-file}
+use Rattle.rules.specs.Refusals.{GoodFile}
+use Rattle.rules.proofs.Refusals.Files.{good-file}
 
 -- only a list of cues passes
 pub passed-has-cues : (reading : Reading) → verdict reading ≡ Passed → (list : List Cue) × (reading ≡ cues list)

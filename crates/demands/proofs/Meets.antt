@@ -19,17 +19,18 @@ use Rattle.rules.specs.Parameters.{paramsOf, scenesOf}
 use Rattle.rules.specs.Status.{recordOf, sameStatus, written}
 use Rattle.rules.specs.Steps.{fresh, ticked, clockMove, step}
 use Rattle.rules.specs.Lists.{Cue, cue, Played, plays, playsTo}
-use Rattle.base.specs.Refusals.{number}
+use Rattle.base.specs.Refusals.{number, codeOf, placeOf}
 use Rattle.rules.specs.Calls.{singleDone, singleRefused, singleCall}
-use Rattle.rules.specs.Files.{Reading, cues, bad, inputCount, endTime, parametersIn, readFile, roomy, ifRoomy, readCall}
+use Rattle.rules.specs.Files.{Reading, cues, bad, inputCount, endTime, parametersIn, readFile, roomy, ifRoomy, readCall, verdict}
 use Rattle.octets.specs.BigEndian.{octets32}
 use Rattle.octets.proofs.BothWays.{what-is-written-is-read}
 use Rattle.rules.specs.Runs.{recordOctets, recordsOctets, over, Whole, playFile, accepted, refused, runBy, runCall}
 use Rattle.rules.specs.Promises.{DarkShown, LightStamped}
-use Rattle.demands.specs.Demands.{Model, AnswersAll, RefusesCleanly, StaysWithin, HandedBack, SingleAnswers, Judges, PlaysAll, changed, changedByTimers, changes, CountsChanges, recordsIn, recordsOf, Keeps, Meets, tableCode, tablePlace}
+use Rattle.demands.specs.Demands.{Model, AnswersAll, RefusesCleanly, StaysWithin, HandedBack, SingleAnswers, Judges, PlaysAll, changed, changedByTimers, changes, CountsChanges, recordsIn, recordsOf, Keeps, Meets}
 use Rattle.base.proofs.Tests.{both}
+use Rattle.rules.specs.Refusals.{GivenWhen}
 use Rattle.rules.proofs.Refusals.Calls.{SingleFinds, single-finds, single-refusal-changes-nothing, single-place-is-zero}
-use Rattle.rules.proofs.Refusals.Files.{GivenWhen, refused-exactly-when}
+use Rattle.rules.proofs.Refusals.Files.{refused-exactly-when}
 use Rattle.rules.proofs.Refusals.Runs.{RunFinds, at-fault, no-room, played, run-finds, a-good-file-is-played, some-number, a-refused-run-writes-nothing, records-length, record-count-is-one-plus-changes, answers-are-n}
 use Rattle.rules.proofs.Laws.Lists.{plays-to-next}
 use Rattle.rules.proofs.Promises.Stamps.{step-records}
@@ -80,7 +81,7 @@ our-run-judges : Judges runCall
 unfolding runCall runBy accepted refused
 our-run-judges file records answers = by (readCall file records answers)
   where
-    by : (x : Reading) → (runBy x file records answers .report .code ≡ tableCode x) × (runBy x file records answers .report .place ≡ tablePlace x)
+    by : (x : Reading) → (runBy x file records answers .report .code ≡ codeOf (verdict x)) × (runBy x file records answers .report .place ≡ placeOf (verdict x))
     by (cues list) = (refl, refl)
     by (bad why place) = (refl, refl)
 
@@ -221,7 +222,7 @@ two-models-agree m n f g file records answers = by (readCall file records answer
         let count = f .counts-changes file records answers list read ∙ sym (g .counts-changes file records answers list read) in
         same-whole (m file records answers) (n file records answers) (a .state ∙ sym (b .state)) code place count (a .records ∙ sym (b .records)) (a .answers ∙ sym (b .answers))
     by (bad why x) read =
-        let table : tableCode (readCall file records answers) ≡ number why = ap tableCode read in
+        let table : codeOf (verdict (readCall file records answers)) ≡ number why = ap (λ (x : Reading). codeOf (verdict x)) read in
         let a = f .refuses-cleanly file records answers (λ zero. omega (arith, f .judges file records answers .0, table, zero, some-number why)) in
         let b = g .refuses-cleanly file records answers (λ zero. omega (arith, g .judges file records answers .0, table, zero, some-number why)) in
         same-whole (m file records answers) (n file records answers) (a .state ∙ sym (b .state)) code place (a .count ∙ sym (b .count)) (a .records ∙ sym (b .records)) (a .answers ∙ sym (b .answers))

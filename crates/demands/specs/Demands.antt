@@ -17,9 +17,9 @@ use Rattle.rules.specs.Parameters.{paramsOf, scenesOf}
 use Rattle.rules.specs.Status.{sameStatus}
 use Rattle.rules.specs.Steps.{fresh, tick, clockMove, step}
 use Rattle.rules.specs.Lists.{Cue, cue, Played}
-use Rattle.base.specs.Refusals.{number}
+use Rattle.base.specs.Refusals.{codeOf, placeOf}
 use Rattle.rules.specs.Calls.{ownState, places}
-use Rattle.rules.specs.Files.{Reading, cues, bad, parametersIn, endTime, readCall}
+use Rattle.rules.specs.Files.{cues, parametersIn, endTime, verdict, readCall}
 use Rattle.rules.specs.Runs.{recordsOctets, over, Whole, playFile}
 use Rattle.rules.specs.Promises.{DarkShown, LightStamped}
 
@@ -67,19 +67,10 @@ pub record SingleAnswers (call : State → List ℕ → Single) : Type 0 where
 -- ---- 2: "Records, answers and end state are those of KNX 7/20/2 Supplement 1 .. and of document 01's rules where it is silent,
 -- input by input and timer by timer."
 
--- the table's code and place: "an accepted call has code 0, place 0"
-abbrev pub tableCode : Reading → ℕ
-tableCode (cues list) = 0
-tableCode (bad why place) = number why
-
-abbrev pub tablePlace : Reading → ℕ
-tablePlace (cues list) = 0
-tablePlace (bad why place) = place
-
 -- 01: "demand 2, which accepts each file outside the table"; "Given exactly when", with its place
 abbrev pub Judges : Model → Type 0
 Judges m =
-    (file records answers : List ℕ) → (m file records answers .report .code ≡ tableCode (readCall file records answers)) × (m file records answers .report .place ≡ tablePlace (readCall file records answers))
+    (file records answers : List ℕ) → (m file records answers .report .code ≡ codeOf (verdict (readCall file records answers))) × (m file records answers .report .place ≡ placeOf (verdict (readCall file records answers)))
 
 -- so it is of every run that the table accepts
 abbrev pub OfEveryAccepted : (List ℕ → List ℕ → List ℕ → List Cue → Type 0) → Type 0

@@ -1,7 +1,8 @@
 use mathlib.Core.Path.{_≡_, sym, _∙_}
 use denote.Ref.{now}
 use Rattle.rules.specs.Files.{cues, readFile}
-use Rattle.rules.proofs.Refusals.Files.{GoodHeader, good-file}
+use Rattle.rules.specs.Refusals.{GoodHeader}
+use Rattle.rules.proofs.Refusals.Files.{good-file}
 use Rattle.player.specs.Playing.{listIn}
 use Rattle.house.proofs.Runs.{file-passed, enough-room, run-refused, run-short, run-accepted}
 use native.Mathlib.Omega.{arith}
