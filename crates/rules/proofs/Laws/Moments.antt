@@ -1,5 +1,6 @@
 -- The state of a run at a moment.
 use Prim.Native.Nat.{ℕ, _≤_, _<_}
+use mathlib.Core.Bool.{Bool, true, false, cond}
 use mathlib.Core.Path.{_≡_, refl}
 use mathlib.Core.List.{List, [], _∷_, _++_}
 use native.Mathlib.Omega.{arith}
@@ -18,6 +19,16 @@ pub at-case : (P : State → Type 0) (t u : ℕ) (i : Input) (later : List Cue) 
 unfolding stateAt upTo plays
 at-case P t u i later s f g =
     cond-case (λ (l : List Cue). P (clockMove (plays l s .state) t .state)) (leb u t) (cue u i ∷ upTo t later) [] (λ past. f (leb-true u t past)) (λ ahead. g (leb-false u t ahead))
+
+-- two lists that go on alike after the same input are alike with it
+pub at-next : (t u : ℕ) (i : Input) (a b : List Cue) (s : State) → stateAt t a (step s i u .state) ≡ stateAt t b (step s i u .state) → stateAt t (cue u i ∷ a) s ≡ stateAt t (cue u i ∷ b) s
+unfolding stateAt upTo plays
+at-next t u i a b s e = by (leb u t)
+  where
+    by : (past : Bool) →
+        clockMove (plays (cond past (cue u i ∷ upTo t a) []) s .state) t .state ≡ clockMove (plays (cond past (cue u i ∷ upTo t b) []) s .state) t .state
+    by true = e
+    by false = refl
 
 pub at-the-end : (t : ℕ) (s : State) → stateAt t [] s ≡ clockMove s t .state
 unfolding stateAt upTo plays
