@@ -116,6 +116,38 @@ AskingAgainIsIdle p scenes list end =
     turnsOff (turnAfter p scenes asked u j .met) j ≡ true →
     MayBeStruck p scenes asked u j later end
 
+-- ---- delays: On
+
+-- an On or scene-on, by the scene table that the input meets
+abbrev pub turnsOn : State → Input → Bool
+turnsOn s (SwitchOnOff value) = value
+turnsOn s (TimedStartStop value) = false
+turnsOn s (NumberedSceneControl true number) = false
+turnsOn s (NumberedSceneControl false number) = recallsOn (recalled (s .scenes) number)
+turnsOn s (SwitchOnOffForced force) = false
+turnsOn s (LockDevice value) = false
+turnsOn s (NightMode value) = false
+turnsOn s (Bus event) = false
+turnsOn s (Power event) = false
+
+-- 01, "Slips we have seen": "A repeated On or Off that starts its delay again."
+-- An On or scene-on that meets a wait for steady light may be struck.
+abbrev pub OnIsIdleWhileItWaits : Params → List Scene → List Cue → ℕ → Type 0
+OnIsIdleWhileItWaits p scenes list end =
+    (before : List Cue) (t : ℕ) (i : Input) (later : List Cue) (d : ℕ) → before ++ (cue t i ∷ later) ≡ list →
+    let x : Turn = turnAfter p scenes before t i in
+    x .met .phase ≡ Starting false d → turnsOn (x .met) i ≡ true → MayBeStruck p scenes before t i later end
+
+-- And no On, timed start or scene-on makes the light later, whatever it meets: where one is taken at t, and nothing that dims is
+-- taken after it up to u, and without it the output is on at u, there with it the house shows light at some moment from t to u.
+abbrev pub OnIsNeverLater : Params → List Scene → List Cue → ℕ → Type 0
+OnIsNeverLater p scenes list end =
+    (before : List Cue) (t : ℕ) (i : Input) (later : List Cue) → before ++ (cue t i ∷ later) ≡ list →
+    let x : Turn = turnAfter p scenes before t i in
+    Taken x → lights (x .met) i ≡ true →
+    (u : ℕ) → t ≤ u → u ≤ end → Each (λ y. y .stamp ≤ u → Taken y → dims (y .met) (y .input) ≡ false) (turns later (x .left)) →
+    output (stateAt u (before ++ later) (fresh p scenes) .phase) ≡ true → ShowsLight t u end later (x .left)
+
 -- ---- rank
 
 -- "They hold a cue back while the lock is set and play it afterwards. An outranked cue is dropped."

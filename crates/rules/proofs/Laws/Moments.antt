@@ -1,7 +1,7 @@
 -- The state of a run at a moment.
 use Prim.Native.Nat.{ℕ, _≤_, _<_}
 use mathlib.Core.Bool.{Bool, true, false, cond}
-use mathlib.Core.Path.{_≡_, refl}
+use mathlib.Core.Path.{_≡_, refl, _∙_}
 use mathlib.Core.List.{List, [], _∷_, _++_}
 use native.Mathlib.Omega.{arith}
 use lib.Dec.{leb}
@@ -62,12 +62,20 @@ module _ (t : ℕ) (i : Input) (later : List Cue) (end : ℕ) where
   rises-from [] last r = r .1
   rises-from (cue u j ∷ before) last r = rises-from before u (r .1)
 
-  -- from t on it has acted, whatever follows it
+  -- from t on all that came before it has acted, whatever follows
+  pub at-past : (before : List Cue) (last : ℕ) → Rises last (before ++ (cue t i ∷ later)) end → (u : ℕ) → t ≤ u → (next : List Cue) (s : State) →
+      stateAt u (before ++ next) s ≡ stateAt u next (plays before s .state)
+  unfolding plays
+  at-past [] last r u past next s = refl
+  at-past (cue v j ∷ before) last r u past next s =
+      at-case (λ (x : State). x ≡ stateAt u next (plays (cue v j ∷ before) s .state)) u v j (before ++ next) s
+      (λ _. at-past before v (r .1) u past next (step s j v .state))
+      (λ ahead. absurd (omega (arith, rises-to before v (r .1))))
+
+  -- and it has acted itself
   pub at-after : (before : List Cue) (last : ℕ) → Rises last (before ++ (cue t i ∷ later)) end → (u : ℕ) → t ≤ u → (next : List Cue) (s : State) →
       stateAt u (before ++ (cue t i ∷ next)) s ≡ stateAt u next (step (plays before s .state) i t .state)
-  unfolding plays
-  at-after [] last r u past next s = at-case (λ (x : State). x ≡ stateAt u next (step s i t .state)) u t i next s (λ _. refl) (λ ahead. absurd (omega arith))
-  at-after (cue v j ∷ before) last r u past next s =
-      at-case (λ (x : State). x ≡ stateAt u next (step (plays (cue v j ∷ before) s .state) i t .state)) u v j (before ++ (cue t i ∷ next)) s
-      (λ _. at-after before v (r .1) u past next (step s j v .state))
-      (λ ahead. absurd (omega (arith, rises-to before v (r .1))))
+  at-after before last r u past next s =
+      let reached : State = plays before s .state in
+      at-past before last r u past (cue t i ∷ next) s
+      ∙ at-case (λ (x : State). x ≡ stateAt u next (step reached i t .state)) u t i next reached (λ _. refl) (λ ahead. absurd (omega arith))

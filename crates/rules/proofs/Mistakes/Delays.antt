@@ -1,7 +1,8 @@
 -- "Newcomers let a repeated Off start the off delay again. A nervous operator then keeps the house lit by asking for dark."
--- A repeated Off leaves the phase, deadline and all, as the first left it; a repeated On leaves the moment of light.
+-- What an Off leaves is Dark, or Ending that is over within the off delay; only what stirs undoes that, and another Off finds nothing
+-- to change in it.
 use Prim.Native.Nat.{ℕ, _+_, _≤_}
-use mathlib.Core.Bool.{Bool, true, false, not, _&&_}
+use mathlib.Core.Bool.{Bool, true, false}
 use mathlib.Core.Path.{_≡_, refl, sym, ap, subst, _∙_}
 use mathlib.Core.List.{List, [], _∷_, _++_, append-assoc}
 use native.Mathlib.Omega.{arith}
@@ -24,8 +25,8 @@ use Rattle.rules.specs.declared.state.State.{State}
 use Rattle.rules.specs.declared.barrier.Barrier.the-variants.{Open}
 use Rattle.base.specs.Time.{earlier}
 use Rattle.rules.specs.Scenes.{recalled, learnt}
-use Rattle.rules.specs.Phases.{output, deadline, litAt, atDeadline, setOn}
-use Rattle.rules.specs.Orders.{on, timedStart, offAfterDelay, off, timedStop, nightFalls, withPhase, withNight, withScenes, standing, switch, timed, recall, learn, scene, nightMode, forced, lockDevice, bus, power, order}
+use Rattle.rules.specs.Phases.{output, deadline, atDeadline}
+use Rattle.rules.specs.Orders.{offAfterDelay, off, timedStop, nightFalls, withPhase, withNight, withScenes, standing, switch, timed, recall, learn, scene, nightMode, forced, lockDevice, bus, power, order}
 use Rattle.rules.specs.Barriers.{row, rows, rowOf, firstBarrier, barrier}
 use Rattle.rules.specs.Steps.{fresh, atMoment, tickAt, tick, ticked, clockMove, step}
 use Rattle.rules.specs.Lists.{Cue, cue, Played, plays}
@@ -127,54 +128,6 @@ night-falls-fades : (p : Params) (t m : ℕ) (phase : Phase) → Fades m phase �
 unfolding nightFalls
 night-falls-fades p t m Dark h = tt
 night-falls-fades p t m (Ending d) h = omega arith
-
--- ---- On and timed start, of a phase
-
--- left to itself, the phase is lit at m at the latest
-abbrev pub LitBy : ℕ → Phase → Type 0
-LitBy m Dark = ⊥
-LitBy m Lit = Unit
-LitBy m (Starting timed d) = d ≤ m
-LitBy m (Timed d) = Unit
-LitBy m (Warning d) = Unit
-LitBy m (Ending d) = Unit
-
-set-on-is-lit : (p : Params) (night held : Bool) (t m : ℕ) → LitBy m (setOn p night held t)
-unfolding setOn litAt
-set-on-is-lit p night held t m = either-way (LitBy m) (night && not held) (Timed (t + p .timedon)) Lit tt tt
-
--- light that waits keeps its moment, light that is on stays on
-pub repeated-on-is-never-later : (p : Params) (night held : Bool) (t m : ℕ) (phase : Phase) → LitBy m phase → LitBy m (on p night held t phase)
-unfolding on
-repeated-on-is-never-later p night held t m Lit h = tt
-repeated-on-is-never-later p night held t m (Starting timed d) h = h
-repeated-on-is-never-later p night held t m (Timed d) h = set-on-is-lit p night held t m
-repeated-on-is-never-later p night held t m (Warning d) h = set-on-is-lit p night held t m
-repeated-on-is-never-later p night held t m (Ending d) h = set-on-is-lit p night held t m
-
-pub repeated-timed-start-is-never-later : (p : Params) (t m : ℕ) (phase : Phase) → LitBy m phase → LitBy m (timedStart p t phase)
-unfolding timedStart
-repeated-timed-start-is-never-later p t m Lit h = tt
-repeated-timed-start-is-never-later p t m (Starting timed d) h = h
-repeated-timed-start-is-never-later p t m (Timed d) h = tt
-repeated-timed-start-is-never-later p t m (Warning d) h = tt
-repeated-timed-start-is-never-later p t m (Ending d) h = tt
-
--- nor is it earlier: while the light waits, its moment stays
-pub repeated-on-keeps-its-deadline : (p : Params) (night held timed : Bool) (t d : ℕ) →
-    (on p night held t (Starting timed d) ≡ Starting false d) × (timedStart p t (Starting timed d) ≡ Starting true d)
-unfolding on timedStart
-repeated-on-keeps-its-deadline p night held timed t d = (refl, refl)
-
--- so an On leaves no trace in a state that waits for steady light
-waiting-is-kept : (p : Params) (night held : Bool) (t d : ℕ) (phase : Phase) → phase ≡ Starting false d → on p night held t phase ≡ phase
-unfolding on
-waiting-is-kept p night held t d phase e = rw e refl
-
-pub repeated-on-leaves-no-trace : (s : State) (u d : ℕ) → clockMove s u .state .phase ≡ Starting false d → LeavesNoTrace s (SwitchOnOff true) u
-unfolding order switch
-repeated-on-leaves-no-trace s u d e =
-    unchanged-leaves-no-trace s (SwitchOnOff true) u (λ _. ap (withPhase (clockMove s u .state)) (waiting-is-kept _ _ _ _ d _ e))
 
 -- ---- Off, of a state
 

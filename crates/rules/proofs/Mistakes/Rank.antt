@@ -74,14 +74,19 @@ unfolding playsTo plays
 struck-at-the-front t end i later s h trace =
     rw (trace .0, trace .1) (simp append-assoc (ap (answeredFirst (step s i t .answer)) (plays-by-way-of t end later s h)))
 
--- at every moment too the state is the one without it
+-- so at a moment from t on the state is the same by way of t
+pub at-by-way-of : (u t end : ℕ) (later : List Cue) (s : State) → t ≤ u → NotBefore t later end → stateAt u later (clockMove s t .state) ≡ stateAt u later s
+unfolding stateAt playsTo
+at-by-way-of u t end later s past h = ap (λ (a : Played). a .state) (plays-by-way-of t u (upTo u later) s (next-up-to-is-later t u later end past h))
+
+-- and at every moment it is the one without the cue
 struck-first : (u t end : ℕ) (i : Input) (later : List Cue) (s : State) → NotBefore t later end → LeavesNoTrace s i t → stateAt u (cue t i ∷ later) s ≡ stateAt u later s
 struck-first u t end i later s h trace =
     at-case (λ (x : State). x ≡ stateAt u later s) u t i later s
-    (λ past. ap (stateAt u later) (trace .0) ∙ (unfold stateAt playsTo in ap (λ (a : Played). a .state) (plays-by-way-of t u (upTo u later) s (next-up-to-is-later t u later end past h))))
+    (λ past. ap (stateAt u later) (trace .0) ∙ at-by-way-of u t end later s past h)
     (λ ahead. sym (at-before t u later end s ahead h))
 
--- and so it is wherever the cue stands
+-- wherever the cue stands
 module _ (v t end : ℕ) (i : Input) (later : List Cue) where
   struck-at-every-moment : (before : List Cue) (s : State) → NotBefore t later end → LeavesNoTrace (plays before s .state) i t → stateAt v (before ++ (cue t i ∷ later)) s ≡ stateAt v (before ++ later) s
   unfolding plays
