@@ -6,9 +6,10 @@ use mathlib.Core.List.{List}
 use Rattle.rules.specs.Parameters.{paramsOf, scenesOf}
 use Rattle.rules.specs.Lists.{Cue}
 use Rattle.rules.specs.Files.{cues, parametersIn, endTime, readFile}
-use Rattle.rules.specs.Mistakes.{TiesKeepListOrder, OffIsHeard, AskingAgainIsIdle, OutrankedIsDropped}
+use Rattle.rules.specs.Mistakes.{TiesKeepListOrder, OffIsHeard, AskingAgainIsIdle, OnIsIdleWhileItWaits, OnIsNeverLater, OutrankedIsDropped}
 use Rattle.rules.proofs.Mistakes.Ties.{ties-keep-list-order-over-the-run}
 use Rattle.rules.proofs.Mistakes.Delays.{an-off-is-heard, asking-again-never-keeps-the-house-lit}
+use Rattle.rules.proofs.Mistakes.Waiting.{an-on-is-idle-while-it-waits, a-repeated-on-is-never-later}
 use Rattle.rules.proofs.Mistakes.Rank.{an-outranked-cue-may-be-struck}
 use Rattle.demands.proofs.EveryFile.{list-rises, has-some-time}
 
@@ -21,6 +22,12 @@ module _ (file : List ℕ) (list : List Cue) (read : readFile file ≡ cues list
 
   pub asking-again-never-keeps-the-house-lit-in-every-accepted-file : AskingAgainIsIdle (paramsOf (parametersIn file)) (scenesOf (parametersIn file)) list (endTime file)
   asking-again-never-keeps-the-house-lit-in-every-accepted-file = asking-again-never-keeps-the-house-lit _ _ list (endTime file) (list-rises file list read)
+
+  pub an-on-is-idle-while-it-waits-in-every-accepted-file : OnIsIdleWhileItWaits (paramsOf (parametersIn file)) (scenesOf (parametersIn file)) list (endTime file)
+  an-on-is-idle-while-it-waits-in-every-accepted-file = an-on-is-idle-while-it-waits _ _ list (endTime file) (list-rises file list read)
+
+  pub a-repeated-on-is-never-later-in-every-accepted-file : OnIsNeverLater (paramsOf (parametersIn file)) (scenesOf (parametersIn file)) list (endTime file)
+  a-repeated-on-is-never-later-in-every-accepted-file = a-repeated-on-is-never-later _ _ list (endTime file) (list-rises file list read) (has-some-time file list read)
 
   pub an-outranked-cue-may-be-struck-in-every-accepted-file : OutrankedIsDropped (paramsOf (parametersIn file)) (scenesOf (parametersIn file)) list (endTime file)
   an-outranked-cue-may-be-struck-in-every-accepted-file = an-outranked-cue-may-be-struck _ _ list (endTime file) (list-rises file list read)

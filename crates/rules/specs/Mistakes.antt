@@ -18,7 +18,7 @@ use Rattle.rules.specs.Phases.{output}
 use Rattle.rules.specs.Orders.{standing}
 use Rattle.rules.specs.Steps.{fresh, clockMove, step}
 use Rattle.rules.specs.Lists.{Cue, cue, Played, andThen, moved, plays, playsTo, start, playList, acts}
-use Rattle.rules.specs.Promises.{Turn, turns, Each, stateAt, Taken, recallsOn, recallsOff, lights, dims, ShowsLight, turnAfter}
+use Rattle.rules.specs.Promises.{Turn, turns, Each, stateAt, Taken, recallsOn, recallsOff, lights, ShowsLight, turnAfter}
 
 -- ---- ties
 
@@ -138,14 +138,15 @@ OnIsIdleWhileItWaits p scenes list end =
     let x : Turn = turnAfter p scenes before t i in
     x .met .phase ≡ Starting false d → turnsOn (x .met) i ≡ true → MayBeStruck p scenes before t i later end
 
--- And no On, timed start or scene-on makes the light later, whatever it meets: where one is taken at t, and nothing that dims is
--- taken after it up to u, and without it the output is on at u, there with it the house shows light at some moment from t to u.
+-- And no On, timed start or scene-on makes the light later, whatever it meets and whatever follows: where one is taken at t, and the
+-- output is on at u without it, there with it the house shows light at some moment from t to u. (Only for a timed start, no timed stop
+-- may be taken up to u. It ends a timed wait alone, and without the start the wait may be a steady one.)
 abbrev pub OnIsNeverLater : Params → List Scene → List Cue → ℕ → Type 0
 OnIsNeverLater p scenes list end =
     (before : List Cue) (t : ℕ) (i : Input) (later : List Cue) → before ++ (cue t i ∷ later) ≡ list →
     let x : Turn = turnAfter p scenes before t i in
-    Taken x → lights (x .met) i ≡ true →
-    (u : ℕ) → t ≤ u → u ≤ end → Each (λ y. y .stamp ≤ u → Taken y → dims (y .met) (y .input) ≡ false) (turns later (x .left)) →
+    Taken x → lights (x .met) i ≡ true → (u : ℕ) → t ≤ u → u ≤ end →
+    (i ≡ TimedStartStop true → Each (λ y. y .stamp ≤ u → Taken y → y .input ≡ TimedStartStop false → ⊥) (turns later (x .left))) →
     output (stateAt u (before ++ later) (fresh p scenes) .phase) ≡ true → ShowsLight t u end later (x .left)
 
 -- ---- rank

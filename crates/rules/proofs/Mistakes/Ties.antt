@@ -7,7 +7,7 @@ use Rattle.rules.specs.declared.parameters.Scene.{Scene}
 use Rattle.rules.specs.declared.input.Input.{Input}
 use Rattle.rules.specs.declared.state.State.{State}
 use Rattle.rules.specs.Steps.{fresh, atMoment, Moved, clockMove, act, step}
-use Rattle.rules.specs.Lists.{Cue, cue, Played, andThen, moved, stepped, plays, playsTo, start, playList, still, acts}
+use Rattle.rules.specs.Lists.{Cue, Played, andThen, moved, stepped, plays, playsTo, start, playList, still, acts}
 use Rattle.rules.specs.Mistakes.{ties, atOneStamp, TiesKeepListOrder}
 use Rattle.rules.proofs.Laws.Soundness.{step-clock, step-params}
 use Rattle.rules.proofs.Laws.Timers.{no-timer-due-no-move}

@@ -107,10 +107,10 @@ module _ (s : State) (d : ℕ) (waits : Waits d (s .phase)) where
   order-waits (Bus event) e = no (sym e)
   order-waits (Power event) e = no (sym e)
 
-pub not-yet-due : (t d : ℕ) (phase : Phase) → t < d → Waits d phase → Quiet t (deadline phase)
+not-yet-due : (t d : ℕ) (phase : Phase) → t < d → Waits d phase → Quiet t (deadline phase)
 not-yet-due t d (Starting timed e) early h = omega arith
 
-pub step-waits : (s : State) (i : Input) (t d : ℕ) → t < d → Waits d (s .phase) → (Taken (turn s t i) → dims (clockMove s t .state) i ≡ false) → Waits d (step s i t .state .phase)
+step-waits : (s : State) (i : Input) (t d : ℕ) → t < d → Waits d (s .phase) → (Taken (turn s t i) → dims (clockMove s t .state) i ≡ false) → Waits d (step s i t .state .phase)
 step-waits s i t d early waits undimmed =
     let there : Waits d (clockMove s t .state .phase) = rw (no-timer-due-no-move s t (not-yet-due t d (s .phase) early waits)) waits in
     step-case (λ (u : State). Waits d (u .phase)) s i t (λ way. order-waits (clockMove s t .state) d there i (undimmed way)) there
