@@ -19,13 +19,13 @@ use Rattle.rules.specs.Barriers.{barrier}
 use Rattle.rules.specs.Status.{value, attributes, sameStatus, recordOf}
 use Rattle.rules.specs.Answers.{answer, samePhase, sameFlags, sameScenes, sameButClock}
 use Rattle.rules.specs.Steps.{Stepped, atMoment, clockMove, taken, meet, act, step}
-use Rattle.rules.specs.Lists.{Played}
+use Rattle.rules.specs.Lists.{Played, still}
 use Rattle.base.proofs.Tests.{eqb-same, beq-same}
 use Rattle.rules.proofs.Laws.Orders.{order-keeps}
 use Rattle.rules.proofs.Laws.Answers.{same-but-clock-is-exact, scenes-same}
 use Rattle.rules.proofs.Laws.Soundness.{move-keeps}
 use Rattle.rules.proofs.Laws.Records.{a-move-writes-at-most-two, one-record-at-most}
-use Rattle.rules.proofs.Laws.Lists.{still, acts-after-the-move}
+use Rattle.rules.proofs.Laws.Lists.{acts-after-the-move}
 use Rattle.lamps.specs.declared.lamp.Lamp.{Lamp}
 use Rattle.lamps.specs.Lamps.{lampOf, stateOf, alone}
 use Rattle.orders.specs.Lights.{isLight, lightPhase}

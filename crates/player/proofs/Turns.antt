@@ -17,7 +17,7 @@ use Rattle.rules.specs.Orders.{order}
 use Rattle.rules.specs.Answers.{stoppedNumber}
 use Rattle.rules.specs.Barriers.{barrier}
 use Rattle.rules.specs.Steps.{Stepped, clockMove, act, step}
-use Rattle.rules.proofs.Laws.Lists.{still, andThen-assoc}
+use Rattle.rules.proofs.Laws.Lists.{andThen-assoc}
 use Rattle.inputs.specs.Meaning.{isMeant}
 use Rattle.lamps.specs.declared.lamp.Lamp.{Lamp}
 use Rattle.lamps.specs.Lamps.{stateOf}
@@ -33,7 +33,7 @@ use Rattle.rules.specs.declared.input.Input.{Input}
 use Rattle.rules.specs.declared.state.State.{State}
 use Rattle.rules.specs.declared.record.Record.{Record}
 use Rattle.rules.specs.Soundness.{sound}
-use Rattle.rules.specs.Lists.{Cue, cue, Played, andThen, stepped, plays}
+use Rattle.rules.specs.Lists.{Cue, cue, Played, andThen, stepped, plays, still}
 use Rattle.rules.specs.Layout.{inputPlace}
 use Rattle.rules.specs.Files.{cues, endTime, readInputs}
 use Rattle.rules.specs.Runs.{recordsOctets}

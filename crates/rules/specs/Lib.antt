@@ -17,3 +17,4 @@ pub mod Runs
 pub mod Soundness
 pub mod Refusals
 pub mod Promises
+pub mod Mistakes

@@ -7,7 +7,7 @@ use Rattle.rules.specs.declared.input.Input.{Input}
 use Rattle.rules.specs.declared.state.State.{State}
 use Rattle.rules.specs.declared.record.Record.{Record}
 use Rattle.rules.specs.Status.{recordOf, byItself}
-use Rattle.rules.specs.Steps.{Moved, Stepped, fresh, clockMove, step}
+use Rattle.rules.specs.Steps.{Moved, Stepped, fresh, clockMove, act, step}
 
 -- an input and its stamp
 pub data Cue : Type 0 where
@@ -46,7 +46,21 @@ plays (cue t i ∷ later) s = andThen (stepped (step s i t)) (plays later)
 unfoldable pub playsTo : ℕ → List Cue → State → Played
 playsTo end cues s = andThen (plays cues s) (λ x. moved (clockMove x end))
 
--- the whole run: "One record is written at the start", then the cues are played to the end time
+-- "One record is written at the start"
+abbrev pub start : Params → List Scene → Played
+start p scenes = record { state = fresh p scenes; answers = []; records = recordOf byItself (fresh p scenes) ∷ [] }
+
+-- the whole run: the start record, then the cues are played to the end time
 unfoldable pub playList : Params → List Scene → List Cue → ℕ → Played
-playList p scenes cues end =
-    andThen (record { state = fresh p scenes; answers = []; records = recordOf byItself (fresh p scenes) ∷ [] }) (playsTo end cues)
+playList p scenes cues end = andThen (start p scenes) (playsTo end cues)
+
+-- ---- while the clock stands
+
+-- a state that no timer has led to
+abbrev pub still : State → Moved
+still s = record { state = s; records = [] }
+
+-- inputs that act one after the other while the clock stands
+unfoldable pub acts : List Input → State → Played
+acts [] s = unplayed s
+acts (i ∷ is) s = andThen (stepped (act (still s) i)) (acts is)

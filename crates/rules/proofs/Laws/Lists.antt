@@ -1,4 +1,4 @@
--- Laws of playing lists, and what inputs give while the clock stands.
+-- Laws of playing lists.
 use mathlib.Core.Path.{_≡_, refl, _∙_}
 use mathlib.Core.List.{List, [], _∷_, _++_, append-assoc, append-nil}
 use Prim.Native.Nat.{ℕ}
@@ -8,19 +8,8 @@ use Rattle.rules.specs.declared.barrier.Barrier.{Barrier}
 use Rattle.rules.specs.declared.barrier.Barrier.the-variants.{Open, Stopped}
 use Rattle.rules.specs.Barriers.{barrier}
 use Rattle.rules.specs.Steps.{Moved, clockMove, taken, meet, act, step}
-use Rattle.rules.specs.Lists.{Cue, cue, Played, andThen, unplayed, moved, stepped, plays, playsTo}
+use Rattle.rules.specs.Lists.{Cue, cue, Played, andThen, moved, stepped, plays, playsTo, still}
 use Rattle.rules.proofs.Laws.Soundness.{step-params}
-
--- a state that no timer has led to
-abbrev pub still : State → Moved
-still s = record { state = s; records = [] }
-
--- inputs that act one after the other while the clock stands
-unfoldable pub acts : List Input → State → Played
-acts [] s = unplayed s
-acts (i ∷ is) s = andThen (stepped (act (still s) i)) (acts is)
-
--- ---- laws
 
 pub andThen-assoc : (a : Played) (f g : State → Played) → andThen (andThen a f) g ≡ andThen a (λ x. andThen (f x) g)
 andThen-assoc a f g = simp append-assoc

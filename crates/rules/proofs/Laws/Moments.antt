@@ -1,6 +1,7 @@
 -- The state of a run at a moment.
 use Prim.Native.Nat.{ℕ, _≤_, _<_}
-use mathlib.Core.Path.{_≡_, refl}
+use mathlib.Core.Bool.{Bool, true, false, cond}
+use mathlib.Core.Path.{_≡_, refl, _∙_}
 use mathlib.Core.List.{List, [], _∷_, _++_}
 use native.Mathlib.Omega.{arith}
 use lib.Dec.{leb}
@@ -18,6 +19,16 @@ pub at-case : (P : State → Type 0) (t u : ℕ) (i : Input) (later : List Cue) 
 unfolding stateAt upTo plays
 at-case P t u i later s f g =
     cond-case (λ (l : List Cue). P (clockMove (plays l s .state) t .state)) (leb u t) (cue u i ∷ upTo t later) [] (λ past. f (leb-true u t past)) (λ ahead. g (leb-false u t ahead))
+
+-- two lists that go on alike after the same input are alike with it
+pub at-next : (t u : ℕ) (i : Input) (a b : List Cue) (s : State) → stateAt t a (step s i u .state) ≡ stateAt t b (step s i u .state) → stateAt t (cue u i ∷ a) s ≡ stateAt t (cue u i ∷ b) s
+unfolding stateAt upTo plays
+at-next t u i a b s e = by (leb u t)
+  where
+    by : (past : Bool) →
+        clockMove (plays (cond past (cue u i ∷ upTo t a) []) s .state) t .state ≡ clockMove (plays (cond past (cue u i ∷ upTo t b) []) s .state) t .state
+    by true = e
+    by false = refl
 
 pub at-the-end : (t : ℕ) (s : State) → stateAt t [] s ≡ clockMove s t .state
 unfolding stateAt upTo plays
@@ -51,12 +62,20 @@ module _ (t : ℕ) (i : Input) (later : List Cue) (end : ℕ) where
   rises-from [] last r = r .1
   rises-from (cue u j ∷ before) last r = rises-from before u (r .1)
 
-  -- from t on it has acted, whatever follows it
+  -- from t on all that came before it has acted, whatever follows
+  pub at-past : (before : List Cue) (last : ℕ) → Rises last (before ++ (cue t i ∷ later)) end → (u : ℕ) → t ≤ u → (next : List Cue) (s : State) →
+      stateAt u (before ++ next) s ≡ stateAt u next (plays before s .state)
+  unfolding plays
+  at-past [] last r u past next s = refl
+  at-past (cue v j ∷ before) last r u past next s =
+      at-case (λ (x : State). x ≡ stateAt u next (plays (cue v j ∷ before) s .state)) u v j (before ++ next) s
+      (λ _. at-past before v (r .1) u past next (step s j v .state))
+      (λ ahead. absurd (omega (arith, rises-to before v (r .1))))
+
+  -- and it has acted itself
   pub at-after : (before : List Cue) (last : ℕ) → Rises last (before ++ (cue t i ∷ later)) end → (u : ℕ) → t ≤ u → (next : List Cue) (s : State) →
       stateAt u (before ++ (cue t i ∷ next)) s ≡ stateAt u next (step (plays before s .state) i t .state)
-  unfolding plays
-  at-after [] last r u past next s = at-case (λ (x : State). x ≡ stateAt u next (step s i t .state)) u t i next s (λ _. refl) (λ ahead. absurd (omega arith))
-  at-after (cue v j ∷ before) last r u past next s =
-      at-case (λ (x : State). x ≡ stateAt u next (step (plays (cue v j ∷ before) s .state) i t .state)) u v j (before ++ (cue t i ∷ next)) s
-      (λ _. at-after before v (r .1) u past next (step s j v .state))
-      (λ ahead. absurd (omega (arith, rises-to before v (r .1))))
+  at-after before last r u past next s =
+      let reached : State = plays before s .state in
+      at-past before last r u past (cue t i ∷ next) s
+      ∙ at-case (λ (x : State). x ≡ stateAt u next (step reached i t .state)) u t i next reached (λ _. refl) (λ ahead. absurd (omega arith))

@@ -1,30 +1,43 @@
 -- "Newcomers let a repeated Off start the off delay again. A nervous operator then keeps the house lit by asking for dark."
--- A repeated Off leaves the phase, deadline and all, as the first left it; a repeated On leaves the moment of light.
+-- What an Off leaves is Dark, or Ending that is over within the off delay; only what stirs undoes that, and another Off finds nothing
+-- to change in it.
 use Prim.Native.Nat.{ℕ, _+_, _≤_}
-use mathlib.Core.Bool.{Bool, true, false, cond, not, _&&_}
-use mathlib.Core.Path.{_≡_, refl, sym, ap, _∙_}
-use mathlib.Core.List.{List, [], _∷_, _++_, append-nil}
+use mathlib.Core.Bool.{Bool, true, false}
+use mathlib.Core.Path.{_≡_, refl, sym, ap, subst, _∙_}
+use mathlib.Core.List.{List, [], _∷_, _++_, append-assoc}
 use native.Mathlib.Omega.{arith}
-use lib.Dec.{eqb, leb}
-use borrow.Author.Tests.{le-leb}
+use lib.Dec.{eqb}
+use borrow.Author.Tests.{le-leb, ne-eqb}
 use Rattle.rules.specs.declared.parameters.Params.{Params}
+use Rattle.rules.specs.declared.parameters.Scene.{Scene}
+use Rattle.rules.specs.declared.parameters.Recalled.{Recalled}
+use Rattle.rules.specs.declared.parameters.Recalled.the-variants.{Nothing, Output}
 use Rattle.rules.specs.declared.phase.Phase.{Phase}
 use Rattle.rules.specs.declared.phase.Phase.the-variants.{Dark, Lit, Starting, Timed, Warning, Ending}
-use Rattle.rules.specs.declared.phase.Deadline.{Deadline}
-use Rattle.rules.specs.declared.phase.Deadline.the-variants.{Never, At}
-use Rattle.rules.specs.declared.input.Input.the-variants.{SwitchOnOff}
+use Rattle.rules.specs.declared.input.Force.{Force}
+use Rattle.rules.specs.declared.input.Force.the-variants.{Free, Off, On}
+use Rattle.rules.specs.declared.input.Event.the-variants.{Failure, Return}
+use Rattle.rules.specs.declared.input.Input.{Input}
+use Rattle.rules.specs.declared.input.Input.the-variants.{SwitchOnOff, TimedStartStop, NumberedSceneControl, SwitchOnOffForced, LockDevice, NightMode, Bus, Power}
+use Rattle.rules.specs.declared.state.Link.{Link}
+use Rattle.rules.specs.declared.state.Link.the-variants.{Up, BusDown, PowerDown}
 use Rattle.rules.specs.declared.state.State.{State}
 use Rattle.rules.specs.declared.barrier.Barrier.the-variants.{Open}
-use Rattle.rules.specs.Phases.{output, deadline, litAt, atDeadline, setOn}
-use Rattle.rules.specs.Orders.{on, timedStart, offAfterDelay, off, withPhase, switch, order}
-use Rattle.rules.specs.Barriers.{barrier}
-use Rattle.rules.specs.Steps.{atMoment, tickAt, tick, ticked, clockMove, step}
-use Rattle.rules.specs.Lists.{Cue, cue, plays, playsTo}
-use Rattle.rules.specs.Promises.{Rises, stateAt}
-use Rattle.base.proofs.Tests.{either-way}
-use Rattle.rules.proofs.Laws.Moments.{next-is-later, rises-from, at-after}
-use Rattle.rules.proofs.Laws.Soundness.{move-clock, move-params, taken-is-the-order}
-use Rattle.rules.proofs.Mistakes.Rank.{LeavesNoTrace, unchanged-leaves-no-trace, struck-at-every-moment, no-trace-may-be-struck}
+use Rattle.base.specs.Time.{earlier}
+use Rattle.rules.specs.Scenes.{recalled, learnt}
+use Rattle.rules.specs.Phases.{output, deadline, atDeadline}
+use Rattle.rules.specs.Orders.{offAfterDelay, off, timedStop, nightFalls, withPhase, withNight, withScenes, standing, switch, timed, recall, learn, scene, nightMode, forced, lockDevice, bus, power, order}
+use Rattle.rules.specs.Barriers.{row, rows, rowOf, firstBarrier, barrier}
+use Rattle.rules.specs.Steps.{fresh, atMoment, tickAt, tick, ticked, clockMove, step}
+use Rattle.rules.specs.Lists.{Cue, cue, Played, plays}
+use Rattle.rules.specs.Promises.{Rises, turn, turns, Each, stateAt, Taken, recallsOn, recallsOff}
+use Rattle.rules.specs.Mistakes.{LeavesNoTrace, turnsOff, stirs, OffIsHeard, AskingAgainIsIdle}
+use Rattle.base.proofs.Tests.{no, cond-case, either-way}
+use Rattle.rules.proofs.Laws.Steps.{Quiet, tick-case, three-are-enough}
+use Rattle.rules.proofs.Laws.Soundness.{move-clock, move-params, step-case, taken-is-the-order, step-params}
+use Rattle.rules.proofs.Laws.Lists.{plays-append, plays-keep-params}
+use Rattle.rules.proofs.Laws.Moments.{at-case, at-the-end, rises-from, rises-to, at-after}
+use Rattle.rules.proofs.Mistakes.Rank.{unchanged-leaves-no-trace, no-trace-may-be-struck}
 
 -- ---- Off, of a phase
 
@@ -49,19 +62,6 @@ by-the-timers s c m (Ending d) none e h = rw (le-leb d m h)
 pub dark-by-the-timers : (s : State) (m : ℕ) → DarkBy (s .params) m (s .phase) → clockMove s m .state .phase ≡ Dark
 dark-by-the-timers s m h = by-the-timers s (s .clock) m (s .phase) (eqb (s .params .prewarning) 0) refl h
 
--- an Off is heard within its delay
-off-within-its-delay : (p : Params) (t m : ℕ) (phase : Phase) → t + p .offdelay ≤ m → DarkBy p m (off p t phase)
-unfolding off
-off-within-its-delay p t m phase h = either-way (DarkBy p m) (eqb (p .offdelay) 0) Dark (offAfterDelay p t phase) tt (delayed phase)
-  where
-    delayed : (phase : Phase) → DarkBy p m (offAfterDelay p t phase)
-    delayed Dark = unfold offAfterDelay in tt
-    delayed Lit = unfold offAfterDelay in h
-    delayed (Starting timed d) = unfold offAfterDelay in tt
-    delayed (Timed d) = unfold offAfterDelay in omega arith
-    delayed (Warning d) = unfold offAfterDelay in omega arith
-    delayed (Ending d) = unfold offAfterDelay in omega arith
-
 -- an Off takes the earlier of two moments, and the moment of dark is one of them
 after-delay-is-never-later : (p : Params) (t m : ℕ) (phase : Phase) → DarkBy p m phase → DarkBy p m (offAfterDelay p t phase)
 unfolding offAfterDelay
@@ -75,181 +75,234 @@ pub off-is-never-later : (p : Params) (t m : ℕ) (phase : Phase) → DarkBy p m
 unfolding off
 off-is-never-later p t m phase h = either-way (DarkBy p m) (eqb (p .offdelay) 0) Dark (offAfterDelay p t phase) tt (after-delay-is-never-later p t m phase h)
 
--- the second Off's own moment is never the earlier one
-repeated-after-delay : (p : Params) (t u : ℕ) (phase : Phase) → t ≤ u → offAfterDelay p u (offAfterDelay p t phase) ≡ offAfterDelay p t phase
-unfolding offAfterDelay
-repeated-after-delay p t u Dark h = refl
-repeated-after-delay p t u (Starting timed d) h = refl
-repeated-after-delay p t u Lit h = ap Ending (omega arith)
-repeated-after-delay p t u (Timed d) h = ap Ending (omega arith)
-repeated-after-delay p t u (Warning d) h = ap Ending (omega arith)
-repeated-after-delay p t u (Ending d) h = ap Ending (omega arith)
+-- what an Off leaves, and what further inputs keep as long as nothing stirs: Dark, or Ending that is over by m
+abbrev Fades : ℕ → Phase → Type 0
+Fades m Dark = Unit
+Fades m Lit = ⊥
+Fades m (Starting timed d) = ⊥
+Fades m (Timed d) = ⊥
+Fades m (Warning d) = ⊥
+Fades m (Ending d) = d ≤ m
 
-pub repeated-off-changes-nothing : (p : Params) (t u : ℕ) (phase : Phase) → t ≤ u → off p u (off p t phase) ≡ off p t phase
+fading-is-dark-by : (p : Params) (m u : ℕ) (phase : Phase) → m ≤ u → Fades m phase → DarkBy p u phase
+fading-is-dark-by p m u Dark later h = tt
+fading-is-dark-by p m u (Ending d) later h = omega arith
+
+-- an Off is heard within its delay
+off-within-its-delay : (p : Params) (t : ℕ) (phase : Phase) → Fades (t + p .offdelay) (off p t phase)
 unfolding off
-repeated-off-changes-nothing p t u phase h = go (eqb (p .offdelay) 0)
+off-within-its-delay p t phase = either-way (Fades (t + p .offdelay)) (eqb (p .offdelay) 0) Dark (offAfterDelay p t phase) tt (delayed phase)
   where
-    go : (none : Bool) → cond none Dark (offAfterDelay p u (cond none Dark (offAfterDelay p t phase))) ≡ cond none Dark (offAfterDelay p t phase)
-    go true = refl
-    go false = repeated-after-delay p t u phase h
+    delayed : (phase : Phase) → Fades (t + p .offdelay) (offAfterDelay p t phase)
+    delayed Dark = unfold offAfterDelay in tt
+    delayed Lit = unfold offAfterDelay in omega arith
+    delayed (Starting timed d) = unfold offAfterDelay in tt
+    delayed (Timed d) = unfold offAfterDelay in omega arith
+    delayed (Warning d) = unfold offAfterDelay in omega arith
+    delayed (Ending d) = unfold offAfterDelay in omega arith
 
--- ---- On and timed start, of a phase
+-- a later Off finds nothing to change: its own moment is never the earlier one
+repeated-off-changes-nothing : (p : Params) (m u : ℕ) (phase : Phase) → m ≤ u + p .offdelay → Fades m phase → Quiet u (deadline phase) → off p u phase ≡ phase
+unfolding off offAfterDelay
+repeated-off-changes-nothing p m u Dark later h quiet = either-way (λ (x : Phase). x ≡ Dark) (eqb (p .offdelay) 0) Dark Dark refl refl
+repeated-off-changes-nothing p m u (Ending d) later h quiet = rw (ne-eqb (p .offdelay) 0 (λ none. omega arith)) (ap Ending (omega arith))
 
--- left to itself, the phase is lit at m at the latest
-abbrev pub LitBy : ℕ → Phase → Type 0
-LitBy m Dark = ⊥
-LitBy m Lit = Unit
-LitBy m (Starting timed d) = d ≤ m
-LitBy m (Timed d) = Unit
-LitBy m (Warning d) = Unit
-LitBy m (Ending d) = Unit
+-- the timers and the orders that do not stir keep it so
 
-set-on-is-lit : (p : Params) (night held : Bool) (t m : ℕ) → LitBy m (setOn p night held t)
-unfolding setOn litAt
-set-on-is-lit p night held t m = either-way (LitBy m) (night && not held) (Timed (t + p .timedon)) Lit tt tt
+timer-fades : (p : Params) (night : Bool) (m : ℕ) (phase : Phase) → Fades m phase → Fades m (atDeadline p night phase)
+unfolding atDeadline
+timer-fades p night m Dark h = tt
+timer-fades p night m (Ending d) h = tt
 
--- light that waits keeps its moment, light that is on stays on
-pub repeated-on-is-never-later : (p : Params) (night held : Bool) (t m : ℕ) (phase : Phase) → LitBy m phase → LitBy m (on p night held t phase)
-unfolding on
-repeated-on-is-never-later p night held t m Lit h = tt
-repeated-on-is-never-later p night held t m (Starting timed d) h = h
-repeated-on-is-never-later p night held t m (Timed d) h = set-on-is-lit p night held t m
-repeated-on-is-never-later p night held t m (Warning d) h = set-on-is-lit p night held t m
-repeated-on-is-never-later p night held t m (Ending d) h = set-on-is-lit p night held t m
+off-fades : (p : Params) (t m : ℕ) (phase : Phase) → Fades m phase → Fades m (off p t phase)
+unfolding off offAfterDelay
+off-fades p t m Dark h = either-way (Fades m) (eqb (p .offdelay) 0) Dark Dark tt tt
+off-fades p t m (Ending d) h = either-way (Fades m) (eqb (p .offdelay) 0) Dark (Ending (earlier (t + p .offdelay) d)) tt (omega arith)
 
-pub repeated-timed-start-is-never-later : (p : Params) (t m : ℕ) (phase : Phase) → LitBy m phase → LitBy m (timedStart p t phase)
-unfolding timedStart
-repeated-timed-start-is-never-later p t m Lit h = tt
-repeated-timed-start-is-never-later p t m (Starting timed d) h = h
-repeated-timed-start-is-never-later p t m (Timed d) h = tt
-repeated-timed-start-is-never-later p t m (Warning d) h = tt
-repeated-timed-start-is-never-later p t m (Ending d) h = tt
+timed-stop-fades : (p : Params) (t m : ℕ) (phase : Phase) → Fades m phase → Fades m (timedStop p t phase)
+unfolding timedStop
+timed-stop-fades p t m Dark h = tt
+timed-stop-fades p t m (Ending d) h = h
 
--- nor is it earlier: while the light waits, its moment stays
-pub repeated-on-keeps-its-deadline : (p : Params) (night held timed : Bool) (t d : ℕ) →
-    (on p night held t (Starting timed d) ≡ Starting false d) × (timedStart p t (Starting timed d) ≡ Starting true d)
-unfolding on timedStart
-repeated-on-keeps-its-deadline p night held timed t d = (refl, refl)
-
--- so an On leaves no trace in a state that waits for steady light
-waiting-is-kept : (p : Params) (night held : Bool) (t d : ℕ) (phase : Phase) → phase ≡ Starting false d → on p night held t phase ≡ phase
-unfolding on
-waiting-is-kept p night held t d phase e = rw e refl
-
-pub repeated-on-leaves-no-trace : (s : State) (u d : ℕ) → clockMove s u .state .phase ≡ Starting false d → LeavesNoTrace s (SwitchOnOff true) u
-unfolding order switch
-repeated-on-leaves-no-trace s u d e =
-    unchanged-leaves-no-trace s (SwitchOnOff true) u (λ _. ap (withPhase (clockMove s u .state)) (waiting-is-kept _ _ _ _ d _ e))
+night-falls-fades : (p : Params) (t m : ℕ) (phase : Phase) → Fades m phase → Fades m (nightFalls p t phase)
+unfolding nightFalls
+night-falls-fades p t m Dark h = tt
+night-falls-fades p t m (Ending d) h = omega arith
 
 -- ---- Off, of a state
 
--- an Off at u finds nothing to change
-abbrev pub Asked : ℕ → State → Type 0
-Asked u s = off (s .params) u (s .phase) ≡ s .phase
+-- an Off has been heard: the light is over by m, and nothing stands that could bring another phase
+record Heard (m : ℕ) (s : State) : Type 0 where
+  fades : Fades m (s .phase)
+  unlocked : s .lock ≡ false
+  unforced : s .force ≡ Free
+  linked : s .link ≡ Up
 
-off-asks : (s : State) (u : ℕ) → s .clock ≤ u → Asked u (switch s false)
-unfolding switch
-off-asks s u h = repeated-off-changes-nothing (s .params) (s .clock) u (s .phase) h
+tick-heard : (s : State) (t m : ℕ) → Heard m s → Heard m (tick s t)
+tick-heard s t m h =
+    tick-case (Heard m) s t
+    (λ d e past. record { fades = timer-fades (s .params) (s .night) m (s .phase) (h .fades); unlocked = h .unlocked; unforced = h .unforced; linked = h .linked })
+    (λ quiet. h)
 
-asked-later : (s : State) (u v : ℕ) → u ≤ v → Asked u s → Asked v s
-asked-later s u v h e = rw e at (repeated-off-changes-nothing (s .params) u v (s .phase) h)
+at-heard : (s : State) (t m : ℕ) → Heard m s → Heard m (atMoment s t (s .phase))
+at-heard s t m h = record { fades = h .fades; unlocked = h .unlocked; unforced = h .unforced; linked = h .linked }
 
--- it is Dark or Ending then, and both end in Dark
-deadline-keeps-asked : (p : Params) (night none : Bool) (u : ℕ) (phase : Phase) →
-    cond none Dark (offAfterDelay p u phase) ≡ phase → cond none Dark (offAfterDelay p u (atDeadline p night phase)) ≡ atDeadline p night phase
-unfolding atDeadline offAfterDelay
-deadline-keeps-asked p night true u phase e = rw (← e) refl
-deadline-keeps-asked p night false u Dark e = refl
-deadline-keeps-asked p night false u Lit e = e
-deadline-keeps-asked p night false u (Starting timed d) e = cc
-deadline-keeps-asked p night false u (Timed d) e = cc
-deadline-keeps-asked p night false u (Warning d) e = refl
-deadline-keeps-asked p night false u (Ending d) e = refl
-
-tick-keeps-asked : (s : State) (t u : ℕ) → Asked u s → Asked u (tick s t)
-unfolding tick
-tick-keeps-asked s t u e = go (deadline (s .phase))
-  where
-    go : (due : Deadline) → Asked u (tickAt s t due)
-    go Never = unfold tickAt in e
-    go (At d) =
-        unfold tickAt off in
-        either-way (Asked u) (leb d t) (atMoment s d (atDeadline (s .params) (s .night) (s .phase))) s
-        (deadline-keeps-asked (s .params) (s .night) (eqb (s .params .offdelay) 0) u (s .phase) e) e
-
-move-keeps-asked : (s : State) (t u : ℕ) → Asked u s → Asked u (clockMove s t .state)
+move-heard : (s : State) (t m : ℕ) → Heard m s → Heard m (clockMove s t .state)
 unfolding clockMove ticked
-move-keeps-asked s t u e = tick-keeps-asked _ t u (tick-keeps-asked _ t u (tick-keeps-asked s t u e))
+move-heard s t m h = at-heard _ t m (tick-heard _ t m (tick-heard _ t m (tick-heard s t m h)))
 
--- where an Off has been asked for, another one leaves what the clock move alone leaves
-asked-leaves-no-trace : (s : State) (u : ℕ) → Asked u s → LeavesNoTrace s (SwitchOnOff false) u
-unfolding order switch clockMove ticked
-asked-leaves-no-trace s u e = unchanged-leaves-no-trace s (SwitchOnOff false) u (λ _. ap (withPhase (clockMove s u .state)) (move-keeps-asked s u u e))
+heard-is-dark : (s : State) (m u : ℕ) → m ≤ u → Heard m s → output (clockMove s u .state .phase) ≡ false
+heard-is-dark s m u later h = ap output (dark-by-the-timers s u (fading-is-dark-by (s .params) m u (s .phase) later (h .fades)))
 
--- an Off that is taken at t is asked for from then on
-taken-off-asks : (s : State) (t u : ℕ) → t ≤ u → barrier (clockMove s t .state) (SwitchOnOff false) ≡ Open → Asked u (step s (SwitchOnOff false) t .state)
-unfolding order
-taken-off-asks s t u h free = rw (taken-is-the-order s (SwitchOnOff false) t free) (off-asks (clockMove s t .state) u (rw (move-clock s t) h))
+-- every order that does not stir keeps it so
+module _ (s : State) (m : ℕ) (h : Heard m s) where
+  in-phase : (phase : Phase) → Fades m phase → Heard m (withPhase s phase)
+  in-phase phase fades = record { fades = fades; unlocked = h .unlocked; unforced = h .unforced; linked = h .linked }
 
--- and the phase it leaves is dark within the delay
-taken-off-is-dark-by : (s : State) (t m : ℕ) → barrier (clockMove s t .state) (SwitchOnOff false) ≡ Open → t + s .params .offdelay ≤ m →
-    DarkBy (step s (SwitchOnOff false) t .state .params) m (step s (SwitchOnOff false) t .state .phase)
-unfolding order switch
-taken-off-is-dark-by s t m free h =
-    rw (taken-is-the-order s (SwitchOnOff false) t free) (off-within-its-delay (clockMove s t .state .params) _ m _ (rw (move-params s t, move-clock s t) h))
+  switch-heard : (value : Bool) → value ≡ false → Heard m (switch s value)
+  unfolding switch
+  switch-heard true lit = no (sym lit)
+  switch-heard false unlit = in-phase _ (off-fades (s .params) (s .clock) m (s .phase) (h .fades))
 
--- whatever the second Off's barriers are: the state after it, deadline and all, and the records are those without it
-pub repeated-off-leaves-no-trace : (s : State) (t u : ℕ) → t ≤ u → barrier (clockMove s t .state) (SwitchOnOff false) ≡ Open →
-    LeavesNoTrace (step s (SwitchOnOff false) t .state) (SwitchOnOff false) u
-repeated-off-leaves-no-trace s t u h free = asked-leaves-no-trace _ u (taken-off-asks s t u h free)
+  timed-heard : (value : Bool) → value ≡ false → Heard m (timed s value)
+  unfolding timed
+  timed-heard true lit = no (sym lit)
+  timed-heard false unlit = in-phase _ (timed-stop-fades (s .params) (s .clock) m (s .phase) (h .fades))
 
--- ---- any number of Offs
+  recall-heard : (found : Recalled) → recallsOn found ≡ false → Heard m (recall s found)
+  unfolding recall
+  recall-heard Nothing unlit = h
+  recall-heard (Output value) unlit = switch-heard value unlit
 
--- Offs at these moments
-abbrev pub offs : List ℕ → List Cue
-offs [] = []
-offs (u ∷ us) = cue u (SwitchOnOff false) ∷ offs us
+  learn-heard : (number : ℕ) → Heard m (learn s number)
+  unfolding learn
+  learn-heard number =
+      either-way (Heard m) (s .params .learning) (withScenes s (learnt (s .scenes) number (output (s .phase)))) s
+      (record { fades = h .fades; unlocked = h .unlocked; unforced = h .unforced; linked = h .linked }) h
 
-asked-again : (us : List ℕ) (later : List Cue) (s : State) (t end : ℕ) → Asked t s → Rises t (offs us ++ later) end →
-    (playsTo end (offs us ++ later) s .state ≡ playsTo end later s .state) × (playsTo end (offs us ++ later) s .records ≡ playsTo end later s .records)
+  night-heard : (value : Bool) → Heard m (nightMode s value)
+  unfolding nightMode
+  night-heard true =
+      either-way (Heard m) (s .night) s (withPhase (withNight s true) (nightFalls (s .params) (s .clock) (s .phase))) h
+      (record { fades = night-falls-fades (s .params) (s .clock) m (s .phase) (h .fades); unlocked = h .unlocked; unforced = h .unforced; linked = h .linked })
+  night-heard false = record { fades = h .fades; unlocked = h .unlocked; unforced = h .unforced; linked = h .linked }
+
+  order-heard : (i : Input) → stirs s i ≡ false → Heard m (order s i)
+  unfolding order scene forced lockDevice bus power
+  order-heard (SwitchOnOff value) calm = switch-heard value calm
+  order-heard (TimedStartStop value) calm = timed-heard value calm
+  order-heard (NumberedSceneControl true number) calm = learn-heard number
+  order-heard (NumberedSceneControl false number) calm = recall-heard (recalled (s .scenes) number) calm
+  order-heard (SwitchOnOffForced Free) calm = cond-case (Heard m) (standing (s .force)) _ _ (λ stood. no (rw (h .unforced) at stood)) (λ none. h)
+  order-heard (SwitchOnOffForced Off) calm = no (sym calm)
+  order-heard (SwitchOnOffForced On) calm = no (sym calm)
+  order-heard (LockDevice true) calm = no (sym calm)
+  order-heard (LockDevice false) calm = cond-case (Heard m) (s .lock) _ _ (λ stood. no (sym (h .unlocked) ∙ stood)) (λ none. h)
+  order-heard (NightMode value) calm = night-heard value
+  order-heard (Bus Failure) calm = no (sym calm)
+  order-heard (Bus Return) calm = subst (λ (l : Link). Heard m (bus s l Return)) (sym (h .linked)) h
+  order-heard (Power Failure) calm = no (sym calm)
+  order-heard (Power Return) calm = subst (λ (l : Link). Heard m (power s l Return)) (sym (h .linked)) h
+
+step-heard : (s : State) (i : Input) (t m : ℕ) → Heard m s → stirs (clockMove s t .state) i ≡ false → Heard m (step s i t .state)
+step-heard s i t m h calm =
+    let there = move-heard s t m h in
+    step-case (Heard m) s i t (λ way. order-heard (clockMove s t .state) m there i calm) there
+
+-- ---- an Off or scene-off
+
+recalling-off : (s : State) (found : Recalled) → recallsOff found ≡ true → recall s found ≡ switch s false
+unfolding recall
+recalling-off s Nothing off = no off
+recalling-off s (Output true) off = no off
+recalling-off s (Output false) off = refl
+
+turning-off : (s : State) (i : Input) → turnsOff s i ≡ true → order s i ≡ switch s false
+unfolding order scene
+turning-off s (SwitchOnOff true) off = no off
+turning-off s (SwitchOnOff false) off = refl
+turning-off s (TimedStartStop value) off = no off
+turning-off s (NumberedSceneControl true number) off = no off
+turning-off s (NumberedSceneControl false number) off = recalling-off s (recalled (s .scenes) number) off
+turning-off s (SwitchOnOffForced force) off = no off
+turning-off s (LockDevice value) off = no off
+turning-off s (NightMode value) off = no off
+turning-off s (Bus event) off = no off
+turning-off s (Power event) off = no off
+
+-- where one is taken no lock and no force stands, and the link is up
+nothing-stands : (link : Link) (lock : Bool) (force : Force) → firstBarrier (row true true true true) link lock force ≡ Open → (lock ≡ false) × (force ≡ Free) × (link ≡ Up)
+unfolding firstBarrier
+nothing-stands Up false Free way = (refl, refl, refl)
+nothing-stands Up false Off way = (cc, cc, cc)
+nothing-stands Up false On way = (cc, cc, cc)
+nothing-stands Up true force way = (cc, cc, cc)
+nothing-stands BusDown lock force way = (cc, cc, cc)
+nothing-stands PowerDown lock force way = (cc, cc, cc)
+
+taken-finds-nothing : (s : State) (i : Input) → turnsOff s i ≡ true → barrier s i ≡ Open → (s .lock ≡ false) × (s .force ≡ Free) × (s .link ≡ Up)
+unfolding barrier rowOf rows
+taken-finds-nothing s (SwitchOnOff value) off way = nothing-stands (s .link) (s .lock) (s .force) way
+taken-finds-nothing s (TimedStartStop value) off way = no off
+taken-finds-nothing s (NumberedSceneControl learns number) off way = nothing-stands (s .link) (s .lock) (s .force) way
+taken-finds-nothing s (SwitchOnOffForced force) off way = no off
+taken-finds-nothing s (LockDevice value) off way = no off
+taken-finds-nothing s (NightMode value) off way = no off
+taken-finds-nothing s (Bus event) off way = no off
+taken-finds-nothing s (Power event) off way = no off
+
+-- it is heard
+off-heard : (s : State) → (s .lock ≡ false) × (s .force ≡ Free) × (s .link ≡ Up) → Heard (s .clock + s .params .offdelay) (switch s false)
+unfolding switch
+off-heard s free = record { fades = off-within-its-delay (s .params) (s .clock) (s .phase); unlocked = free .0; unforced = free .1; linked = free .2 }
+
+taken-is-heard : (s : State) (i : Input) (t : ℕ) → Taken (turn s t i) → turnsOff (clockMove s t .state) i ≡ true → Heard (t + s .params .offdelay) (step s i t .state)
+taken-is-heard s i t way off =
+    let met : State = clockMove s t .state in
+    rw (taken-is-the-order s i t way ∙ turning-off met i off) (rw (move-clock s t, move-params s t) at (off-heard met (taken-finds-nothing met i off way)))
+
+-- and a later one, taken or not, leaves what the clock move alone leaves
+asking-again-leaves-no-trace : (s : State) (i : Input) (m u : ℕ) → Heard m s → m ≤ u + s .params .offdelay → turnsOff (clockMove s u .state) i ≡ true → LeavesNoTrace s i u
+unfolding switch
+asking-again-leaves-no-trace s i m u h later off =
+    let met : State = clockMove s u .state in
+    let quiet : Quiet u (deadline (met .phase)) = unfold clockMove ticked in three-are-enough s u in
+    let same = repeated-off-changes-nothing (met .params) m (met .clock) (met .phase) (rw (move-params s u, move-clock s u) later) (move-heard s u m h .fades) (rw (move-clock s u) quiet) in
+    unchanged-leaves-no-trace s i u (λ _. turning-off met i off ∙ ap (withPhase met) same)
+
+-- ---- the inputs that follow
+
+-- as long as nothing stirs
+still-heard : (m : ℕ) (between : List Cue) (s : State) → Heard m s → Each (λ x. stirs (x .met) (x .input) ≡ false) (turns between s) → Heard m (plays between s .state)
+unfolding turns plays
+still-heard m [] s h calm = h
+still-heard m (cue t i ∷ later) s h calm = still-heard m later (step s i t .state) (step-heard s i t m h (calm .0)) (calm .1)
+
+dark-at : (m u : ℕ) → m ≤ u → (later : List Cue) (s : State) → Heard m s → Each (λ x. x .stamp ≤ u → stirs (x .met) (x .input) ≡ false) (turns later s) →
+    output (stateAt u later s .phase) ≡ false
+unfolding turns
+dark-at m u past [] s h calm = rw (at-the-end u s) (heard-is-dark s m u past h)
+dark-at m u past (cue t i ∷ later) s h calm =
+    at-case (λ (x : State). output (x .phase) ≡ false) u t i later s
+    (λ early. dark-at m u past later (step s i t .state) (step-heard s i t m h (calm .0 early)) (calm .1))
+    (λ ahead. heard-is-dark s m u past h)
+
+pub an-off-is-heard : (p : Params) (scenes : List Scene) (list : List Cue) (end : ℕ) → Rises 0 list end → OffIsHeard p scenes list
+an-off-is-heard p scenes list end r before t i later e way off u past calm =
+    let s : State = plays before (fresh p scenes) .state in
+    let same : s .params ≡ p = unfold fresh in plays-keep-params before (fresh p scenes) in
+    rw (← e, at-after t i later end before 0 (rw e r) u (omega arith) later (fresh p scenes))
+    (dark-at (t + s .params .offdelay) u (rw same past) later (step s i t .state) (taken-is-heard s i t way off) calm)
+
+pub asking-again-never-keeps-the-house-lit : (p : Params) (scenes : List Scene) (list : List Cue) (end : ℕ) → Rises 0 list end → AskingAgainIsIdle p scenes list end
 unfolding plays
-asked-again [] later s t end e h = (refl, refl)
-asked-again (u ∷ us) later s t end e h =
-    let asked = asked-later s t u (h .0) e in
-    let struck = no-trace-may-be-struck s [] u (SwitchOnOff false) (offs us ++ later) end (next-is-later u (offs us ++ later) end (h .1)) (asked-leaves-no-trace s u asked) in
-    let rest = asked-again us later s u end asked (h .1) in
-    (struck .state ∙ rest .0, struck .records ∙ rest .1)
-
--- The nervous operator: after an Off is taken at t, further Offs at any moments leave the state at the end, and the records up to
--- it, as the first Off alone leaves them, whatever comes later.
-pub asking-again-changes-nothing : (s : State) (t : ℕ) (us : List ℕ) (later : List Cue) (end : ℕ) → barrier (clockMove s t .state) (SwitchOnOff false) ≡ Open → Rises t (offs us ++ later) end →
-    let first : State = step s (SwitchOnOff false) t .state in
-    (playsTo end (offs us ++ later) first .state ≡ playsTo end later first .state) × (playsTo end (offs us ++ later) first .records ≡ playsTo end later first .records)
-asking-again-changes-nothing s t us later end free h = asked-again us later _ t end (taken-off-asks s t t (omega arith) free) h
-
-asked-at : (us : List ℕ) (later : List Cue) (s : State) (t end u : ℕ) → Asked t s → Rises t (offs us ++ later) end → stateAt u (offs us ++ later) s ≡ stateAt u later s
-asked-at [] later s t end u e r = refl
-asked-at (v ∷ us) later s t end u e r =
-    let asked = asked-later s t v (r .0) e in
-    struck-at-every-moment u v end (SwitchOnOff false) (offs us ++ later) s (next-is-later v (offs us ++ later) end (r .1)) (asked-leaves-no-trace s v asked)
-    ∙ asked-at us later s v end u asked (r .1)
-
--- The same at every moment u of a whole run: from t on the house is as the first Off alone leaves it, neither lit longer nor dark
--- sooner.
-pub asking-again-is-never-later : (s : State) (before : List Cue) (t : ℕ) (us : List ℕ) (later : List Cue) (last end u : ℕ) →
-    barrier (clockMove (plays before s .state) t .state) (SwitchOnOff false) ≡ Open → Rises last (before ++ (cue t (SwitchOnOff false) ∷ (offs us ++ later))) end → t ≤ u →
-    stateAt u (before ++ (cue t (SwitchOnOff false) ∷ (offs us ++ later))) s ≡ stateAt u (before ++ (cue t (SwitchOnOff false) ∷ later)) s
-asking-again-is-never-later s before t us later last end u free r past =
-    let then = at-after t (SwitchOnOff false) (offs us ++ later) end before last r u past in
-    let asked = taken-off-asks (plays before s .state) t t (omega arith) free in
-    then (offs us ++ later) s
-    ∙ asked-at us later _ t end u asked (rises-from t (SwitchOnOff false) (offs us ++ later) end before last r)
-    ∙ sym (then later s)
-
--- However often it is asked for again, the output is off once the delay of the first Off has passed.
-pub an-off-is-heard : (s : State) (t : ℕ) (us : List ℕ) (end : ℕ) → barrier (clockMove s t .state) (SwitchOnOff false) ≡ Open → Rises t (offs us) end → t + s .params .offdelay ≤ end →
-    output (playsTo end (offs us) (step s (SwitchOnOff false) t .state) .state .phase) ≡ false
-unfolding playsTo plays
-an-off-is-heard s t us end free r passed =
-    let again = asking-again-changes-nothing s t us [] end free (rw append-nil r) .0 in
-    rw (rw append-nil at again) (ap output (dark-by-the-timers (step s (SwitchOnOff false) t .state) end (taken-off-is-dark-by s t end free passed)))
+asking-again-never-keeps-the-house-lit p scenes list end r before t i between u j later e way off calm again =
+    let s : State = plays before (fresh p scenes) .state in
+    let asked : State = plays between (step s i t .state) .state in
+    let there : plays (before ++ (cue t i ∷ between)) (fresh p scenes) .state ≡ asked = ap (λ (x : Played). x .state) (plays-append before (cue t i ∷ between) (fresh p scenes)) in
+    let same : asked .params ≡ s .params = plays-keep-params between (step s i t .state) ∙ step-params s i t in
+    let rises : Rises 0 ((before ++ (cue t i ∷ between)) ++ (cue u j ∷ later)) end = rw e r in
+    let after = rises-to u j later end between t (rises-from t i (between ++ (cue u j ∷ later)) end before 0 (rw append-assoc at rises)) in
+    let heard = still-heard (t + s .params .offdelay) between (step s i t .state) (taken-is-heard s i t way off) calm in
+    no-trace-may-be-struck p scenes (before ++ (cue t i ∷ between)) u j later end rises
+    (rw there (asking-again-leaves-no-trace asked j (t + s .params .offdelay) u heard (rw same (omega arith)) (rw there at again)))

@@ -3,6 +3,8 @@
 use Prim.Native.Nat.{ℕ, _≤_}
 use mathlib.Core.Path.{_≡_, refl, sym, ap, _∙_}
 use mathlib.Core.List.{List, [], _∷_, _++_, append-assoc, append-nil}
+use Rattle.rules.specs.declared.parameters.Params.{Params}
+use Rattle.rules.specs.declared.parameters.Scene.{Scene}
 use Rattle.rules.specs.declared.input.Input.{Input}
 use Rattle.rules.specs.declared.state.State.{State}
 use Rattle.rules.specs.declared.barrier.Barrier.{Barrier}
@@ -10,16 +12,13 @@ use Rattle.rules.specs.declared.barrier.Barrier.the-variants.{Open, Stop
 use Rattle.rules.specs.Orders.{order}
 use Rattle.rules.specs.Barriers.{barrier}
 use Rattle.rules.specs.Status.{written}
-use Rattle.rules.specs.Steps.{Moved, taken, meet, clockMove, act, step}
+use Rattle.rules.specs.Steps.{fresh, Moved, taken, meet, clockMove, act, step}
 use Rattle.rules.proofs.Laws.Timers.{moves-compose, alike-writes-nothing}
-use Rattle.rules.specs.Lists.{Cue, cue, Played, andThen, moved, stepped, plays, playsTo}
-use Rattle.rules.specs.Promises.{upTo, stateAt, NotBefore}
-use Rattle.rules.proofs.Laws.Moments.{at-case, next-up-to-is-later, at-before}
-use Rattle.rules.proofs.Laws.Lists.{still, andThen-assoc, andThen-from, plays-to-append, acts-after-the-move}
-
--- an input leaves what the clock move alone leaves
-abbrev pub LeavesNoTrace : State → Input → ℕ → Type 0
-LeavesNoTrace s i t = (step s i t .state ≡ clockMove s t .state) × (step s i t .records ≡ clockMove s t .records)
+use Rattle.rules.specs.Lists.{Cue, cue, Played, andThen, moved, stepped, plays, playsTo, playList, still}
+use Rattle.rules.specs.Promises.{Rises, upTo, stateAt, NotBefore}
+use Rattle.rules.specs.Mistakes.{LeavesNoTrace, MayBeStruck, OutrankedIsDropped}
+use Rattle.rules.proofs.Laws.Moments.{at-case, at-next, next-is-later, next-up-to-is-later, at-before, rises-from}
+use Rattle.rules.proofs.Laws.Lists.{andThen-assoc, andThen-from, plays-to-append, acts-after-the-move}
 
 nothing-written : (cause : ℕ) (s : State) → written cause s s ≡ []
 nothing-written cause s = alike-writes-nothing cause s s refl refl
@@ -36,14 +35,8 @@ unfolding step act
 unchanged-leaves-no-trace s i t same = no-trace _ (clockMove s t) i same
 
 -- a stopped input is not taken
-pub dropped-leaves-no-trace : (s : State) (i : Input) (t : ℕ) → (barrier (clockMove s t .state) i ≡ Open → ⊥) →
-    (step s i t .state ≡ clockMove s t .state) × (step s i t .records ≡ clockMove s t .records)
+pub dropped-leaves-no-trace : (s : State) (i : Input) (t : ℕ) → (barrier (clockMove s t .state) i ≡ Open → ⊥) → LeavesNoTrace s i t
 dropped-leaves-no-trace s i t stops = unchanged-leaves-no-trace s i t (λ e. absurd (stops e))
-
--- whatever is played later, it gives what it gives after the clock move alone
-pub nothing-of-it-comes-back : (s : State) (i : Input) (t : ℕ) (later : List Cue) → (barrier (clockMove s t .state) i ≡ Open → ⊥) →
-    plays later (step s i t .state) ≡ plays later (clockMove s t .state)
-nothing-of-it-comes-back s i t later stops = ap (plays later) (dropped-leaves-no-trace s i t stops .0)
 
 -- ---- struck from the list altogether
 
@@ -81,34 +74,40 @@ unfolding playsTo plays
 struck-at-the-front t end i later s h trace =
     rw (trace .0, trace .1) (simp append-assoc (ap (answeredFirst (step s i t .answer)) (plays-by-way-of t end later s h)))
 
--- at every moment too the state is the one without it
-pub struck-at-every-moment : (u t end : ℕ) (i : Input) (later : List Cue) (s : State) → NotBefore t later end → LeavesNoTrace s i t → stateAt u (cue t i ∷ later) s ≡ stateAt u later s
-struck-at-every-moment u t end i later s h trace =
+-- so at a moment from t on the state is the same by way of t
+pub at-by-way-of : (u t end : ℕ) (later : List Cue) (s : State) → t ≤ u → NotBefore t later end → stateAt u later (clockMove s t .state) ≡ stateAt u later s
+unfolding stateAt playsTo
+at-by-way-of u t end later s past h = ap (λ (a : Played). a .state) (plays-by-way-of t u (upTo u later) s (next-up-to-is-later t u later end past h))
+
+-- and at every moment it is the one without the cue
+struck-first : (u t end : ℕ) (i : Input) (later : List Cue) (s : State) → NotBefore t later end → LeavesNoTrace s i t → stateAt u (cue t i ∷ later) s ≡ stateAt u later s
+struck-first u t end i later s h trace =
     at-case (λ (x : State). x ≡ stateAt u later s) u t i later s
-    (λ past. ap (stateAt u later) (trace .0) ∙ (unfold stateAt playsTo in ap (λ (a : Played). a .state) (plays-by-way-of t u (upTo u later) s (next-up-to-is-later t u later end past h))))
+    (λ past. ap (stateAt u later) (trace .0) ∙ at-by-way-of u t end later s past h)
     (λ ahead. sym (at-before t u later end s ahead h))
 
--- the same, but for one answer between the early and the late ones
-pub record SameBut (early : List ℕ) (own : ℕ) (late : List ℕ) (full without : Played) : Type 0 where
-  pub state : full .state ≡ without .state
-  pub records : full .records ≡ without .records
-  pub answers : full .answers ≡ early ++ (own ∷ late)
-  pub other-answers : without .answers ≡ early ++ late
-
--- a list that is played to its end gives the same without this cue, but for the cue's own answer
-abbrev pub MayBeStruck : State → List Cue → ℕ → Input → List Cue → ℕ → Type 0
-MayBeStruck s before t i later end =
-    let met : State = plays before s .state in
-    SameBut (plays before s .answers) (step met i t .answer) (playsTo end later met .answers) (playsTo end (before ++ (cue t i ∷ later)) s) (playsTo end (before ++ later) s)
+-- wherever the cue stands
+module _ (v t end : ℕ) (i : Input) (later : List Cue) where
+  struck-at-every-moment : (before : List Cue) (s : State) → NotBefore t later end → LeavesNoTrace (plays before s .state) i t → stateAt v (before ++ (cue t i ∷ later)) s ≡ stateAt v (before ++ later) s
+  unfolding plays
+  struck-at-every-moment [] s h trace = struck-first v t end i later s h trace
+  struck-at-every-moment (cue w j ∷ before) s h trace = at-next v w j (before ++ (cue t i ∷ later)) (before ++ later) s (struck-at-every-moment before (step s j w .state) h trace)
 
 -- the clock stops at t on its way to what comes next, and that is all the cue has brought
-pub no-trace-may-be-struck : (s : State) (before : List Cue) (t : ℕ) (i : Input) (later : List Cue) (end : ℕ) →
-    NotBefore t later end → LeavesNoTrace (plays before s .state) i t → MayBeStruck s before t i later end
-no-trace-may-be-struck s before t i later end h trace =
-    rw (plays-to-append end before (cue t i ∷ later) s, plays-to-append end before later s, struck-at-the-front t end i later (plays before s .state) h trace)
-    (record { state = refl; records = refl; answers = refl; other-answers = refl })
+pub no-trace-may-be-struck : (p : Params) (scenes : List Scene) (before : List Cue) (t : ℕ) (i : Input) (later : List Cue) (end : ℕ) →
+    Rises 0 (before ++ (cue t i ∷ later)) end → LeavesNoTrace (plays before (fresh p scenes) .state) i t → MayBeStruck p scenes before t i later end
+unfolding playList
+no-trace-may-be-struck p scenes before t i later end r trace =
+    let s : State = fresh p scenes in
+    let next = next-is-later t later end (rises-from t i later end before 0 r) in
+    record {
+      run =
+          rw (plays-to-append end before (cue t i ∷ later) s, plays-to-append end before later s, struck-at-the-front t end i later (plays before s .state) next trace)
+          (record { state = refl; records = refl; answers = refl; other-answers = refl });
+      moments = λ v. struck-at-every-moment v t end i later before s next trace;
+    }
 
--- a dropped cue may be struck, since it leaves no trace
-pub dropped-may-be-struck : (s : State) (before : List Cue) (t : ℕ) (i : Input) (later : List Cue) (end : ℕ) →
-    NotBefore t later end → (barrier (clockMove (plays before s .state) t .state) i ≡ Open → ⊥) → MayBeStruck s before t i later end
-dropped-may-be-struck s before t i later end h stops = no-trace-may-be-struck s before t i later end h (dropped-leaves-no-trace _ i t stops)
+-- a dropped cue leaves no trace
+pub an-outranked-cue-may-be-struck : (p : Params) (scenes : List Scene) (list : List Cue) (end : ℕ) → Rises 0 list end → OutrankedIsDropped p scenes list end
+an-outranked-cue-may-be-struck p scenes list end r before t i later e stops =
+    no-trace-may-be-struck p scenes before t i later end (rw e r) (dropped-leaves-no-trace _ i t stops)

@@ -35,10 +35,10 @@ use Rattle.rules.proofs.Promises.Stamps.{nothing-due-after-a-step}
 -- ---- a moment of light
 
 -- lit, and no timer is due at t
-abbrev LitAt : ℕ → Phase → Type 0
+abbrev pub LitAt : ℕ → Phase → Type 0
 LitAt t phase = (output phase ≡ true) × Quiet t (deadline phase)
 
-lit-now : (s : State) (t : ℕ) → LitAt t (s .phase) → output (clockMove s t .state .phase) ≡ true
+pub lit-now : (s : State) (t : ℕ) → LitAt t (s .phase) → output (clockMove s t .state .phase) ≡ true
 lit-now s t h = rw (no-timer-due-no-move s t (h .1)) (h .0)
 
 -- light that comes on lasts: a lamp that is timed for no time at all would not be on at any moment
@@ -50,7 +50,7 @@ lit-lasts p false t some = (refl, tt)
 -- ---- a wait that no order dims
 
 -- the light comes on at d
-abbrev Waits : ℕ → Phase → Type 0
+abbrev pub Waits : ℕ → Phase → Type 0
 Waits d Dark = ⊥
 Waits d Lit = ⊥
 Waits d (Starting timed e) = e ≡ d
@@ -124,7 +124,7 @@ ends-in-light : (p : Params) (night : Bool) (d : ℕ) (phase : Phase) → 1 ≤ 
 unfolding atDeadline
 ends-in-light p night d (Starting timed e) some h = rw h (lit-lasts p (timed || night) d some)
 
-comes-on : (s : State) (d : ℕ) → 1 ≤ s .params .timedon → Waits d (s .phase) → output (clockMove s d .state .phase) ≡ true
+pub comes-on : (s : State) (d : ℕ) → 1 ≤ s .params .timedon → Waits d (s .phase) → output (clockMove s d .state .phase) ≡ true
 comes-on s d some waits =
     rw (the-first-timer-first s d d (waits-until d (s .phase) waits) (omega arith) .0)
     (lit-now (fired s d) d (ends-in-light (s .params) (s .night) d (s .phase) some waits))
@@ -132,7 +132,7 @@ comes-on s d some waits =
 -- ---- what an order that lights leaves
 
 -- light at a, or a wait for it that has not ended at a and ends within the on delay
-abbrev Shines : Params → ℕ → Phase → Type 0
+abbrev pub Shines : Params → ℕ → Phase → Type 0
 Shines p a phase = LitAt a phase ⊎ ((d : ℕ) × Waits d phase × (a < d) × (d ≤ a + p .ondelay))
 
 module _ (p : Params) (some : 1 ≤ p .timedon) (a : ℕ) where
@@ -189,7 +189,7 @@ module _ (s : State) (some : 1 ≤ s .params .timedon) (over : Over (s .clock + 
   order-shines (Bus event) e = no e
   order-shines (Power event) e = no e
 
-taken-shines : (s : State) (i : Input) (a : ℕ) → 1 ≤ s .params .timedon → Over (a + longestLight (s .params)) s → Taken (turn s a i) → lights (clockMove s a .state) i ≡ true →
+pub taken-shines : (s : State) (i : Input) (a : ℕ) → 1 ≤ s .params .timedon → Over (a + longestLight (s .params)) s → Taken (turn s a i) → lights (clockMove s a .state) i ≡ true →
     Shines (s .params) a (step s i a .state .phase)
 taken-shines s i a some over way lit =
     let met : State = clockMove s a .state in
@@ -206,12 +206,12 @@ Undimmed Counts z = Each (λ x. x .stamp < z → Counts x → dims (x .met) (x .
 
 module _ (a z end : ℕ) where
   -- before the next input acts
-  shows-here : (cues : List Cue) (s : State) (m : ℕ) → a ≤ m → m ≤ z → s .clock ≤ m → NotBefore m cues end → output (clockMove s m .state .phase) ≡ true → ShowsLight a z end cues s
+  pub shows-here : (cues : List Cue) (s : State) (m : ℕ) → a ≤ m → m ≤ z → s .clock ≤ m → NotBefore m cues end → output (clockMove s m .state .phase) ≡ true → ShowsLight a z end cues s
   unfolding plays
   shows-here cues s m from until reached waiting lit =
       record { acted = []; next = cues; split = refl; moment = m; from = from; until = until; reached = reached; waiting = waiting; lit = lit }
 
-  shows-later : (t : ℕ) (i : Input) (later : List Cue) (s : State) → ShowsLight a z end later (step s i t .state) → ShowsLight a z end (cue t i ∷ later) s
+  pub shows-later : (t : ℕ) (i : Input) (later : List Cue) (s : State) → ShowsLight a z end later (step s i t .state) → ShowsLight a z end (cue t i ∷ later) s
   unfolding plays
   shows-later t i later s w =
       record {
@@ -247,7 +247,7 @@ shines-shows a end later s clock some until r (inr (d, waits, after, within)) un
 
 -- every order before a has room for the longest light by a plus that
 module _ (p : Params) (a : ℕ) (i : Input) (later : List Cue) (end : ℕ) where
-  reached : (before : List Cue) (s : State) (last : ℕ) → Rises last (before ++ (cue a i ∷ later)) end → s .params ≡ p → Over (a + longestLight p) s →
+  pub reached : (before : List Cue) (s : State) (last : ℕ) → Rises last (before ++ (cue a i ∷ later)) end → s .params ≡ p → Over (a + longestLight p) s →
       (plays before s .state .params ≡ p) × Over (a + longestLight p) (plays before s .state)
   unfolding plays
   reached [] s last r e over = (e, over)
