@@ -11,7 +11,6 @@ ghost use Rattle.rules.specs.Steps.{step};
 ghost use Rattle.rules.specs.Soundness.{sound};
 ghost use Rattle.phases.specs.Room.{Room, Roomy};
 ghost use Rattle.lamps.specs.Lamps.{stateOf};
-ghost use Rattle.inputs.specs.Values.{OfKind};
 ghost use Rattle.orders.specs.Lights.{isLight};
 ghost use Rattle.actuator.specs.Acts.{doneBy, acted};
 use barriers::barrier::barrier_to;
@@ -92,12 +91,12 @@ fn same_table(p: Params, k: [Scene; 8], l: Lamp, i: Input) -> bool
 }
 
 // An order to the light: a phase that stays shows nothing new.
-fn take_light(p: Params, k: [Scene; 8], l: Lamp, kind: u8, i: Input) -> Done
-    requires { ⌜ Roomy p (l .clock) (l .phase) × OfKind kind i × (isLight i ≡ true) ⌝ }
+fn take_light(p: Params, k: [Scene; 8], l: Lamp, i: Input) -> Done
+    requires { ⌜ Roomy p (l .clock) (l .phase) × (isLight i ≡ true) ⌝ }
     ensures { λ r. ⌜ r ≡ doneBy (stateOf p k l) i (order (stateOf p k l) i) ⌝ }
 {
     let ph = l.phase;
-    let next = light_order(p, k, l, kind, i);
+    let next = light_order(p, k, l, i);
     if same_phase(ph, next) {
         Done {
             lamp: l,
@@ -109,17 +108,17 @@ fn take_light(p: Params, k: [Scene; 8], l: Lamp, kind: u8, i: Input) -> Done
         Done {
             lamp: after,
             answer: 0,
-            note: notes::written(kind, l, after),
+            note: notes::written(kind_of(i), l, after),
         }
     }
 }
 
 // Any other order: a lamp that stays shows nothing new.
-fn take_other(p: Params, l: Lamp, kind: u8, i: Input) -> Done
-    requires { ⌜ Room p (l .clock) × OfKind kind i × (isLight i ≡ false) ⌝ }
+fn take_other(p: Params, l: Lamp, i: Input) -> Done
+    requires { ⌜ Room p (l .clock) × (isLight i ≡ false) ⌝ }
     ensures { λ r. ⌜ ((k : List Scene) → r ≡ doneBy (stateOf p k l) i (order (stateOf p k l) i)) ⌝ }
 {
-    let after = other_order(p, l, kind, i);
+    let after = other_order(p, l, i);
     if same_lamp(l, after) {
         Done {
             lamp: l,
@@ -130,19 +129,19 @@ fn take_other(p: Params, l: Lamp, kind: u8, i: Input) -> Done
         Done {
             lamp: after,
             answer: 0,
-            note: notes::written(kind, l, after),
+            note: notes::written(kind_of(i), l, after),
         }
     }
 }
 
-// An input of this kind at the moved clock that nothing stops: kinds 1 to 3 are orders to the light.
-pub fn take(p: Params, k: [Scene; 8], l: Lamp, kind: u8, i: Input) -> Done
-    requires { ⌜ Roomy p (l .clock) (l .phase) × OfKind kind i ⌝ }
+// An input at the moved clock that nothing stops: kinds 1 to 3 are orders to the light.
+pub fn take(p: Params, k: [Scene; 8], l: Lamp, i: Input) -> Done
+    requires { ⌜ Roomy p (l .clock) (l .phase) ⌝ }
     ensures { λ r. ⌜ r ≡ doneBy (stateOf p k l) i (order (stateOf p k l) i) ⌝ }
 {
-    match kind {
-        1..=3 => take_light(p, k, l, kind, i),
-        _ => take_other(p, l, kind, i),
+    match kind_of(i) {
+        1..=3 => take_light(p, k, l, i),
+        _ => take_other(p, l, i),
     }
 }
 
@@ -158,11 +157,10 @@ pub fn step_input(s: State, i: Input, t: u32) -> Acted
     let ph = m.phase;
     let timers = m.notes;
     let moved = lamp::at_moment(l, t, ph);
-    let kind = kind_of(i);
-    let b = barrier_to(moved, kind);
+    let b = barrier_to(moved, kind_of(i));
     match b {
         Barrier::Open => {
-            let d = take(p, k, moved, kind, i);
+            let d = take(p, k, moved, i);
             let after = d.lamp;
             let note = d.note;
             Acted {

@@ -1,19 +1,12 @@
 -- What an input carries (01: "An input is one of eight kinds, each with its own value"): a switch value, a scene, a force or an event.
 -- A kind that does not carry the thing asked for gives one that nobody reads.
-use Prim.Native.Nat.{ℕ}
 use mathlib.Core.Bool.{Bool, false}
-use mathlib.Core.Path.{_≡_}
 use Rattle.rules.specs.declared.input.Force.{Force}
 use Rattle.rules.specs.declared.input.Force.the-variants.{Free}
 use Rattle.rules.specs.declared.input.Event.{Event}
 use Rattle.rules.specs.declared.input.Event.the-variants.{Failure}
 use Rattle.rules.specs.declared.input.Input.{Input}
 use Rattle.rules.specs.declared.input.Input.the-variants.{SwitchOnOff, TimedStartStop, NumberedSceneControl, SwitchOnOffForced, LockDevice, NightMode, Bus, Power}
-use Rattle.rules.specs.Inputs.{kind}
-
--- n is the number of its kind
-abbrev pub OfKind : ℕ → Input → Type 0
-OfKind n i = n ≡ kind i
 
 -- kinds 1, 2, 5 and 6
 abbrev pub switchIn : Input → Bool

@@ -6,7 +6,6 @@ ghost use mathlib.Core.List.{List};
 ghost use Rattle.rules.specs.declared.parameters.Scene.{Scene};
 ghost use Rattle.rules.specs.Orders.{order};
 ghost use Rattle.phases.specs.Room.{Room, Roomy};
-ghost use Rattle.inputs.specs.Values.{OfKind};
 ghost use Rattle.lamps.specs.Lamps.{lampOf, stateOf};
 ghost use Rattle.orders.specs.Lights.{asks, isLight, lightPhase};
 use inputs::value;
@@ -23,12 +22,11 @@ use switching::scene;
 use switching::wish;
 use switching::wish::Wish;
 
-// What an input of this kind asks of the light in this phase.
-fn asked(k: [Scene; 8], ph: Phase, kind: u8, i: Input) -> Wish
-    requires { ⌜ OfKind kind i ⌝ }
+// What an input asks of the light in this phase.
+fn asked(k: [Scene; 8], ph: Phase, i: Input) -> Wish
     ensures { λ r. ⌜ r ≡ asks k ph i ⌝ }
 {
-    match kind {
+    match value::kind_of(i) {
         1 => wish::switch_asks(value::switch_in(i)),
         2 => wish::timed_asks(ph, value::switch_in(i)),
         3 => wish::scene_asks(k, value::is_lesson(i), value::scene_in(i)),
@@ -37,21 +35,21 @@ fn asked(k: [Scene; 8], ph: Phase, kind: u8, i: Input) -> Wish
 }
 
 // The phase after an order to the light.
-pub fn light_order(p: Params, k: [Scene; 8], l: Lamp, kind: u8, i: Input) -> Phase
-    requires { ⌜ Roomy p (l .clock) (l .phase) × OfKind kind i ⌝ }
+pub fn light_order(p: Params, k: [Scene; 8], l: Lamp, i: Input) -> Phase
+    requires { ⌜ Roomy p (l .clock) (l .phase) ⌝ }
     ensures { λ r. ⌜ r ≡ lightPhase p k l i ⌝ }
 {
     let ph = l.phase;
-    light::grant(p, l, asked(k, ph, kind, i))
+    light::grant(p, l, asked(k, ph, i))
 }
 
 // The lamp after any other order. There is no other kind than these.
-pub fn other_order(p: Params, l: Lamp, kind: u8, i: Input) -> Lamp
-    requires { ⌜ Room p (l .clock) × OfKind kind i × (isLight i ≡ false) ⌝ }
+pub fn other_order(p: Params, l: Lamp, i: Input) -> Lamp
+    requires { ⌜ Room p (l .clock) × (isLight i ≡ false) ⌝ }
     ensures { λ r. ⌜ ((k : List Scene) → r ≡ lampOf (order (stateOf p k l) i)) ⌝ }
 {
     let link = l.link;
-    match kind {
+    match value::kind_of(i) {
         4 => force::force_order(p, l, value::force_in(i)),
         5 => lock::lock_order(p, l, value::switch_in(i)),
         6 => light::night_order(p, l, value::switch_in(i)),

@@ -91,12 +91,11 @@ fn play_inputs(file: &[u8], n: u32, start: State, records: &mut [u8], answers: &
         let at = input_place(i);
         let m = advance(records, count, p, l, stamp_at(file, at));
         let moved = m.lamp;
-        let kind = kind_at(file, at);
-        let b = barrier_to(moved, kind);
+        let b = barrier_to(moved, kind_at(file, at));
         match b {
             Barrier::Open => {
                 let x = known_input_at(file, at);
-                let d = take(p, k, moved, kind, x);
+                let d = take(p, k, moved, x);
                 let note = d.note;
                 count = put_note(records, m.count, note);
                 answers[i as usize] = d.answer;

@@ -12,32 +12,32 @@ use Rattle.orders.proofs.other_order.Tie as tie
 
 returns : tie.Need-returns
 unfolding orderByKind
-returns c = λ k. simp (← an-order-is-by-its-kind, c .force-order .ensures k, c .before .force-in .ensures, c .before .before .match .keys1, ← c .before .before .before .pre .1)
+returns c = λ k. simp (← an-order-is-by-its-kind, c .force-order .ensures k, c .before .force-in .ensures, c .before .before .match .keys1, ← c .before .before .before .kind-of .ensures)
 
 returns-2 : tie.Need-returns-2
 unfolding orderByKind
-returns-2 c = λ k. simp (← an-order-is-by-its-kind, c .lock-order .ensures k, c .before .switch-in .ensures, c .before .before .match .keys2, ← c .before .before .before .pre .1)
+returns-2 c = λ k. simp (← an-order-is-by-its-kind, c .lock-order .ensures k, c .before .switch-in .ensures, c .before .before .match .keys2, ← c .before .before .before .kind-of .ensures)
 
 returns-3 : tie.Need-returns-3
 unfolding orderByKind
-returns-3 c = λ k. simp (← an-order-is-by-its-kind, c .night-order .ensures k, c .before .switch-in2 .ensures, c .before .before .match .keys3, ← c .before .before .before .pre .1)
+returns-3 c = λ k. simp (← an-order-is-by-its-kind, c .night-order .ensures k, c .before .switch-in2 .ensures, c .before .before .match .keys3, ← c .before .before .before .kind-of .ensures)
 
 returns-4 : tie.Need-returns-4
 unfolding orderByKind
-returns-4 c = λ k. simp (← an-order-is-by-its-kind, c .bus-event .ensures k, c .before .event-in .ensures, c .before .before .match .keys4, ← c .before .before .before .pre .1)
+returns-4 c = λ k. simp (← an-order-is-by-its-kind, c .bus-event .ensures k, c .before .event-in .ensures, c .before .before .match .keys4, ← c .before .before .before .kind-of .ensures)
 
 returns-5 : tie.Need-returns-5
 unfolding orderByKind
-returns-5 c = λ k. simp (← an-order-is-by-its-kind, c .power-event .ensures k, c .before .event-in2 .ensures, c .before .before .match .keys5, ← c .before .before .before .pre .1)
+returns-5 c = λ k. simp (← an-order-is-by-its-kind, c .power-event .ensures k, c .before .event-in2 .ensures, c .before .before .match .keys5, ← c .before .before .before .kind-of .ensures)
 
 -- there is no other kind
 returns-6 : tie.Need-returns-6
 returns-6 c = λ k.
-    let i = c .before .args .i in
-    let n = c .before .args .kind in
-    let same : n ≡ kind i = c .before .pre .1 in
+    let i = c .before .before .args .i in
+    let n = c .before .kind-of .result in
+    let same : n ≡ kind i = c .before .kind-of .ensures in
     let other = c .match .rest in
-    let some : 4 ≤ n = rw same (leb-false (kind i) 3 (c .before .pre .2)) in
+    let some : 4 ≤ n = rw same (leb-false (kind i) 3 (c .before .before .pre .1)) in
     let late : 6 ≤ n = omega (arith, some, other .0 .0 .0 .0 .1, other .0 .0 .0 .1) in
     absurd (omega (arith, late, same, kind-range i .1, other .0 .0 .1, other .0 .1, other .1))
 
@@ -45,6 +45,7 @@ pub other-order-spec : {M : Type 1} → statement M
 other-order-spec =
     tie.close
     (tie.spec
+    (λ c κs. search needs)
     (λ c κs. search needs)
     (λ c κs. search needs)
     (λ c κs. search needs)

@@ -25,10 +25,7 @@ unfolding ticked
 take-requires c κs =
     let a = c .before .before .before .before .before .before .before .before .before .before in
     let l = c .before .before .before .before .before .before .before .lamp-of .ensures in
-    (
-      rw (c .before .before .before .before .at-moment .ensures, rw l at (c .before .before .before .before .before .before .run-timers .ensures (a .args .s .scenes))) (moved-roomy (a .args .s) (a .args .t) (a .pre .0) (a .pre .1) (a .pre .2)),
-      c .before .before .before .kind-of .ensures,
-    )
+    rw (c .before .before .before .before .at-moment .ensures, rw l at (c .before .before .before .before .before .before .run-timers .ensures (a .args .s .scenes))) (moved-roomy (a .args .s) (a .args .t) (a .pre .0) (a .pre .1) (a .pre .2))
 
 add-requires : tie.Need-add-requires
 unfolding ticked notes

@@ -63,11 +63,8 @@ take-requires c κs =
     let l = c .before .before .before .before .before .before .before .before .before .before .before .before .before .loop .l in
     let g = c .before .before .before .before .before .before .before .before .before .before .before .before .before .loop .inv in
     let f = turn _ _ _ _ _ ready _ _ _ _ _ g (c .before .before .before .before .before .before .before .before .before .before .before .before .loop-test .taken) in
-    (
-      rw (c .before .before .before .before .before .before .before .before .advance .ensures k .lamp, c .before .before .before .before .before .before .before .before .before .stamp-at .ensures, c .before .before .before .before .before .before .before .before .before .before .before .input-place .ensures, move-clock (stateOf (a .start .params) k l) _)
-      (moved-roomy (stateOf (a .start .params) k l) _ (g .safe) (f .risen) (omega (arith, f .timely, ready .timely))),
-      c .before .before .before .before .kind-at .ensures _ (c .known-input-at .ensures),
-    )
+    rw (c .before .before .before .before .before .before .before .before .advance .ensures k .lamp, c .before .before .before .before .before .before .before .before .before .stamp-at .ensures, c .before .before .before .before .before .before .before .before .before .before .before .input-place .ensures, move-clock (stateOf (a .start .params) k l) _)
+    (moved-roomy (stateOf (a .start .params) k l) _ (g .safe) (f .risen) (omega (arith, f .timely, ready .timely)))
 
 put-note-requires : tie.Need-put-note-requires Inv-loop μ-loop
 put-note-requires c κs =
