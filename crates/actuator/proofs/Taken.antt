@@ -34,7 +34,7 @@ use Rattle.timers.specs.declared.clock.Ticked.{Ticked}
 use Rattle.actuator.specs.declared.step.Done.{Done}
 use Rattle.records.specs.declared.notes.Note.the-variants.{Silent}
 use Rattle.records.specs.Notes.{noteOf, added, notes, firstOf}
-use Rattle.timers.specs.Ticks.{ticked}
+use Rattle.timers.specs.Ticks.{timersOf}
 use Rattle.actuator.specs.Acts.{done, doneBy, stoppedBy, acted}
 use Rattle.timers.proofs.Moves.{joined, moved-lamp}
 use Rattle.records.proofs.Written.{first-written, added-first}
@@ -156,10 +156,10 @@ module _ (s : State) (i : Input) (t : ℕ) where
       let k = acting-keeps (clockMove s t .state) i in
       rw (e .0, e .1, e .2, added-first (clockMove s t .records) (later .records) (a-move-writes-at-most-two s t) (k .1), later-joined) refl
 
-  pub step-by-parts : (moved : Lamp) (m : Ticked) (d : Done) (table : List Scene) → m ≡ ticked (clockMove s t) → moved ≡ lampOf (atMoment (alone (lampOf s)) t (m .phase))
+  pub step-by-parts : (moved : Lamp) (m : Ticked) (d : Done) (table : List Scene) → m ≡ timersOf (clockMove s t) → moved ≡ lampOf (atMoment (alone (lampOf s)) t (m .phase))
       → d ≡ done (act (still (stateOf (s .params) (s .scenes) moved)) i) → table ≡ act (still (stateOf (s .params) (s .scenes) moved)) i .state .scenes
       → record { state = stateOf (s .params) table (d .lamp); answer = d .answer; notes = added (m .notes) (d .note) } ≡ acted (step s i t)
-  unfolding ticked done
+  unfolding timersOf done
   step-by-parts moved m d table e f g h =
       let there : stateOf (s .params) (s .scenes) moved ≡ clockMove s t .state = rw (f, e) (moved-lamp (s .params) (s .scenes) (lampOf s) t) in
       rw (rw there at h, rw there at g, e) whole

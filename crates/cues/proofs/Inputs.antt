@@ -19,17 +19,17 @@ use Rattle.inputs.specs.Meaning.{isMeant}
 use Rattle.cues.specs.Checks.{checkOne}
 
 -- the first of two refusals
-abbrev firstOf : Check → Check → Check
-firstOf Passed later = later
-firstOf (Refused why place) later = Refused why place
+abbrev orElse : Check → Check → Check
+orElse Passed later = later
+orElse (Refused why place) later = Refused why place
 
 -- an input decides by itself, or leaves it to those after it
-one-decides : (meant : Decoded) (stamp last end i : ℕ) (later : Reading) → verdict (readOne meant stamp last end i later) ≡ firstOf (checkOne (isMeant meant) stamp last end i) (verdict later)
+one-decides : (meant : Decoded) (stamp last end i : ℕ) (later : Reading) → verdict (readOne meant stamp last end i later) ≡ orElse (checkOne (isMeant meant) stamp last end i) (verdict later)
 unfolding checkOne readOne
 one-decides Wrong stamp last end i later = refl
 one-decides (Meant x) stamp last end i later = by (leb last stamp && leb stamp end) later
   where
-    by : (b : Bool) (later : Reading) → verdict (cond b (before (cue stamp x) later) (bad BadStamp i)) ≡ firstOf (cond b Passed (Refused BadStamp i)) (verdict later)
+    by : (b : Bool) (later : Reading) → verdict (cond b (before (cue stamp x) later) (bad BadStamp i)) ≡ orElse (cond b Passed (Refused BadStamp i)) (verdict later)
     by true (cues list) = refl
     by true (bad why place) = refl
     by false later = refl
@@ -39,7 +39,7 @@ unfolding readInputs
 none-left file n i last end h = let e : n - i ≡ 0 = omega arith in rw e
 
 module _ (file : List ℕ) (n i last end : ℕ) (more : i < n) where
-  one-left : verdict (readInputs file (n - i) i last end) ≡ firstOf (checkOne (isMeant (inputAt file (inputPlace i))) (stampAt file (inputPlace i)) last end i) (verdict (readInputs file (n - (i + 1)) (i + 1) (stampAt file (inputPlace i)) end))
+  one-left : verdict (readInputs file (n - i) i last end) ≡ orElse (checkOne (isMeant (inputAt file (inputPlace i))) (stampAt file (inputPlace i)) last end i) (verdict (readInputs file (n - (i + 1)) (i + 1) (stampAt file (inputPlace i)) end))
   unfolding readInputs
   one-left = let e : n - i ≡ suc (n - (i + 1)) = omega arith in rw e (one-decides _ _ _ _ _ _)
 

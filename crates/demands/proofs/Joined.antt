@@ -36,43 +36,7 @@ use Rattle.rules.proofs.Refusals.Calls.{good-is-played}
 use Rattle.rules.proofs.Refusals.Files.{good-file, good-start, parameters-small}
 use Rattle.rules.proofs.Refusals.Readings.{First, first-read}
 use Rattle.rules.proofs.Refusals.Runs.{a-good-file-is-played}
-
--- ---- the calls, joined
-
--- the eight octets of an input
-unfoldable pub inputIn : List ℕ → ℕ → List ℕ
-inputIn file i = take 8 (drop (inputPlace i) file)
-
--- these many inputs from index i on
-unfoldable pub inputsIn : List ℕ → ℕ → ℕ → List (List ℕ)
-inputsIn file zero i = []
-inputsIn file (suc left) i = inputIn file i ∷ inputsIn file left (i + 1)
-
--- what a call gave: the records it counts, and the answer of a single input
-abbrev pub singlePlayed : Single → Played
-singlePlayed r = record { state = r .state; answers = r .answer ∷ []; records = take (r .count) (r .records) }
-
-abbrev pub movePlayed : Move → Played
-movePlayed r = record { state = r .state; answers = []; records = take (r .count) (r .records) }
-
--- single inputs one after the other, each handed the state that the one before gave, then a clock move
-unfoldable pub calls : ℕ → List (List ℕ) → State → Played
-calls end [] s = movePlayed (moveCall s end)
-calls end (octets ∷ later) s = andThen (singlePlayed (singleCall s octets)) (calls end later)
-
--- none of them is refused
-abbrev pub NoneRefused : ℕ → List (List ℕ) → State → Type 0
-NoneRefused end [] s = moveCall s end .code ≡ 0
-NoneRefused end (octets ∷ later) s = (singleCall s octets .code ≡ 0) × NoneRefused end later (singleCall s octets .state)
-
--- the calls of a whole file
-unfoldable pub startOf : List ℕ → State
-startOf file = freshCall (parametersIn file) .state
-
-unfoldable pub callsOf : List ℕ → Played
-callsOf file =
-    andThen (record { state = startOf file; answers = []; records = recordOf byItself (startOf file) ∷ [] })
-    (calls (endTime file) (inputsIn file (inputCount file) 0))
+use Rattle.demands.specs.Joined.{inputIn, inputsIn, singlePlayed, movePlayed, calls, NoneRefused, startOf, callsOf, Joined}
 
 -- ---- one call
 
@@ -149,12 +113,6 @@ fresh-played octets passed = rw passed
 start-is-fresh : (file : List ℕ) → checkParameters (parametersIn file) ≡ Passed → startOf file ≡ fresh (paramsOf (parametersIn file)) (scenesOf (parametersIn file))
 unfolding startOf
 start-is-fresh file passed = ap (λ (r : Fresh). r .state) (fresh-played (parametersIn file) passed)
-
--- what the run of an accepted file has to do with the public calls
-pub record Joined (file : List ℕ) (list : List Cue) : Type 0 where
-  pub fresh : freshCall (parametersIn file) .code ≡ 0
-  pub accepted : NoneRefused (endTime file) (inputsIn file (inputCount file) 0) (startOf file)
-  pub joined : playFile file list ≡ callsOf file
 
 -- for any file of octets, which are below 256
 pub file-is-the-calls-joined : (file : List ℕ) (list : List Cue) → ((i : ℕ) → octet file i < 256) → readFile file ≡ cues list → Joined file list

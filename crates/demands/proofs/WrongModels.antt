@@ -30,17 +30,11 @@ use Rattle.demands.specs.Demands.{Model, StaysWithin, Judges, OfEveryAcc
 use Rattle.base.proofs.Tests.{either-way}
 use Rattle.rules.proofs.Promises.Worked.{on-at, off-at, night-at}
 use Rattle.rules.proofs.Refusals.Runs.{records-length}
+use Rattle.demands.specs.WrongModels.{playedBy, modelBy, StartRecordOnly, playsNothing, fixedTrace, playsFirst, firstInputOnly, inventedCount}
 use Rattle.demands.proofs.Shown.{at-or-before}
 use Rattle.demands.proofs.Meets.{accepted-records, our-run-counts-changes}
 
 -- ---- models that judge a file as the table does, and play it in a way of their own
-
-unfoldable pub playedBy : (List ℕ → List Cue → Played) → Reading → List ℕ → List ℕ → List ℕ → Whole
-playedBy play (cues list) file records answers = accepted (play file list) records answers
-playedBy play (bad why place) file records answers = refused why place records answers
-
-unfoldable pub modelBy : (List ℕ → List Cue → Played) → Model
-modelBy play file records answers = playedBy play (readCall file records answers) file records answers
 
 is-played : (play : List ℕ → List Cue → Played) (file records answers : List ℕ) (list : List Cue) → readCall file records answers ≡ cues list →
     modelBy play file records answers ≡ accepted (play file list) records answers
@@ -199,17 +193,6 @@ the-model-that-refuses-all-files-breaks-demand-2 m refuses judges = refuses (fil
 
 -- ---- "A step that changes nothing falls to the Light half of demand 3"
 
--- where a step changes nothing, the start record is the only one; end state and answers may be any
-abbrev pub StartRecordOnly : Model → Type 0
-StartRecordOnly m =
-    OfEveryAccepted (λ file records answers list. recordsOf (m file records answers) ≡ recordOf byItself (fresh (paramsOf (parametersIn file)) (scenesOf (parametersIn file))) ∷ [])
-
--- as when each input leaves the fresh state as it is and is answered 1
-unfoldable pub playsNothing : List ℕ → List Cue → Played
-playsNothing file list =
-    let start : State = fresh (paramsOf (parametersIn file)) (scenesOf (parametersIn file)) in
-    record { state = start; answers = replicate (length list) 1; records = recordOf byItself start ∷ [] }
-
 pub it-may-have-the-start-record-only : StartRecordOnly (modelBy playsNothing)
 it-may-have-the-start-record-only file records answers list read = its-records playsNothing file records answers list read ∙ unfold playsNothing in refl
 
@@ -220,10 +203,6 @@ the-step-that-changes-nothing-breaks-light m only light =
     elim shown [ inl was ↦ omega (arith, was) | inr more ↦ omega (arith, more) ]
 
 -- ---- "one fixed trace [falls] to its two halves together"
-
--- whatever the file, the same records, answers and end state
-unfoldable pub fixed-trace : Played → Model
-fixed-trace trace = modelBy (λ file list. trace)
 
 -- 255 was not shown before a where 0 is shown just before it
 not-shown : (t v w : ℕ) (l : List Record) → (v ≡ 255 → w ≡ 0 → ⊥) → shownBefore (suc t) v l ≡ 255 → shownAt t w l ≡ 0 → ⊥
@@ -238,52 +217,35 @@ not-shown t v w (r ∷ l) differ lit dark = not-shown t _ _ l (by (leb (suc t) (
     by false false e f x y = omega (arith, leb-false (suc t) (r .stamp) e, leb-false (r .stamp) t f)
 
 -- an On at each of these moments is shown by a record of its own
-fixed-trace-grows : (trace : Played) → KeepsDark (fixed-trace trace) → KeepsLight (fixed-trace trace) → (k : ℕ) → k ≤ 10 → k ≤ stampedBefore (11 + k) (trace .records)
-unfolding fixed-trace
+fixed-trace-grows : (trace : Played) → KeepsDark (fixedTrace trace) → KeepsLight (fixedTrace trace) → (k : ℕ) → k ≤ 10 → k ≤ stampedBefore (11 + k) (trace .records)
+unfolding fixedTrace
 fixed-trace-grows trace dark light zero h = omega arith
 fixed-trace-grows trace dark light (suc k) h =
     let fewer = fixed-trace-grows trace dark light k (omega arith) in
     let next : 11 + suc k ≡ suc (11 + k) = omega arith in
     let here : 11 + k ≡ suc (10 + k) = omega arith in
-    let lit = rw (its-records (λ file list. trace) (fileOf 1 (octetsOf (11 + k) 1 1)) room room (on-at (11 + k) ∷ []) (one-on (11 + k) (omega arith))) at (on-shows (fixed-trace trace) light (11 + k) (omega arith)) in
-    let unlit = rw (its-records (λ file list. trace) (fileOf 1 (octetsOf 0 6 1)) room room (night-at 0 ∷ []) one-night) at (night-shows (fixed-trace trace) dark (10 + k) (omega arith) (omega arith)) in
+    let lit = rw (its-records (λ file list. trace) (fileOf 1 (octetsOf (11 + k) 1 1)) room room (on-at (11 + k) ∷ []) (one-on (11 + k) (omega arith))) at (on-shows (fixedTrace trace) light (11 + k) (omega arith)) in
+    let unlit = rw (its-records (λ file list. trace) (fileOf 1 (octetsOf 0 6 1)) room room (night-at 0 ∷ []) one-night) at (night-shows (fixedTrace trace) dark (10 + k) (omega arith) (omega arith)) in
     elim lit [
       | inl was ↦ absurd (not-shown (10 + k) 0 255 (trace .records) (λ x y. omega arith) (rw here at was) unlit)
       | inr more ↦ rw next (omega arith)
     ]
 
-pub one-short-fixed-trace-breaks-dark-or-light : (trace : Played) → length (trace .records) ≤ 3 → KeepsDark (fixed-trace trace) → KeepsLight (fixed-trace trace) → ⊥
+pub one-short-fixed-trace-breaks-dark-or-light : (trace : Played) → length (trace .records) ≤ 3 → KeepsDark (fixedTrace trace) → KeepsLight (fixedTrace trace) → ⊥
 one-short-fixed-trace-breaks-dark-or-light trace few dark light = omega (arith, fixed-trace-grows trace dark light 4 (omega arith), at-most-all 15 (trace .records))
 
 -- a file without inputs may be lent 24 octets, which three records fill
-three-records-fill : (trace : Played) → StaysWithin (fixed-trace trace) → length (trace .records) ≤ 3
-unfolding fixed-trace accepted over
+three-records-fill : (trace : Played) → StaysWithin (fixedTrace trace) → length (trace .records) ≤ 3
+unfolding fixedTrace accepted over
 three-records-fill trace within =
     let lent : List ℕ = replicate 24 0 in
     let kept = rw (is-played (λ file list. trace) (fileOf 0 []) lent [] [] least-room) at (within (fileOf 0 []) lent [] .0) in
     omega (arith, rw (length-append, length-drop (length (recordsOctets (trace .records))) lent, records-length (trace .records)) at kept)
 
-pub one-fixed-trace-breaks-dark-or-light : (trace : Played) → StaysWithin (fixed-trace trace) → KeepsDark (fixed-trace trace) → KeepsLight (fixed-trace trace) → ⊥
+pub one-fixed-trace-breaks-dark-or-light : (trace : Played) → StaysWithin (fixedTrace trace) → KeepsDark (fixedTrace trace) → KeepsLight (fixedTrace trace) → ⊥
 one-fixed-trace-breaks-dark-or-light trace within = one-short-fixed-trace-breaks-dark-or-light trace (three-records-fill trace within)
 
 -- ---- "One that plays the first input and ignores the rest falls to demand 2 over the whole list"
-
-abbrev firstOf : List Cue → List Cue
-firstOf [] = []
-firstOf (c ∷ later) = c ∷ []
-
-abbrev onesFor : List Cue → List ℕ
-onesFor [] = []
-onesFor (c ∷ later) = replicate (length later) 1
-
--- the first input, then the move to the end; the other inputs are answered 1
-unfoldable pub playsFirst : List ℕ → List Cue → Played
-playsFirst file list =
-    let first : Played = playFile file (firstOf list) in
-    record { state = first .state; answers = first .answers ++ onesFor list; records = first .records }
-
-unfoldable pub first-input-only : Model
-first-input-only = modelBy playsFirst
 
 -- an On lights the lamp, and an Off after it puts it out
 lit-at-the-end : output (playList leastParams noScenes (on-at 0 ∷ []) 20 .state .phase) ≡ true
@@ -294,8 +256,8 @@ dark-at-the-end : output (playList leastParams noScenes (on-at 0 ∷ off-at 0 �
 unfolding playing playList playsTo
 dark-at-the-end = refl
 
-pub the-model-that-plays-the-first-input-only-breaks-demand-2 : PlaysAll first-input-only → ⊥
-unfolding first-input-only accepted playsFirst playFile
+pub the-model-that-plays-the-first-input-only-breaks-demand-2 : PlaysAll firstInputOnly → ⊥
+unfolding firstInputOnly accepted playsFirst playFile
 the-model-that-plays-the-first-input-only-breaks-demand-2 plays-all =
     let inputs : List ℕ = octetsOf 0 1 1 ++ octetsOf 0 1 0 in
     let file : List ℕ = fileOf 2 inputs in
@@ -305,22 +267,15 @@ the-model-that-plays-the-first-input-only-breaks-demand-2 plays-all =
 
 -- ---- "and so does an invented record count, since that count is the number of changes the phase rules give"
 
-abbrev counted : Whole → ℕ → Whole
-counted w n = record { report = record { state = w .report .state; code = w .report .code; place = w .report .place; count = n }; records = w .records; answers = w .answers }
-
--- our run, but for its count
-unfoldable pub invented-count : (ℕ → ℕ) → Model
-invented-count f file records answers = let w : Whole = runCall file records answers in counted w (f (w .report .count))
-
 -- any other number for the count of any accepted run
 pub an-invented-record-count-breaks-demand-2 : (f : ℕ → ℕ) (file records answers : List ℕ) (list : List Cue) → readCall file records answers ≡ cues list →
-    (f (runCall file records answers .report .count) ≡ runCall file records answers .report .count → ⊥) → CountsChanges (invented-count f) → ⊥
-unfolding invented-count
+    (f (runCall file records answers .report .count) ≡ runCall file records answers .report .count → ⊥) → CountsChanges (inventedCount f) → ⊥
+unfolding inventedCount
 an-invented-record-count-breaks-demand-2 f file records answers list read other counts =
     other (counts file records answers list read ∙ sym (our-run-counts-changes file records answers list read))
 
 -- one too many
-pub one-record-too-many-breaks-demand-2 : CountsChanges (invented-count suc) → ⊥
+pub one-record-too-many-breaks-demand-2 : CountsChanges (inventedCount suc) → ⊥
 one-record-too-many-breaks-demand-2 = an-invented-record-count-breaks-demand-2 suc (fileOf 0 []) room room [] no-inputs (λ same. omega arith)
 
 -- ---- an On that is lost after an Off of its own stamp, though the lamp was lit before both

@@ -1,1 +1,3 @@
 pub mod Demands
+pub mod Joined
+pub mod WrongModels

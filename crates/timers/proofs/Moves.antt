@@ -30,7 +30,7 @@ use Rattle.lamps.specs.Lamps.{lampOf, stateOf, alone}
 use Rattle.records.specs.Notes.{listed, notes, noNotes, added}
 use Rattle.records.specs.declared.notes.Notes.{Notes}
 use Rattle.records.proofs.Written.{listed-written, added-listed, notes-count}
-use Rattle.timers.specs.Ticks.{timerOf, ticked, dueBy}
+use Rattle.timers.specs.Ticks.{timerOf, timersOf, dueBy}
 
 -- a state is its parameters, its scenes and its lamp
 pub joined : (s : State) (p : Params) (k : List Scene) → s .params ≡ p → s .scenes ≡ k → stateOf p k (lampOf s) ≡ s
@@ -126,6 +126,6 @@ module _ (p : Params) (l : Lamp) (t : ℕ) where
           running = running-on p l t now (o .wrote) (o .running) e;
         }
 
-    pub noted-last : dueBy (deadline now) t ≡ false → (k : List Scene) → record { phase = now; notes = n } ≡ ticked (clockMove (stateOf p k l) t)
-    unfolding ticked
+    pub noted-last : dueBy (deadline now) t ≡ false → (k : List Scene) → record { phase = now; notes = n } ≡ timersOf (clockMove (stateOf p k l) t)
+    unfolding timersOf
     noted-last e k = let whole = running-last p l t now (o .wrote) (o .running) e k in rw (whole .0, whole .1, o .noted) refl

@@ -32,8 +32,8 @@ timerOf p l phase =
     }
 
 -- the timers of a clock move, and the whole move
-unfoldable pub ticked : Moved → Ticked
-ticked m = record { phase = m .state .phase; notes = notes (m .records) }
+unfoldable pub timersOf : Moved → Ticked
+timersOf m = record { phase = m .state .phase; notes = notes (m .records) }
 
 unfoldable pub clocked : Moved → Clocked
 clocked m = record { state = m .state; notes = notes (m .records) }

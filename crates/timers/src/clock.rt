@@ -7,7 +7,7 @@ ghost use Rattle.rules.specs.Answers.{due};
 ghost use Rattle.rules.specs.Steps.{clockMove};
 ghost use Rattle.phases.specs.Room.{Room};
 ghost use Rattle.lamps.specs.Lamps.{stateOf};
-ghost use Rattle.timers.specs.Ticks.{dueBy, timerOf, ticked, clocked};
+ghost use Rattle.timers.specs.Ticks.{dueBy, timerOf, timersOf, clocked};
 use lamps::lamp;
 use lamps::lamp::Lamp;
 use phases::phase;
@@ -65,7 +65,7 @@ pub fn run_timer(p: Params, l: Lamp, ph: Phase) -> Timer
 // Every timer due at or before t, until none is.
 pub fn run_timers(p: Params, l: Lamp, t: u32) -> Ticked
     requires { ⌜ Room p t ⌝ }
-    ensures { λ r. ⌜ ((k : List Scene) → r ≡ ticked (clockMove (stateOf p k l) t)) ⌝ }
+    ensures { λ r. ⌜ ((k : List Scene) → r ≡ timersOf (clockMove (stateOf p k l) t)) ⌝ }
 {
     let mut ph = l.phase;
     let mut written = notes::none();

@@ -37,56 +37,56 @@ same = record { params = refl; clock = refl; scenes = inl refl }
 
 module _ (taught : List Scene) where
   -- what s has, u has too
-  abbrev Keeps : State → State → Type 0
-  Keeps s u = Kept (s .params) (s .clock) (s .scenes) taught u
+  abbrev KeepsAll : State → State → Type 0
+  KeepsAll s u = Kept (s .params) (s .clock) (s .scenes) taught u
 
-  settle-keeps : (s : State) (output : Bool) → Keeps s (settle s output)
+  settle-keeps : (s : State) (output : Bool) → KeepsAll s (settle s output)
   unfolding settle
   settle-keeps s true = same
   settle-keeps s false = same
 
-  switch-keeps : (s : State) (value : Bool) → Keeps s (switch s value)
+  switch-keeps : (s : State) (value : Bool) → KeepsAll s (switch s value)
   unfolding switch
   switch-keeps s true = same
   switch-keeps s false = same
 
-  timed-keeps : (s : State) (value : Bool) → Keeps s (timed s value)
+  timed-keeps : (s : State) (value : Bool) → KeepsAll s (timed s value)
   unfolding timed
   timed-keeps s true = same
   timed-keeps s false = same
 
-  recall-keeps : (s : State) (found : Recalled) → Keeps s (recall s found)
+  recall-keeps : (s : State) (found : Recalled) → KeepsAll s (recall s found)
   unfolding recall
   recall-keeps s Nothing = same
   recall-keeps s (Output value) = switch-keeps s value
 
-  night-keeps : (s : State) (value : Bool) → Keeps s (nightMode s value)
+  night-keeps : (s : State) (value : Bool) → KeepsAll s (nightMode s value)
   unfolding nightMode
-  night-keeps s true = cond-case (Keeps s) (s .night) _ _ (λ on. same) (λ off. same)
+  night-keeps s true = cond-case (KeepsAll s) (s .night) _ _ (λ on. same) (λ off. same)
   night-keeps s false = same
 
-  forced-keeps : (s : State) (force : Force) → Keeps s (forced s force)
+  forced-keeps : (s : State) (force : Force) → KeepsAll s (forced s force)
   unfolding forced
   forced-keeps s Off = same
   forced-keeps s On = same
-  forced-keeps s Free = cond-case (Keeps s) (standing (s .force)) _ _ (λ stood. settle-keeps (withForce s Free) _) (λ free. same)
+  forced-keeps s Free = cond-case (KeepsAll s) (standing (s .force)) _ _ (λ stood. settle-keeps (withForce s Free) _) (λ free. same)
 
-  unlocked-keeps : (s : State) (force : Force) → Keeps s (unlocked s force)
+  unlocked-keeps : (s : State) (force : Force) → KeepsAll s (unlocked s force)
   unfolding unlocked
   unlocked-keeps s Off = same
   unlocked-keeps s On = same
   unlocked-keeps s Free = settle-keeps (withLock s false (s .atlocking)) _
 
-  lock-keeps : (s : State) (value : Bool) → Keeps s (lockDevice s value)
+  lock-keeps : (s : State) (value : Bool) → KeepsAll s (lockDevice s value)
   unfolding lockDevice locked
-  lock-keeps s true = cond-case (Keeps s) (s .lock) _ _ (λ already. same) (λ free. same)
-  lock-keeps s false = cond-case (Keeps s) (s .lock) _ _ (λ stood. unlocked-keeps s (s .force)) (λ free. same)
+  lock-keeps s true = cond-case (KeepsAll s) (s .lock) _ _ (λ already. same) (λ free. same)
+  lock-keeps s false = cond-case (KeepsAll s) (s .lock) _ _ (λ stood. unlocked-keeps s (s .force)) (λ free. same)
 
-  bus-mode-keeps : (s : State) (mode : ℕ) → Keeps s (busMode s mode)
+  bus-mode-keeps : (s : State) (mode : ℕ) → KeepsAll s (busMode s mode)
   unfolding busMode
-  bus-mode-keeps s mode = cond-case (Keeps s) (held s || eqb mode 0) _ _ (λ keep. same) (λ acts. settle-keeps s _)
+  bus-mode-keeps s mode = cond-case (KeepsAll s) (held s || eqb mode 0) _ _ (λ keep. same) (λ acts. settle-keeps s _)
 
-  bus-keeps : (s : State) (link : Link) (event : Event) → Keeps s (bus s link event)
+  bus-keeps : (s : State) (link : Link) (event : Event) → KeepsAll s (bus s link event)
   unfolding bus
   bus-keeps s Up Failure = bus-mode-keeps (withLink s BusDown) _
   bus-keeps s Up Return = same
@@ -94,7 +94,7 @@ module _ (taught : List Scene) where
   bus-keeps s BusDown Return = bus-mode-keeps (withLink s Up) _
   bus-keeps s PowerDown event = same
 
-  power-keeps : (s : State) (link : Link) (event : Event) → Keeps s (power s link event)
+  power-keeps : (s : State) (link : Link) (event : Event) → KeepsAll s (power s link event)
   unfolding power powerFails powerReturns
   power-keeps s Up Failure = same
   power-keeps s Up Return = same
@@ -103,10 +103,10 @@ module _ (taught : List Scene) where
   power-keeps s PowerDown Failure = same
   power-keeps s PowerDown Return = settle-keeps (withLink s Up) _
 
-learn-keeps : (s : State) (number : ℕ) → Keeps (learnt (s .scenes) number (output (s .phase))) s (learn s number)
+learn-keeps : (s : State) (number : ℕ) → KeepsAll (learnt (s .scenes) number (output (s .phase))) s (learn s number)
 unfolding learn
 learn-keeps s number =
-    cond-case (Keeps (learnt (s .scenes) number (output (s .phase))) s) (s .params .learning) _ _
+    cond-case (KeepsAll (learnt (s .scenes) number (output (s .phase))) s) (s .params .learning) _ _
     (λ enabled. record { params = refl; clock = refl; scenes = inr refl })
     (λ disabled. same)
 

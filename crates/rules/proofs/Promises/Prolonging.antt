@@ -48,10 +48,10 @@ pub data Prolongs (s : State) (i : Input) : Type 0 where
   fromPowerDown : powerDown (s .link) ≡ true → Prolongs s i
 
 -- the longest light from the clock on is over by m
-abbrev Room : ℕ → State → Type 0
-Room m s = s .clock + longestLight (s .params) ≤ m
+abbrev LastsBy : ℕ → State → Type 0
+LastsBy m s = s .clock + longestLight (s .params) ≤ m
 
-settle-over : (s : State) (output : Bool) (m : ℕ) → (output ≡ true → Room m s) → Over m (settle s output)
+settle-over : (s : State) (output : Bool) (m : ℕ) → (output ≡ true → LastsBy m s) → Over m (settle s output)
 unfolding settle held
 settle-over s true m room = set-on-over (s .params) (s .clock) m (room refl) (s .night) (held s)
 settle-over s false m room = tt
@@ -63,17 +63,17 @@ held-over s true m holds = rw holds (and-false (s .night))
 held-over s false m holds = tt
 
 module _ (s : State) (m : ℕ) (over : Over m s) where
-  switch-over : (value : Bool) → (value ≡ true → Room m s) → Over m (switch s value)
+  switch-over : (value : Bool) → (value ≡ true → LastsBy m s) → Over m (switch s value)
   unfolding switch held
   switch-over true room = on-over (s .params) (s .clock) m (room refl) (s .night) (held s) (s .phase) over
   switch-over false room = off-over (s .params) (s .night && not (held s)) (s .clock) m (s .phase) over
 
-  timed-over : (value : Bool) → (value ≡ true → Room m s) → Over m (timed s value)
+  timed-over : (value : Bool) → (value ≡ true → LastsBy m s) → Over m (timed s value)
   unfolding timed held
   timed-over true room = timed-start-over (s .params) (s .clock) m (room refl) (s .night && not (held s)) (s .phase) over
   timed-over false room = timed-stop-over (s .params) (s .night && not (held s)) (s .clock) m (s .phase) over
 
-  recall-over : (found : Recalled) → (recallsOn found ≡ true → Room m s) → Over m (recall s found)
+  recall-over : (found : Recalled) → (recallsOn found ≡ true → LastsBy m s) → Over m (recall s found)
   unfolding recall
   recall-over Nothing room = over
   recall-over (Output value) room = switch-over value room
@@ -82,35 +82,35 @@ module _ (s : State) (m : ℕ) (over : Over m s) where
   unfolding learn held
   learn-over number = either-way (Over m) (s .params .learning) _ _ over over
 
-  night-over : (value : Bool) → (s .night ≡ false → Room m s) → Over m (nightMode s value)
+  night-over : (value : Bool) → (s .night ≡ false → LastsBy m s) → Over m (nightMode s value)
   unfolding nightMode held
   night-over true room =
       cond-case (Over m) (s .night) _ _ (λ already. over)
       (λ day. night-falls-over (s .params) (s .clock) m (room day) (s .night && not (held s)) (not (held s)) (s .phase) over)
   night-over false room = night-ends-over (s .params) (s .night && not (held s)) m (s .phase) over
 
-  forced-over : (force : Force) → (standing (s .force) ≡ true → Room m s) → Over m (forced s force)
+  forced-over : (force : Force) → (standing (s .force) ≡ true → LastsBy m s) → Over m (forced s force)
   unfolding forced held
   forced-over Off room = tt
   forced-over On room = held-over (withForce s On) true m (or-true (s .lock))
   forced-over Free room = cond-case (Over m) (standing (s .force)) _ _ (λ stood. settle-over (withForce s Free) _ m (λ on. room stood)) (λ never. over)
 
-  unlocked-over : (force : Force) → s .force ≡ force → Room m s → Over m (unlocked s force)
+  unlocked-over : (force : Force) → s .force ≡ force → LastsBy m s → Over m (unlocked s force)
   unfolding unlocked held
   unlocked-over Off e room = tt
   unlocked-over On e room = held-over (withLock s false (s .atlocking)) true m (rw e)
   unlocked-over Free e room = settle-over (withLock s false (s .atlocking)) _ m (λ on. room)
 
-  lock-over : (value : Bool) → (s .lock ≡ true → Room m s) → Over m (lockDevice s value)
+  lock-over : (value : Bool) → (s .lock ≡ true → LastsBy m s) → Over m (lockDevice s value)
   unfolding lockDevice locked held
   lock-over true room = either-way (Over m) (s .lock) _ _ over (held-over (withLock s true (output (s .phase))) (byMode (s .params .locking) (output (s .phase))) m refl)
   lock-over false room = cond-case (Over m) (s .lock) _ _ (λ stood. unlocked-over (s .force) refl (room stood)) (λ free. over)
 
-  bus-mode-over : (link : Link) (mode : ℕ) → (eqb mode 2 ≡ true → Room m s) → Over m (busMode (withLink s link) mode)
+  bus-mode-over : (link : Link) (mode : ℕ) → (eqb mode 2 ≡ true → LastsBy m s) → Over m (busMode (withLink s link) mode)
   unfolding busMode held
   bus-mode-over link mode room = either-way (Over m) (held s || eqb mode 0) _ _ over (settle-over (withLink s link) (eqb mode 2) m room)
 
-  bus-over : (link : Link) (event : Event) → (modeOn (s .params) link event ≡ true → Room m s) → Over m (bus s link event)
+  bus-over : (link : Link) (event : Event) → (modeOn (s .params) link event ≡ true → LastsBy m s) → Over m (bus s link event)
   unfolding bus
   bus-over Up Failure room = bus-mode-over BusDown _ room
   bus-over Up Return room = over
@@ -118,7 +118,7 @@ module _ (s : State) (m : ℕ) (over : Over m s) where
   bus-over BusDown Return room = bus-mode-over Up _ room
   bus-over PowerDown event room = over
 
-  power-over : (link : Link) (event : Event) → (powerDown link ≡ true → Room m s) → Over m (power s link event)
+  power-over : (link : Link) (event : Event) → (powerDown link ≡ true → LastsBy m s) → Over m (power s link event)
   unfolding power powerFails powerReturns
   power-over Up Failure room = tt
   power-over Up Return room = over
@@ -128,7 +128,7 @@ module _ (s : State) (m : ℕ) (over : Over m s) where
   power-over PowerDown Return room = settle-over (withLink s Up) _ m (λ on. room refl)
 
   -- every other order leaves the light as long as it was, or shorter
-  pub order-over : (i : Input) → (Prolongs s i → Room m s) → Over m (order s i)
+  pub order-over : (i : Input) → (Prolongs s i → LastsBy m s) → Over m (order s i)
   unfolding order scene
   order-over (SwitchOnOff value) room = switch-over value (λ on. room (lighting on))
   order-over (TimedStartStop value) room = timed-over value (λ on. room (lighting on))

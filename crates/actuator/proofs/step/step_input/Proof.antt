@@ -1,5 +1,5 @@
 use Rattle.records.specs.Notes.{notes, added}
-use Rattle.timers.specs.Ticks.{ticked}
+use Rattle.timers.specs.Ticks.{timersOf}
 use Rattle.lamps.specs.Lamps.{stateOf}
 use Rattle.rules.proofs.Laws.Inputs.{kind-range}
 use Rattle.actuator.specs.Acts.{stoppedBy}
@@ -21,14 +21,14 @@ barrier-to-requires : tie.Need-barrier-to-requires
 barrier-to-requires c κs = rw (c .kind-of .ensures) (kind-range (c .before .before .before .before .before .before .before .args .i))
 
 take-requires : tie.Need-take-requires
-unfolding ticked
+unfolding timersOf
 take-requires c κs =
     let a = c .before .before .before .before .before .before .before .before .before .before in
     let l = c .before .before .before .before .before .before .before .lamp-of .ensures in
     rw (c .before .before .before .before .at-moment .ensures, rw l at (c .before .before .before .before .before .before .run-timers .ensures (a .args .s .scenes))) (moved-roomy (a .args .s) (a .args .t) (a .pre .0) (a .pre .1) (a .pre .2))
 
 add-requires : tie.Need-add-requires
-unfolding ticked notes
+unfolding timersOf notes
 add-requires c κs =
     let a = c .before .before .before .before .before .before .before .before .before .before .before .before .before .before .args in
     rw (rw (c .before .before .before .before .before .before .before .before .before .before .before .lamp-of .ensures) at (c .before .before .before .before .before .before .before .before .before .before .run-timers .ensures (a .s .scenes))) (a-move-writes-at-most-two (a .s) (a .t))

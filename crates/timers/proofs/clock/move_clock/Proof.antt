@@ -1,4 +1,4 @@
-use Rattle.timers.specs.Ticks.{ticked, clocked}
+use Rattle.timers.specs.Ticks.{timersOf, clocked}
 use Rattle.lamps.specs.Lamps.{lampOf}
 use Rattle.timers.proofs.Moves.{moved-lamp}
 use mathlib.Core.Path.{refl}
@@ -7,7 +7,7 @@ use Rattle.timers.proofs.clock.move_clock.Statement.{statement}
 use Rattle.timers.proofs.clock.move_clock.Tie as tie
 
 returns : tie.Need-returns
-unfolding ticked clocked
+unfolding timersOf clocked
 returns c =
     let a = c .before .before .before .before .before .before .before .args in
     let l = c .before .before .before .before .lamp-of .ensures in
