@@ -16,7 +16,7 @@ use Rattle.rules.specs.declared.record.Record.{Record}
 use Rattle.rules.specs.Inputs.{kind}
 use Rattle.rules.specs.Phases.{output}
 use Rattle.rules.specs.Status.{value, attributes, recordOf, byItself, sameStatus, written}
-use Rattle.rules.specs.Steps.{fresh, clockMove, step}
+use Rattle.rules.specs.Steps.{fresh, clockMove, step, fired, Moves, rest, fire}
 use Rattle.rules.specs.Lists.{Cue, cue, plays, playsTo, playList}
 use Rattle.rules.specs.Promises.{Rises, stateAt, Taken, DarkPromise, NotBefore, turnAfter, LightDue, StrongLightPromise, shownAt, DarkShown, LitRecord, recordsBefore, recordsFrom, LightShown, shownBefore, LightStamped}
 use Rattle.rules.specs.Parameters.{paramsOf, scenesOf}
@@ -24,8 +24,7 @@ use Rattle.rules.specs.Files.{cues, endTime, parametersIn, readFile}
 use Rattle.rules.specs.Runs.{playFile}
 use Rattle.base.proofs.Tests.{both, cond-case, by-order}
 use Rattle.rules.proofs.Laws.Soundness.{step-clock}
-use Rattle.rules.proofs.Laws.Timers.{Moves, rest, fire, clock-moves, moves-compose}
-use Rattle.rules.proofs.Laws.Steps.{fired}
+use Rattle.rules.proofs.Laws.Timers.{clock-moves, moves-compose}
 use Rattle.rules.proofs.Laws.Lists.{plays-to-append, plays-to-next}
 use Rattle.rules.proofs.Laws.Moments.{at-case, at-the-end, rises-from}
 use Rattle.rules.proofs.Promises.Light.{a-lit-lamp-stays-lit}

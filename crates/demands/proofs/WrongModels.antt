@@ -19,14 +19,14 @@ use Rattle.rules.specs.Inputs.{zeroOrOne, decoded, stampAt, inputAt}
 use Rattle.rules.specs.Phases.{output, litAt, atDeadline}
 use Rattle.rules.specs.Orders.{on, off, nightFalls, switch, nightMode, order}
 use Rattle.rules.specs.Barriers.{rows, rowOf, firstBarrier, barrier}
-use Rattle.rules.specs.Status.{value, recordOf, byItself}
+use Rattle.rules.specs.Status.{value, recordOf}
 use Rattle.rules.specs.Steps.{fresh, tickAt, tick, ticked, clockMove, taken, meet, act, step}
 use Rattle.rules.specs.Lists.{Cue, Played, plays, playsTo, playList}
 use Rattle.rules.specs.Calls.{leastParams, unused, noScenes}
-use Rattle.rules.specs.Files.{Reading, cues, bad, endTime, parametersIn, layoutRight, readOne, readInputs, readFile, roomy, readCall}
-use Rattle.rules.specs.Runs.{recordsOctets, over, Whole, playFile, accepted, refused, runCall}
+use Rattle.rules.specs.Files.{cues, endTime, parametersIn, layoutRight, readOne, readInputs, readFile, roomy, readCall}
+use Rattle.rules.specs.Runs.{recordsOctets, over, playFile, accepted, runCall}
 use Rattle.rules.specs.Promises.{turns, upTo, stateAt, Taken, NightRules, DarkDue, LightDue, shownAt, DarkShown, LitRecord, shownBefore, LightStamped}
-use Rattle.demands.specs.Demands.{Model, StaysWithin, Judges, OfEveryAccepted, PlaysAll, CountsChanges, recordsOf, Keeps, KeepsDark, KeepsLight}
+use Rattle.demands.specs.Demands.{Model, StaysWithin, Judges, PlaysAll, CountsChanges, recordsOf, Keeps, KeepsDark, KeepsLight}
 use Rattle.base.proofs.Tests.{either-way}
 use Rattle.rules.proofs.Promises.Worked.{on-at, off-at, night-at}
 use Rattle.rules.proofs.Refusals.Runs.{records-length}

@@ -2,7 +2,7 @@
 ghost use mathlib.Core.Path.{_≡_};
 ghost use Prim.Native.Nat.{_+_, _*_, _≤_, _<_};
 ghost use lib.ListN.{length};
-ghost use Rattle.octets.specs.BigEndian.{octet, be16, be32, octets32};
+ghost use Rattle.octets.specs.BigEndian.{be16, be32, octets32};
 ghost use Rattle.octets.specs.Splice.{splice};
 
 // An octet as a wider number.

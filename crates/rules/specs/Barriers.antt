@@ -1,6 +1,6 @@
 -- Which input counts (01, "Which input counts"; 004, 1.2.2.3 "Input priority handling").
 use Prim.Native.Nat.{ℕ, _-_}
-use mathlib.Core.Bool.{Bool, true, false, cond, _&&_}
+use mathlib.Core.Bool.{Bool, true, false, cond, not, _&&_}
 use mathlib.Core.List.{List, [], _∷_}
 use lib.ListN.{getD}
 use Rattle.rules.specs.declared.input.Force.{Force}
@@ -60,3 +60,26 @@ firstBarrier r link lock force =
 -- the first barrier that an input meets in a state
 unfoldable pub barrier : State → Input → Barrier
 barrier s i = firstBarrier (rowOf (kind i)) (s .link) (s .lock) (s .force)
+
+-- ---- the first barrier, said of each of the four (proofs/Laws/Barriers.antt, `first-that-fits`)
+
+-- the barrier stands, and the row of the input's kind names it
+abbrev pub powerStops : State → Input → Bool
+powerStops s i = rowOf (kind i) .power && powerDown (s .link)
+
+abbrev pub busStops : State → Input → Bool
+busStops s i = rowOf (kind i) .bus && busDown (s .link)
+
+abbrev pub lockStops : State → Input → Bool
+lockStops s i = rowOf (kind i) .lock && s .lock
+
+abbrev pub forceStops : State → Input → Bool
+forceStops s i = rowOf (kind i) .force && standing (s .force)
+
+-- a barrier fits where it stops the input and none before it does; an input is free where none does
+abbrev pub fits : Barrier → Bool → Bool → Bool → Bool → Bool
+fits (Stopped NoPower) power bus lock force = power
+fits (Stopped NoBus) power bus lock force = not power && bus
+fits (Stopped Locked) power bus lock force = not power && not bus && lock
+fits (Stopped Forced) power bus lock force = not power && not bus && not lock && force
+fits Open power bus lock force = not power && not bus && not lock && not force

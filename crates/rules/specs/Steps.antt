@@ -1,7 +1,8 @@
 -- The clock move and the step of one input (01, "Phases" and "Which input counts").
-use Prim.Native.Nat.{ℕ}
+use Prim.Native.Nat.{ℕ, _≤_, _<_}
 use mathlib.Core.Bool.{true, false, cond}
-use mathlib.Core.List.{List, _++_}
+use mathlib.Core.List.{List, [], _++_}
+use mathlib.Core.Path.{_≡_}
 use lib.Dec.{leb}
 use Rattle.rules.specs.declared.parameters.Params.{Params}
 use Rattle.rules.specs.declared.parameters.Scene.{Scene}
@@ -67,6 +68,22 @@ ticked s a b c t =
 
 unfoldable pub clockMove : State → ℕ → Moved
 clockMove s t = ticked s (tick s t) (tick (tick s t) t) (tick (tick (tick s t) t) t) t
+
+-- the same as a chain of timers, however many (proofs/Laws/Timers.antt, `clock-moves`)
+
+-- no timer is due at t
+abbrev pub Quiet : ℕ → Deadline → Type 0
+Quiet t Never = Unit {0}
+Quiet t (At d) = t < d
+
+-- the state right after its timer ran at d
+abbrev pub fired : State → ℕ → State
+fired s d = atMoment s d (atDeadline (s .params) (s .night) (s .phase))
+
+-- the timers due from s up to t, one after the other, and their records; then the clock stands at t
+pub data Moves (t : ℕ) : State → State → List Record → Type 0 where
+  rest : {s : State} → Quiet t (deadline (s .phase)) → Moves t s (atMoment s t (s .phase)) []
+  fire : {s u : State} {l : List Record} (d : ℕ) → deadline (s .phase) ≡ At d → d ≤ t → Moves t (fired s d) u l → Moves t s u (written byItself s (fired s d) ++ l)
 
 -- what an input gives
 pub record Stepped : Type 0 where

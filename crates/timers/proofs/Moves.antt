@@ -16,9 +16,9 @@ use Rattle.rules.specs.declared.state.State.{State}
 use Rattle.rules.specs.Phases.{deadline, atDeadline}
 use Rattle.rules.specs.Status.{byItself, value, attributes, sameStatus, recordOf, written}
 use Rattle.rules.specs.Answers.{due}
-use Rattle.rules.specs.Steps.{atMoment, clockMove}
+use Rattle.rules.specs.Steps.{atMoment, clockMove, Quiet}
 use Rattle.base.proofs.Tests.{no}
-use Rattle.rules.proofs.Laws.Steps.{Quiet, rank, a-timer-lowers-the-rank}
+use Rattle.rules.proofs.Laws.Steps.{rank, a-timer-lowers-the-rank}
 use Rattle.rules.proofs.Laws.Timers.{the-first-timer-first, no-timer-due-no-move}
 use Rattle.rules.proofs.Laws.Records.{a-move-writes-at-most-two}
 use Rattle.rules.proofs.Laws.Deadlines.{due-is}

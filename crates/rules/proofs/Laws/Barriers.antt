@@ -15,7 +15,7 @@ use Rattle.rules.specs.declared.barrier.Barrier.{Barrier}
 use Rattle.rules.specs.declared.barrier.Barrier.the-variants.{Open, Stopped}
 use Rattle.rules.specs.Inputs.{kind}
 use Rattle.rules.specs.Orders.{standing}
-use Rattle.rules.specs.Barriers.{row, rows, rowOf, powerDown, busDown, firstBarrier, barrier}
+use Rattle.rules.specs.Barriers.{row, rows, rowOf, powerDown, busDown, firstBarrier, barrier, powerStops, busStops, lockStops, forceStops, fits}
 use Rattle.rules.specs.Answers.{answer}
 
 -- ---- the table
@@ -43,27 +43,6 @@ eight-rows = refl
 pub answer-numbers : (same : Bool) →
     (answer (Stopped NoPower) same ≡ 5) × (answer (Stopped NoBus) same ≡ 4) × (answer (Stopped Locked) same ≡ 3) × (answer (Stopped Forced) same ≡ 2) × (answer Open false ≡ 0) × (answer Open true ≡ 1)
 answer-numbers same = (refl, refl, refl, refl, refl, refl)
-
--- the barrier stands, and the row of the input's kind names it
-abbrev pub powerStops : State → Input → Bool
-powerStops s i = rowOf (kind i) .power && powerDown (s .link)
-
-abbrev pub busStops : State → Input → Bool
-busStops s i = rowOf (kind i) .bus && busDown (s .link)
-
-abbrev pub lockStops : State → Input → Bool
-lockStops s i = rowOf (kind i) .lock && s .lock
-
-abbrev pub forceStops : State → Input → Bool
-forceStops s i = rowOf (kind i) .force && standing (s .force)
-
--- a barrier fits where it stops the input and none before it does; an input is free where none does
-abbrev pub fits : Barrier → Bool → Bool → Bool → Bool → Bool
-fits (Stopped NoPower) power bus lock force = power
-fits (Stopped NoBus) power bus lock force = not power && bus
-fits (Stopped Locked) power bus lock force = not power && not bus && lock
-fits (Stopped Forced) power bus lock force = not power && not bus && not lock && force
-fits Open power bus lock force = not power && not bus && not lock && not force
 
 -- the first of the four that stop, as `firstBarrier` chooses it
 abbrev first : Bool → Bool → Bool → Bool → Barrier

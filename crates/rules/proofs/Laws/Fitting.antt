@@ -20,13 +20,13 @@ use Rattle.rules.specs.Inputs.{kind}
 use Rattle.rules.specs.Scenes.{recalled}
 use Rattle.rules.specs.Phases.{output}
 use Rattle.rules.specs.Orders.{withPhase, withNight, withForce, withLink, withLock, standing, held, settle, byMode, switch, timed, recall, learn, scene, nightMode, forced, locked, unlocked, lockDevice, busMode, bus, powerFails, powerReturns, power, order}
-use Rattle.rules.specs.Barriers.{powerDown, rows, rowOf, barrier}
+use Rattle.rules.specs.Barriers.{powerDown, rows, rowOf, barrier, powerStops, lockStops, forceStops}
 use Rattle.rules.specs.Soundness.{soon, heldIsSteady, forceDecides, nightEnds, powerDownIsClear}
 use Rattle.base.proofs.Tests.{neither-left, cond-case}
 use Rattle.rules.proofs.Laws.Deadlines.{Times}
 use Rattle.rules.proofs.Laws.Phases.{Unheld, set-on-unheld, on-unheld, timed-start-unheld, off-unheld, timed-stop-unheld, night-falls-unheld}
 use Rattle.rules.proofs.Laws.Holding.{Fits, LooseIn, unheld-fits, fits-unheld, held-fits, power-down-is-free}
-use Rattle.rules.proofs.Laws.Barriers.{powerStops, lockStops, forceStops, Unstopped, open-is-unstopped}
+use Rattle.rules.proofs.Laws.Barriers.{Unstopped, open-is-unstopped}
 
 -- set on or set off, where nothing holds the phase
 settle-fits : (s : State) (output : Bool) → Times (s .params) → LooseIn s → Fits (settle s output)

@@ -12,7 +12,7 @@ use borrow.Author.Count.{below-none, below-more}
 use borrow.Author.Tests.{ltb-false, leb-true, eqb-true, eqb-false, not-false, le-leb, le-ltb, eq-eqb, ne-eqb}
 use Rattle.octets.specs.BigEndian.{octet, be16}
 use Rattle.rules.specs.declared.parameters.Scene.{Scene}
-use Rattle.base.specs.declared.refusal.Refusal.the-variants.{WrongLength, WrongVersion, WrongActuators, WrongLayout, BadParameter, BadInput, BadStamp, ShortBuffer, UnsoundState}
+use Rattle.base.specs.declared.refusal.Refusal.the-variants.{WrongLength, BadParameter}
 use Rattle.base.specs.declared.refusal.Check.{Check}
 use Rattle.base.specs.declared.refusal.Check.the-variants.{Passed, Refused}
 use Rattle.base.specs.Time.{tenths}

@@ -18,10 +18,10 @@ use Rattle.rules.specs.Phases.{output, litAt, atDeadline}
 use Rattle.rules.specs.Orders.{withPhase, order}
 use Rattle.rules.specs.Barriers.{barrier}
 use Rattle.rules.specs.Status.{value, staircase, attributes, sameStatus, written, byItself}
-use Rattle.rules.specs.Steps.{atMoment, Moved, clockMove, taken, meet, act, step}
+use Rattle.rules.specs.Steps.{atMoment, Moved, clockMove, taken, meet, act, step, Moves, rest, fire}
 use Rattle.rules.specs.Calls.{places}
 use Rattle.base.proofs.Tests.{cond-case, cond-zero}
-use Rattle.rules.proofs.Laws.Timers.{Moves, rest, fire, alike-writes-nothing, clock-moves}
+use Rattle.rules.proofs.Laws.Timers.{alike-writes-nothing, clock-moves}
 
 -- none where nothing shows, else one
 pub one-record-at-most : (cause : ℕ) (before after : State) → length (written cause before after) ≤ 1

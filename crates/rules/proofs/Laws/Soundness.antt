@@ -22,14 +22,14 @@ use Rattle.rules.specs.Phases.{output, deadline}
 use Rattle.rules.specs.Orders.{order}
 use Rattle.rules.specs.Barriers.{barrier}
 use Rattle.rules.specs.Answers.{due}
-use Rattle.rules.specs.Steps.{fresh, atMoment, tick, Moved, ticked, clockMove, taken, meet, act, step}
+use Rattle.rules.specs.Steps.{fresh, atMoment, tick, Moved, ticked, clockMove, taken, meet, act, step, Quiet, fired}
 use Rattle.rules.specs.Soundness.{soon, consistent, sound}
 use Rattle.rules.specs.Calls.{leastParams, unused, noScenes, ownState}
 use Rattle.base.proofs.Tests.{both}
 use Rattle.rules.proofs.Laws.Deadlines.{times-bounded, soon-within, within-soon, soon-due, due-is}
 use Rattle.rules.proofs.Laws.Phases.{timer-unheld}
 use Rattle.rules.proofs.Laws.Holding.{Fits, fits-view, fits-consistent, waiting-is-loose, fits-unheld, unheld-fits}
-use Rattle.rules.proofs.Laws.Steps.{Quiet, fired, tick-case, tick-keeps, three-are-enough}
+use Rattle.rules.proofs.Laws.Steps.{tick-case, tick-keeps, three-are-enough}
 use Rattle.rules.proofs.Laws.Scenes.{learnt-in-range}
 use Rattle.rules.proofs.Laws.Fitting.{order-fits}
 use Rattle.rules.proofs.Laws.Orders.{order-keeps}

@@ -13,17 +13,8 @@ use Rattle.rules.specs.declared.phase.Deadline.{Deadline}
 use Rattle.rules.specs.declared.phase.Deadline.the-variants.{Never, At}
 use Rattle.rules.specs.declared.state.State.{State}
 use Rattle.rules.specs.Phases.{deadline, litAt, atDeadline}
-use Rattle.rules.specs.Steps.{atMoment, tickAt, tick}
+use Rattle.rules.specs.Steps.{atMoment, tickAt, tick, Quiet, fired}
 use Rattle.base.proofs.Tests.{cond-case, cond-zero}
-
--- no timer is due at t
-abbrev pub Quiet : ℕ → Deadline → Type 0
-Quiet t Never = Unit {0}
-Quiet t (At d) = t < d
-
--- the state right after its timer ran at d
-abbrev pub fired : State → ℕ → State
-fired s d = atMoment s d (atDeadline (s .params) (s .night) (s .phase))
 
 -- what holds after a due timer, and where none is due, holds after a tick
 pub tick-case : (P : State → Type 0) (s : State) (t : ℕ) → ((d : ℕ) → deadline (s .phase) ≡ At d → d ≤ t → P (fired s d)) → (Quiet t (deadline (s .phase)) → P s) → P (tick s t)

@@ -9,8 +9,8 @@ use Rattle.rules.specs.declared.state.State.{State}
 use Rattle.rules.specs.declared.record.Record.{Record}
 use Rattle.rules.specs.Phases.{deadline, atDeadline}
 use Rattle.rules.specs.Status.{value, attributes, sameStatus, written, byItself}
-use Rattle.rules.specs.Steps.{atMoment, tickAt, tick, ticked, clockMove}
-use Rattle.rules.proofs.Laws.Steps.{Quiet, fired, tick-case, tick-rests, three-are-enough}
+use Rattle.rules.specs.Steps.{atMoment, tickAt, tick, ticked, clockMove, Quiet, fired, Moves, rest, fire}
+use Rattle.rules.proofs.Laws.Steps.{tick-case, tick-rests, three-are-enough}
 
 -- ---- one timer
 
@@ -25,11 +25,6 @@ unfolding clockMove ticked
 nothing-due-after-a-move s t = tick-rests (clockMove s t .state) t (three-are-enough s t)
 
 -- ---- a clock move
-
--- the timers due from s up to t, one after the other, and their records; then the clock stands at t
-pub data Moves (t : ℕ) : State → State → List Record → Type 0 where
-  rest : {s : State} → Quiet t (deadline (s .phase)) → Moves t s (atMoment s t (s .phase)) []
-  fire : {s u : State} {l : List Record} (d : ℕ) → deadline (s .phase) ≡ At d → d ≤ t → Moves t (fired s d) u l → Moves t s u (written byItself s (fired s d) ++ l)
 
 -- no two ways lead to one moment: at each state a timer is due or not, at one moment
 moves-once : {t : ℕ} {s a b : State} {l m : List Record} → Moves t s a l → Moves t s b m → (a ≡ b) × (l ≡ m)

@@ -29,12 +29,11 @@ use Rattle.rules.specs.Scenes.{recalled, learnt}
 use Rattle.rules.specs.Phases.{output, deadline, litAt, setOn}
 use Rattle.rules.specs.Orders.{on, timedStart, offAfterDelay, off, timedStop, nightFalls, withPhase, withNight, withForce, withLink, withLock, withScenes, standing, held, settle, plain, byMode, switch, timed, recall, learn, scene, nightMode, forced, locked, unlockingOutput, unlocked, lockDevice, busMode, bus, powerFails, powerReturns, power, order}
 use Rattle.rules.specs.Barriers.{barrier}
-use Rattle.rules.specs.Steps.{fresh, atMoment, Moved, clockMove, step}
+use Rattle.rules.specs.Steps.{fresh, atMoment, Moved, clockMove, step, Quiet}
 use Rattle.rules.specs.Lists.{Cue, cue, plays}
 use Rattle.rules.specs.Promises.{Rises, Turn, turn, turns, Each, stateAt, Taken, recallsOn, lights, NotBefore, ShowsLight}
 use Rattle.rules.specs.Mistakes.{LeavesNoTrace, turnsOn, OnIsIdleWhileItWaits, OnIsNeverLater}
 use Rattle.base.proofs.Tests.{no, cond-case, either-way, by-order}
-use Rattle.rules.proofs.Laws.Steps.{Quiet}
 use Rattle.rules.proofs.Laws.Soundness.{taken-is-the-order, step-clock, step-params}
 use Rattle.rules.proofs.Laws.Timers.{no-timer-due-no-move}
 use Rattle.rules.proofs.Laws.Moments.{at-case, at-the-end, next-is-later, rises-from, at-past}

@@ -12,12 +12,12 @@ use Rattle.rules.specs.declared.input.Input.{Input}
 use Rattle.rules.specs.declared.state.State.{State}
 use Rattle.rules.specs.Phases.{output, deadline}
 use Rattle.rules.specs.Orders.{held}
-use Rattle.rules.specs.Steps.{fresh, ticked, clockMove, step}
+use Rattle.rules.specs.Steps.{fresh, ticked, clockMove, step, Quiet}
 use Rattle.rules.specs.Lists.{Cue, cue}
 use Rattle.rules.specs.Promises.{Rises, turn, turns, Each, stateAt, lights, busOn, longestLight, NightRules, LeavesNight, DarkPromise}
 use Rattle.base.proofs.Tests.{no}
 use Rattle.rules.proofs.Promises.Lasting.{OverBy}
-use Rattle.rules.proofs.Laws.Steps.{Quiet, three-are-enough}
+use Rattle.rules.proofs.Laws.Steps.{three-are-enough}
 use Rattle.rules.proofs.Laws.Soundness.{move-keeps, step-params}
 use Rattle.rules.proofs.Promises.Prolonging.{Over, move-over, Prolongs, lighting, busIsOn, byDay, fromLock, fromForce, fromPowerDown, step-over}
 use Rattle.rules.proofs.Laws.Moments.{at-case, at-the-end}

@@ -19,12 +19,12 @@ use Rattle.rules.specs.declared.state.State.{State}
 use Rattle.rules.specs.Scenes.{recalled}
 use Rattle.rules.specs.Phases.{output, deadline, litAt, atDeadline, setOn}
 use Rattle.rules.specs.Orders.{on, timedStart, nightFalls, held, switch, timed, recall, learn, scene, nightMode, order}
-use Rattle.rules.specs.Steps.{fresh, ticked, clockMove, step}
+use Rattle.rules.specs.Steps.{fresh, ticked, clockMove, step, Quiet, fired}
 use Rattle.rules.specs.Lists.{Cue, cue, plays}
 use Rattle.rules.specs.Promises.{Rises, Turn, turn, turns, Each, stateAt, Taken, recallsOn, recallsOff, lights, dims, longestLight, NotBefore, ShowsLight, turnAfter, LightDue, LightPromise, StrongLightPromise}
 use Rattle.base.proofs.Tests.{no, cond-zero, either-way, by-order}
 use Rattle.rules.proofs.Promises.Lasting.{OverBy}
-use Rattle.rules.proofs.Laws.Steps.{Quiet, fired, three-are-enough}
+use Rattle.rules.proofs.Laws.Steps.{three-are-enough}
 use Rattle.rules.proofs.Laws.Soundness.{move-clock, move-params, step-case, taken-is-the-order, step-clock, step-params}
 use Rattle.rules.proofs.Laws.Timers.{the-first-timer-first, no-timer-due-no-move}
 use Rattle.rules.proofs.Promises.Prolonging.{Over, move-over, step-over}

@@ -30,13 +30,13 @@ use Rattle.rules.specs.Scenes.{recalled}
 use Rattle.rules.specs.Phases.{output, deadline, litAt, atDeadline, setOn}
 use Rattle.rules.specs.Orders.{on, timedStart, offAfterDelay, off, timedStop, nightFalls, plain, withForce, withLink, withLock, standing, held, settle, byMode, switch, timed, recall, learn, scene, nightMode, forced, locked, unlocked, lockDevice, busMode, bus, powerFails, powerReturns, power, order}
 use Rattle.rules.specs.Status.{recordOf, byItself, sameStatus, written}
-use Rattle.rules.specs.Steps.{Moved, ticked, clockMove, taken, meet, act, step}
+use Rattle.rules.specs.Steps.{Moved, ticked, clockMove, taken, meet, act, step, Quiet, fired, Moves, rest, fire}
 use Rattle.rules.specs.Lists.{Cue, cue, plays, playsTo}
 use Rattle.rules.specs.Promises.{Rises}
 use Rattle.base.proofs.Tests.{cond-zero, either-way}
-use Rattle.rules.proofs.Laws.Steps.{Quiet, fired, three-are-enough}
+use Rattle.rules.proofs.Laws.Steps.{three-are-enough}
 use Rattle.rules.proofs.Laws.Soundness.{move-clock, move-params, step-case, step-clock}
-use Rattle.rules.proofs.Laws.Timers.{Moves, rest, fire, alike-writes-nothing, clock-moves}
+use Rattle.rules.proofs.Laws.Timers.{alike-writes-nothing, clock-moves}
 use Rattle.rules.proofs.Laws.Lists.{plays-to-next}
 
 -- ---- deadlines

@@ -17,7 +17,7 @@ use Rattle.rules.specs.declared.input.Input.{Input}
 use Rattle.rules.specs.declared.input.Decoded.{Decoded}
 use Rattle.rules.specs.declared.input.Decoded.the-variants.{Meant, Wrong}
 use Rattle.base.specs.declared.refusal.Refusal.{Refusal}
-use Rattle.base.specs.declared.refusal.Refusal.the-variants.{WrongLength, WrongVersion, WrongActuators, WrongLayout, BadParameter, BadInput, BadStamp, ShortBuffer, UnsoundState}
+use Rattle.base.specs.declared.refusal.Refusal.the-variants.{WrongLength, WrongVersion, WrongActuators, WrongLayout, BadParameter, BadInput, BadStamp}
 use Rattle.base.specs.declared.refusal.Check.{Check}
 use Rattle.base.specs.declared.refusal.Check.the-variants.{Passed, Refused}
 use Rattle.base.specs.Time.{lastStamp}
@@ -26,7 +26,7 @@ use Rattle.rules.specs.Lists.{Cue, cue}
 use Rattle.rules.specs.Parameters.{checkParameters}
 use Rattle.rules.specs.Layout.{inputPlace}
 use Rattle.rules.specs.Files.{version, actuators, parametersOffset, inputCount, inputsOffset, endTime, parametersIn, layoutRight, Reading, cues, bad, before, readOne, readInputs, afterCheck, readFile}
-use Rattle.rules.specs.Refusals.{FoundWhen, GoodLayout, GoodHeader, GoodStart, stampBefore, GoodInput, FirstWrong, FirstUntimely, GivenWhen, GoodFile, CueAt, Says}
+use Rattle.rules.specs.Refusals.{FoundWhen, GoodLayout, GoodHeader, GoodStart, stampBefore, GoodInput, GivenWhen, GoodFile, Says}
 use Rattle.base.proofs.Tests.{no, both, cond-case}
 use Rattle.rules.proofs.Laws.Parameters.{lowest-bad-octet}
 

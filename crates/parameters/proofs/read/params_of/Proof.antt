@@ -2,7 +2,6 @@ use Rattle.rules.specs.Parameters.{paramsOf}
 use borrow.Author.Needs.{needs}
 use Rattle.parameters.proofs.read.params_of.Statement.{statement}
 use Rattle.parameters.proofs.read.params_of.Tie as tie
-use Rattle.parameters.proofs.read.delay_at.Reads as delay-at-reads
 
 returns : tie.Need-returns
 unfolding paramsOf

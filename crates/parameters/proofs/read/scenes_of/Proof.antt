@@ -2,7 +2,6 @@ use Rattle.rules.specs.Parameters.{scenesOf}
 use borrow.Author.Needs.{needs}
 use Rattle.parameters.proofs.read.scenes_of.Statement.{statement}
 use Rattle.parameters.proofs.read.scenes_of.Tie as tie
-use Rattle.parameters.proofs.read.scene_at.Reads as scene-at-reads
 
 returns : tie.Need-returns
 unfolding scenesOf
