@@ -8,18 +8,18 @@ use Rattle.rules.specs.declared.state.State.{State}
 use Rattle.rules.specs.Scenes.{recalled}
 use Rattle.rules.specs.Orders.{scene, order}
 use Rattle.base.proofs.Tests.{no}
-use Rattle.rules.proofs.Laws.Orders.{other-kinds-keep-scenes}
+use Rattle.rules.proofs.Laws.Orders.{order-leaves}
 use Rattle.switching.proofs.Scenes.{recalling-keeps-the-table}
 use Rattle.orders.specs.Lessons.{teaches}
 
 -- an input that is not to learn keeps the table
 pub only-a-lesson-teaches : (s : State) (i : Input) → teaches i ≡ false → order s i .scenes ≡ s .scenes
-only-a-lesson-teaches s (SwitchOnOff value) e = other-kinds-keep-scenes s _ (λ three. omega arith)
-only-a-lesson-teaches s (TimedStartStop value) e = other-kinds-keep-scenes s _ (λ three. omega arith)
+only-a-lesson-teaches s (SwitchOnOff value) e = order-leaves s _ .scenes
+only-a-lesson-teaches s (TimedStartStop value) e = order-leaves s _ .scenes
 only-a-lesson-teaches s (NumberedSceneControl true number) e = no (sym e)
 only-a-lesson-teaches s (NumberedSceneControl false number) e = unfold order scene in recalling-keeps-the-table s (recalled (s .scenes) number)
-only-a-lesson-teaches s (SwitchOnOffForced force) e = other-kinds-keep-scenes s _ (λ three. omega arith)
-only-a-lesson-teaches s (LockDevice value) e = other-kinds-keep-scenes s _ (λ three. omega arith)
-only-a-lesson-teaches s (NightMode value) e = other-kinds-keep-scenes s _ (λ three. omega arith)
-only-a-lesson-teaches s (Bus event) e = other-kinds-keep-scenes s _ (λ three. omega arith)
-only-a-lesson-teaches s (Power event) e = other-kinds-keep-scenes s _ (λ three. omega arith)
+only-a-lesson-teaches s (SwitchOnOffForced force) e = order-leaves s _ .scenes
+only-a-lesson-teaches s (LockDevice value) e = order-leaves s _ .scenes
+only-a-lesson-teaches s (NightMode value) e = order-leaves s _ .scenes
+only-a-lesson-teaches s (Bus event) e = order-leaves s _ .scenes
+only-a-lesson-teaches s (Power event) e = order-leaves s _ .scenes

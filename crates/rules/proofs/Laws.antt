@@ -11,6 +11,7 @@ pub mod Fitting
 pub mod Orders
 pub mod Steps
 pub mod Soundness
+pub mod Said
 pub mod Timers
 pub mod Records
 pub mod Answers

@@ -16,3 +16,4 @@ pub mod Files
 pub mod Runs
 pub mod Soundness
 pub mod Promises
+pub mod Said

@@ -1,0 +1,147 @@
+-- Sentences of 01 said a second time, from another side: what an order leaves of each field, where Orders.antt says what it does;
+-- ranges and soundness as facts, where Parameters.antt, Scenes.antt and Soundness.antt have tests. That both sides say the same is
+-- proved (proofs/Laws/Orders.antt, proofs/Laws/Said.antt), so that a slip in one of them does not pass.
+use Prim.Native.Nat.{ℕ, _+_, _*_, _≤_, _<_}
+use mathlib.Core.Bool.{Bool, true, false, cond}
+use mathlib.Core.Path.{_≡_}
+use mathlib.Core.Logic.{_⊎_}
+use mathlib.Core.List.{List}
+use lib.ListN.{getD}
+use Rattle.rules.specs.declared.parameters.Params.{Params}
+use Rattle.rules.specs.declared.parameters.Scene.{Scene}
+use Rattle.rules.specs.declared.phase.Phase.the-variants.{Dark, Lit}
+use Rattle.rules.specs.declared.phase.Deadline.the-variants.{At}
+use Rattle.rules.specs.declared.input.Force.{Force}
+use Rattle.rules.specs.declared.input.Force.the-variants.{Free, Off, On}
+use Rattle.rules.specs.declared.input.Event.{Event}
+use Rattle.rules.specs.declared.input.Event.the-variants.{Failure, Return}
+use Rattle.rules.specs.declared.input.Input.{Input}
+use Rattle.rules.specs.declared.input.Input.the-variants.{SwitchOnOff, TimedStartStop, NumberedSceneControl, SwitchOnOffForced, LockDevice, NightMode, Bus, Power}
+use Rattle.rules.specs.declared.state.Link.{Link}
+use Rattle.rules.specs.declared.state.Link.the-variants.{Up, BusDown, PowerDown}
+use Rattle.rules.specs.declared.state.State.{State}
+use Rattle.rules.specs.Scenes.{learnt}
+use Rattle.rules.specs.Phases.{output, deadline}
+use Rattle.rules.specs.Calls.{unused}
+
+-- ---- what an order leaves of each field but the phase (01, "What each order does, at t")
+
+-- all that a state holds but parameters, scenes, clock and phase
+pub record Flags : Type 0 where
+  pub night : Bool
+  pub lock : Bool
+  pub force : Force
+  pub link : Link
+  pub atlocking : Bool
+  pub atfailure : Bool
+
+abbrev pub flags : Bool → Bool → Force → Link → Bool → Bool → Flags
+flags night lock force link atlocking atfailure =
+    record { night = night; lock = lock; force = force; link = link; atlocking = atlocking; atfailure = atfailure }
+
+abbrev pub flagsOf : State → Flags
+flagsOf s = flags (s .night) (s .lock) (s .force) (s .link) (s .atlocking) (s .atfailure)
+
+-- "Bus failure from up, return from bus down: the link changes", and then alone
+abbrev pub linkAfterBus : Link → Event → Link
+linkAfterBus Up Failure = BusDown
+linkAfterBus Up Return = Up
+linkAfterBus BusDown Failure = BusDown
+linkAfterBus BusDown Return = Up
+linkAfterBus PowerDown event = PowerDown
+
+-- "Power failure, link up or bus down: the output is remembered, .. night, lock and force clear, link power down. Power return from
+-- power down: link up .. Else nothing."
+abbrev pub flagsAfterPower : State → Link → Event → Flags
+flagsAfterPower s Up Failure = flags false false Free PowerDown (s .atlocking) (output (s .phase))
+flagsAfterPower s BusDown Failure = flags false false Free PowerDown (s .atlocking) (output (s .phase))
+flagsAfterPower s PowerDown Failure = flagsOf s
+flagsAfterPower s Up Return = flagsOf s
+flagsAfterPower s BusDown Return = flagsOf s
+flagsAfterPower s PowerDown Return = flags (s .night) (s .lock) (s .force) Up (s .atlocking) (s .atfailure)
+
+-- On, Off, timed orders and scenes change the phase and the scenes alone; "Force Off or On: force stands", and its release ends it;
+-- "Lock, when unlocked: the output is remembered"; "Night 1, when off: night on; .. Night 0 clears the flag only."
+abbrev pub flagsAfter : State → Input → Flags
+flagsAfter s (SwitchOnOff value) = flagsOf s
+flagsAfter s (TimedStartStop value) = flagsOf s
+flagsAfter s (NumberedSceneControl learns number) = flagsOf s
+flagsAfter s (SwitchOnOffForced force) = flags (s .night) (s .lock) force (s .link) (s .atlocking) (s .atfailure)
+flagsAfter s (LockDevice true) = flags (s .night) true (s .force) (s .link) (cond (s .lock) (s .atlocking) (output (s .phase))) (s .atfailure)
+flagsAfter s (LockDevice false) = flags (s .night) false (s .force) (s .link) (s .atlocking) (s .atfailure)
+flagsAfter s (NightMode value) = flags value (s .lock) (s .force) (s .link) (s .atlocking) (s .atfailure)
+flagsAfter s (Bus event) = flags (s .night) (s .lock) (s .force) (linkAfterBus (s .link) event) (s .atlocking) (s .atfailure)
+flagsAfter s (Power event) = flagsAfterPower s (s .link) event
+
+-- "Learn, if enabled and the number is in the table": nothing else changes the scenes ("Scenes outlive it.")
+abbrev pub scenesAfter : State → Input → List Scene
+scenesAfter s (SwitchOnOff value) = s .scenes
+scenesAfter s (TimedStartStop value) = s .scenes
+scenesAfter s (NumberedSceneControl true number) = cond (s .params .learning) (learnt (s .scenes) number (output (s .phase))) (s .scenes)
+scenesAfter s (NumberedSceneControl false number) = s .scenes
+scenesAfter s (SwitchOnOffForced force) = s .scenes
+scenesAfter s (LockDevice value) = s .scenes
+scenesAfter s (NightMode value) = s .scenes
+scenesAfter s (Bus event) = s .scenes
+scenesAfter s (Power event) = s .scenes
+
+-- a state with these parameters, this clock, these scenes and flags
+pub record Holds (p : Params) (t : ℕ) (k : List Scene) (f : Flags) (u : State) : Type 0 where
+  pub params : u .params ≡ p
+  pub clock : u .clock ≡ t
+  pub scenes : u .scenes ≡ k
+  pub flags : flagsOf u ≡ f
+
+-- no order changes the parameters or the clock
+abbrev pub Leaves : State → Input → State → Type 0
+Leaves s i u = Holds (s .params) (s .clock) (scenesAfter s i) (flagsAfter s i) u
+
+-- ---- ranges (01, "Time and the cue file")
+
+-- "Delays are U16 seconds; a delay of s lasts 10*s tenths."
+pub record Delay (t : ℕ) : Type 0 where
+  pub seconds : ℕ
+  pub fits : seconds ≤ 65_535
+  pub lasts : t ≡ 10 * seconds
+
+-- "TimedOnDuration, 1 or more"; "8 BehaviourAtLocking (0 keep, 1 off, 2 on); 9 BehaviourAtUnlocking (0 to 2 alike, 3 as before
+-- locking); 10 BusFailureMode, 11 BusReturnMode (0 keep, 1 off, 2 on); 12 PowerReturnMode (0 as before the failure, 1 off, 2 on)"
+pub record ParamsFit (p : Params) : Type 0 where
+  pub ondelay : Delay (p .ondelay)
+  pub offdelay : Delay (p .offdelay)
+  pub timedon : Delay (p .timedon)
+  pub prewarning : Delay (p .prewarning)
+  pub some : p .timedon ≡ 0 → ⊥
+  pub locking : p .locking ≤ 2
+  pub unlocking : p .unlocking ≤ 3
+  pub busfailure : p .busfailure ≤ 2
+  pub busreturn : p .busreturn ≤ 2
+  pub powerreturn : p .powerreturn ≤ 2
+
+-- "number (0 to 63, or 255 for unused) .. Unused entries have flags 0."
+abbrev pub EntryFits : Scene → Type 0
+EntryFits e = (e .number ≤ 63) ⊎ ((e .number ≡ 255) × (e .value ≡ false) × (e .taught ≡ false))
+
+-- entry n of a table (past its end an unused one)
+abbrev pub entry : List Scene → ℕ → Scene
+entry k n = getD k n unused
+
+-- "Used numbers are distinct."
+pub record ScenesFit (k : List Scene) : Type 0 where
+  pub entries : (n : ℕ) → EntryFits (entry k n)
+  pub distinct : (m n : ℕ) → m < n → entry k m .number ≡ entry k n .number → entry k n .number ≡ 255
+
+-- ---- a sound state (01, "Refusal numbers")
+
+-- "A state is sound when its parameters and scenes are in range, the clock is at most 864,000, a deadline lies 1 to 655,350 after the
+-- clock, lock or force leaves only Dark or Lit, force without lock agrees with the phase, Lit in night needs lock or force, and power
+-- down means Dark with night, lock and force clear."
+pub record SoundState (s : State) : Type 0 where
+  pub params : ParamsFit (s .params)
+  pub scenes : ScenesFit (s .scenes)
+  pub clock : s .clock ≤ 864_000
+  pub soon : (d : ℕ) → deadline (s .phase) ≡ At d → (s .clock + 1 ≤ d) × (d ≤ s .clock + 655_350)
+  pub steady : (s .lock ≡ true) ⊎ (s .force ≡ Free → ⊥) → (s .phase ≡ Dark) ⊎ (s .phase ≡ Lit)
+  pub decided : s .lock ≡ false → (s .force ≡ Off → s .phase ≡ Dark) × (s .force ≡ On → s .phase ≡ Lit)
+  pub ends : s .night ≡ true → s .phase ≡ Lit → (s .lock ≡ true) ⊎ (s .force ≡ Free → ⊥)
+  pub clear : s .link ≡ PowerDown → (s .phase ≡ Dark) × (s .night ≡ false) × (s .lock ≡ false) × (s .force ≡ Free)
