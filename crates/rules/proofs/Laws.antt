@@ -2,6 +2,7 @@
 -- what several share.
 pub mod Deadlines
 pub mod Parameters
+pub mod Written
 pub mod Inputs
 pub mod Phases
 pub mod Holding

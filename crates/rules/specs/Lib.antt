@@ -17,3 +17,4 @@ pub mod Runs
 pub mod Soundness
 pub mod Promises
 pub mod Said
+pub mod Written

@@ -139,18 +139,18 @@ params-in-range octets small a =
 
 -- ---- accepted octets are scenes in range
 
-abbrev numberOf : List ℕ → ℕ → ℕ
+abbrev pub numberOf : List ℕ → ℕ → ℕ
 numberOf octets n = octet octets (16 + 2 * n)
 
 -- from octet 16 on the even octets are numbers, the odd ones flags
-scene-octet : (octets : List ℕ) (at n : ℕ) → 16 ≤ at → (at - 16) / 2 ≡ n → badOctet octets at ≡ cond (eqb (at % 2) 0) (badNumber octets n) (badFlags octets n)
+pub scene-octet : (octets : List ℕ) (at n : ℕ) → 16 ≤ at → (at - 16) / 2 ≡ n → badOctet octets at ≡ cond (eqb (at % 2) 0) (badNumber octets n) (badFlags octets n)
 unfolding badOctet
 scene-octet octets at n past entry = simp (le-ltb at 8 (omega arith), le-ltb at 16 past, entry)
 
-number-octet : (octets : List ℕ) (n : ℕ) → badOctet octets (16 + 2 * n) ≡ badNumber octets n
+pub number-octet : (octets : List ℕ) (n : ℕ) → badOctet octets (16 + 2 * n) ≡ badNumber octets n
 number-octet octets n = scene-octet octets (16 + 2 * n) n (omega arith) (omega arith) ∙ simp (eq-eqb ((16 + 2 * n) % 2) 0 (omega arith))
 
-flags-octet : (octets : List ℕ) (n : ℕ) → badOctet octets (17 + 2 * n) ≡ badFlags octets n
+pub flags-octet : (octets : List ℕ) (n : ℕ) → badOctet octets (17 + 2 * n) ≡ badFlags octets n
 flags-octet octets n = scene-octet octets (17 + 2 * n) n (omega arith) (omega arith) ∙ simp (ne-eqb ((17 + 2 * n) % 2) 0 (λ even. omega arith))
 
 -- a used entry: its number is at most 63 and in no earlier entry
@@ -205,7 +205,7 @@ later-differs octets m n a within earlier few =
     (used-or-unused octets n a within))
 
 -- the entries from the n-th on, this many
-unfoldable entries : List ℕ → ℕ → ℕ → List Scene
+unfoldable pub entries : List ℕ → ℕ → ℕ → List Scene
 entries octets zero n = []
 entries octets (suc left) n = sceneAt octets (16 + 2 * n) ∷ entries octets left (n + 1)
 
