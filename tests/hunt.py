@@ -197,7 +197,7 @@ def ask(scratch, crate):
     except subprocess.TimeoutExpired:
         return 'unsure'
     if p.returncode == 0: return 'survived'
-    errors = re.findall(r'(?m)/crates/(\S+)/(specs|proofs)/(\S+?)\.antt:\d+:\d+: error: `([^`]+)`', p.stdout)
+    errors = re.findall(r'(?m)/crates/(\S+)/(specs|proofs)/(\S+?)\.antt:\d+:\d+: (?:error: )?`([^`]+)`', p.stdout)
     if not errors: return 'unsure' if not re.search(r'(?m)/specs/\S+: error', p.stdout) else 'ill-formed'
     if any(kind == 'specs' for _, kind, _, _ in errors): return 'ill-formed'
     return 'refused (%s/%s: %s)' % (errors[0][0], errors[0][2], errors[0][3])

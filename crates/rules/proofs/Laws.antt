@@ -10,6 +10,7 @@ pub mod Scenes
 pub mod Barriers
 pub mod Fitting
 pub mod Orders
+pub mod Modes
 pub mod Steps
 pub mod Soundness
 pub mod Said

@@ -5,11 +5,12 @@ use Prim.Native.Nat.{ℕ, _+_, _*_, _≤_, _<_}
 use mathlib.Core.Bool.{Bool, true, false, cond}
 use mathlib.Core.Path.{_≡_}
 use mathlib.Core.Logic.{_⊎_}
-use mathlib.Core.List.{List}
+use mathlib.Core.List.{List, [], _∷_}
 use lib.ListN.{getD}
 use Rattle.rules.specs.declared.parameters.Params.{Params}
 use Rattle.rules.specs.declared.parameters.Scene.{Scene}
-use Rattle.rules.specs.declared.phase.Phase.the-variants.{Dark, Lit}
+use Rattle.rules.specs.declared.phase.Phase.{Phase}
+use Rattle.rules.specs.declared.phase.Phase.the-variants.{Dark, Lit, Starting, Timed, Warning, Ending}
 use Rattle.rules.specs.declared.phase.Deadline.the-variants.{At}
 use Rattle.rules.specs.declared.input.Force.{Force}
 use Rattle.rules.specs.declared.input.Force.the-variants.{Free, Off, On}
@@ -22,6 +23,7 @@ use Rattle.rules.specs.declared.state.Link.the-variants.{Up, BusDown, Po
 use Rattle.rules.specs.declared.state.State.{State}
 use Rattle.rules.specs.Scenes.{learnt}
 use Rattle.rules.specs.Phases.{output, deadline}
+use Rattle.rules.specs.Orders.{nightFalls, order}
 use Rattle.rules.specs.Calls.{unused}
 
 -- ---- what an order leaves of each field but the phase (01, "What each order does, at t")
@@ -95,6 +97,74 @@ pub record Holds (p : Params) (t : ℕ) (k : List Scene) (f : Flags) (u : State)
 -- no order changes the parameters or the clock
 abbrev pub Leaves : State → Input → State → Type 0
 Leaves s i u = Holds (s .params) (s .clock) (scenesAfter s i) (flagsAfter s i) u
+
+-- ---- what the modes set (01, "Time and the cue file": "0 keep, 1 off, 2 on", "3 as before locking", "0 as before the failure, 1 off, 2 on")
+
+-- what stands in a mode's place of its row (no other mode is in range)
+abbrev pub chosen : {A : Type 0} → List A → A → ℕ → A
+chosen row other mode = getD row mode other
+
+-- "set on" or "set off" where neither lock nor force stands
+abbrev pub setTo : State → Bool → Phase
+setTo s on = cond on (cond (s .night) (Timed (s .clock + s .params .timedon)) Lit) Dark
+
+-- lock and force do not stand
+pub record NothingHolds (s : State) : Type 0 where
+  pub unlocked : s .lock ≡ false
+  pub unforced : s .force ≡ Free
+
+-- the phase that each order with a mode leaves
+pub record ModesSet (s : State) : Type 0 where
+  -- "Lock, when unlocked: .. the phase becomes Dark or Lit by BehaviourAtLocking (keep: by the present output)"
+  pub locking : s .lock ≡ false → order s (LockDevice true) .phase ≡ cond (chosen (output (s .phase) ∷ false ∷ true ∷ []) false (s .params .locking)) Lit Dark
+  -- "Unlock, when locked: a standing force decides the phase; otherwise BehaviourAtUnlocking, by set on or set off ("keep" sets the present
+  -- output)"
+  pub unlocking : s .lock ≡ true → s .force ≡ Free →
+      order s (LockDevice false) .phase ≡ setTo s (chosen (output (s .phase) ∷ false ∷ true ∷ s .atlocking ∷ []) false (s .params .unlocking))
+  -- "Bus failure from up, return from bus down: the link changes; then the mode, unless lock or force stands. Keep leaves phase and timers
+  -- running."
+  pub busfailure : s .link ≡ Up → NothingHolds s → order s (Bus Failure) .phase ≡ chosen (s .phase ∷ Dark ∷ setTo s true ∷ []) Dark (s .params .busfailure)
+  pub busreturn : s .link ≡ BusDown → NothingHolds s → order s (Bus Return) .phase ≡ chosen (s .phase ∷ Dark ∷ setTo s true ∷ []) Dark (s .params .busreturn)
+  pub busheld : (event : Event) → (s .lock ≡ true) ⊎ (s .force ≡ Free → ⊥) → order s (Bus event) .phase ≡ s .phase
+  -- "Power return from power down: link up, set on or set off by mode."
+  pub powerreturn : s .link ≡ PowerDown → NothingHolds s → order s (Power Return) .phase ≡ setTo s (chosen (s .atfailure ∷ false ∷ true ∷ []) false (s .params .powerreturn))
+
+-- ---- what the other orders make of the phase
+
+-- a timed order or a nightfall is at work: "Timed, Warning and timed Starting"
+abbrev pub runsTimed : Phase → Bool
+runsTimed Dark = false
+runsTimed Lit = false
+runsTimed (Starting timed d) = timed
+runsTimed (Timed d) = true
+runsTimed (Warning d) = true
+runsTimed (Ending d) = false
+
+-- a wait that is timed, and every other phase as it is
+abbrev pub butTimed : Phase → Phase
+butTimed Dark = Dark
+butTimed Lit = Lit
+butTimed (Starting timed d) = Starting true d
+butTimed (Timed d) = Timed d
+butTimed (Warning d) = Warning d
+butTimed (Ending d) = Ending d
+
+-- "Ending until the earlier of .. and .."
+pub record EndsAtEarlier (a b : ℕ) (phase : Phase) : Type 0 where
+  pub until : ℕ
+  pub ending : phase ≡ Ending until
+  pub not-after-a : until ≤ a
+  pub not-after-b : until ≤ b
+  pub one-of-them : (until ≡ a) ⊎ (until ≡ b)
+
+-- "Lit becomes Timed until t+TimedOn; Ending until the earlier of d and t+TimedOn+Prewarning", and nothing else changes
+pub record NightFalls (p : Params) (t : ℕ) : Type 0 where
+  pub lit : nightFalls p t Lit ≡ Timed (t + p .timedon)
+  pub ending : (d : ℕ) → EndsAtEarlier d (t + p .timedon + p .prewarning) (nightFalls p t (Ending d))
+  pub dark : nightFalls p t Dark ≡ Dark
+  pub starting : (timed : Bool) (d : ℕ) → nightFalls p t (Starting timed d) ≡ Starting timed d
+  pub timed : (d : ℕ) → nightFalls p t (Timed d) ≡ Timed d
+  pub warning : (d : ℕ) → nightFalls p t (Warning d) ≡ Warning d
 
 -- ---- ranges (01, "Time and the cue file")
 

@@ -49,10 +49,10 @@ lit-exactly-when phase = (by phase, λ e. rw e)
     by (Ending d) h = no h
 
 -- lock or force stands
-abbrev Held : Bool → Force → Type 0
+abbrev pub Held : Bool → Force → Type 0
 Held lock force = (lock ≡ true) ⊎ (force ≡ Free → ⊥)
 
-held-exactly-when : (lock : Bool) (force : Force) → ((lock || standing force) ≡ true) ↔ Held lock force
+pub held-exactly-when : (lock : Bool) (force : Force) → ((lock || standing force) ≡ true) ↔ Held lock force
 held-exactly-when true force = (λ h. inl refl, λ h. refl)
 held-exactly-when false Free = (λ h. no h, ⊎-elim (λ e. no e) (λ stands. absurd (stands refl)))
 held-exactly-when false Off = (λ h. inr (λ e. no cc), λ h. refl)
