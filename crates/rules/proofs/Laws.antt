@@ -3,6 +3,7 @@
 pub mod Deadlines
 pub mod Parameters
 pub mod Written
+pub mod BadOctets
 pub mod Inputs
 pub mod Phases
 pub mod Holding

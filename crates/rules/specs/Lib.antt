@@ -17,4 +17,5 @@ pub mod Runs
 pub mod Soundness
 pub mod Promises
 pub mod Said
+pub mod Facts
 pub mod Written

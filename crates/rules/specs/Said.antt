@@ -1,7 +1,7 @@
--- Sentences of 01 said a second time, from another side: what an order leaves of each field, where Orders.antt says what it does;
--- ranges and soundness as facts, where Parameters.antt, Scenes.antt and Soundness.antt have tests. That both sides say the same is
--- proved (proofs/Laws/Orders.antt, proofs/Laws/Said.antt), so that a slip in one of them does not pass.
-use Prim.Native.Nat.{ℕ, _+_, _*_, _≤_, _<_}
+-- Orders said a second time, from another side: what each leaves of every field, what each mode sets, what timed orders and nightfall make
+-- of a phase, where Orders.antt goes order by order. That both sides say the same is proved (proofs/Laws/Orders.antt, Modes.antt), so that a
+-- slip in one of them does not pass.
+use Prim.Native.Nat.{ℕ, _+_, _≤_}
 use mathlib.Core.Bool.{Bool, true, false, cond}
 use mathlib.Core.Path.{_≡_}
 use mathlib.Core.Logic.{_⊎_}
@@ -11,9 +11,8 @@ use Rattle.rules.specs.declared.parameters.Params.{Params}
 use Rattle.rules.specs.declared.parameters.Scene.{Scene}
 use Rattle.rules.specs.declared.phase.Phase.{Phase}
 use Rattle.rules.specs.declared.phase.Phase.the-variants.{Dark, Lit, Starting, Timed, Warning, Ending}
-use Rattle.rules.specs.declared.phase.Deadline.the-variants.{At}
 use Rattle.rules.specs.declared.input.Force.{Force}
-use Rattle.rules.specs.declared.input.Force.the-variants.{Free, Off, On}
+use Rattle.rules.specs.declared.input.Force.the-variants.{Free}
 use Rattle.rules.specs.declared.input.Event.{Event}
 use Rattle.rules.specs.declared.input.Event.the-variants.{Failure, Return}
 use Rattle.rules.specs.declared.input.Input.{Input}
@@ -22,9 +21,8 @@ use Rattle.rules.specs.declared.state.Link.{Link}
 use Rattle.rules.specs.declared.state.Link.the-variants.{Up, BusDown, PowerDown}
 use Rattle.rules.specs.declared.state.State.{State}
 use Rattle.rules.specs.Scenes.{learnt}
-use Rattle.rules.specs.Phases.{output, deadline}
+use Rattle.rules.specs.Phases.{output}
 use Rattle.rules.specs.Orders.{nightFalls, order}
-use Rattle.rules.specs.Calls.{unused}
 
 -- ---- what an order leaves of each field but the phase (01, "What each order does, at t")
 
@@ -165,53 +163,3 @@ pub record NightFalls (p : Params) (t : ℕ) : Type 0 where
   pub starting : (timed : Bool) (d : ℕ) → nightFalls p t (Starting timed d) ≡ Starting timed d
   pub timed : (d : ℕ) → nightFalls p t (Timed d) ≡ Timed d
   pub warning : (d : ℕ) → nightFalls p t (Warning d) ≡ Warning d
-
--- ---- ranges (01, "Time and the cue file")
-
--- "Delays are U16 seconds; a delay of s lasts 10*s tenths."
-pub record Delay (t : ℕ) : Type 0 where
-  pub seconds : ℕ
-  pub fits : seconds ≤ 65_535
-  pub lasts : t ≡ 10 * seconds
-
--- "TimedOnDuration, 1 or more"; "8 BehaviourAtLocking (0 keep, 1 off, 2 on); 9 BehaviourAtUnlocking (0 to 2 alike, 3 as before
--- locking); 10 BusFailureMode, 11 BusReturnMode (0 keep, 1 off, 2 on); 12 PowerReturnMode (0 as before the failure, 1 off, 2 on)"
-pub record ParamsFit (p : Params) : Type 0 where
-  pub ondelay : Delay (p .ondelay)
-  pub offdelay : Delay (p .offdelay)
-  pub timedon : Delay (p .timedon)
-  pub prewarning : Delay (p .prewarning)
-  pub some : p .timedon ≡ 0 → ⊥
-  pub locking : p .locking ≤ 2
-  pub unlocking : p .unlocking ≤ 3
-  pub busfailure : p .busfailure ≤ 2
-  pub busreturn : p .busreturn ≤ 2
-  pub powerreturn : p .powerreturn ≤ 2
-
--- "number (0 to 63, or 255 for unused) .. Unused entries have flags 0."
-abbrev pub EntryFits : Scene → Type 0
-EntryFits e = (e .number ≤ 63) ⊎ ((e .number ≡ 255) × (e .value ≡ false) × (e .taught ≡ false))
-
--- entry n of a table (past its end an unused one)
-abbrev pub entry : List Scene → ℕ → Scene
-entry k n = getD k n unused
-
--- "Used numbers are distinct."
-pub record ScenesFit (k : List Scene) : Type 0 where
-  pub entries : (n : ℕ) → EntryFits (entry k n)
-  pub distinct : (m n : ℕ) → m < n → entry k m .number ≡ entry k n .number → entry k n .number ≡ 255
-
--- ---- a sound state (01, "Refusal numbers")
-
--- "A state is sound when its parameters and scenes are in range, the clock is at most 864,000, a deadline lies 1 to 655,350 after the
--- clock, lock or force leaves only Dark or Lit, force without lock agrees with the phase, Lit in night needs lock or force, and power
--- down means Dark with night, lock and force clear."
-pub record SoundState (s : State) : Type 0 where
-  pub params : ParamsFit (s .params)
-  pub scenes : ScenesFit (s .scenes)
-  pub clock : s .clock ≤ 864_000
-  pub soon : (d : ℕ) → deadline (s .phase) ≡ At d → (s .clock + 1 ≤ d) × (d ≤ s .clock + 655_350)
-  pub steady : (s .lock ≡ true) ⊎ (s .force ≡ Free → ⊥) → (s .phase ≡ Dark) ⊎ (s .phase ≡ Lit)
-  pub decided : s .lock ≡ false → (s .force ≡ Off → s .phase ≡ Dark) × (s .force ≡ On → s .phase ≡ Lit)
-  pub ends : s .night ≡ true → s .phase ≡ Lit → (s .lock ≡ true) ⊎ (s .force ≡ Free → ⊥)
-  pub clear : s .link ≡ PowerDown → (s .phase ≡ Dark) × (s .night ≡ false) × (s .lock ≡ false) × (s .force ≡ Free)

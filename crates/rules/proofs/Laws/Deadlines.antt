@@ -15,7 +15,7 @@ use Rattle.rules.specs.Parameters.{timeInRange, paramsInRange}
 use Rattle.rules.specs.Phases.{deadline}
 use Rattle.rules.specs.Answers.{due}
 use Rattle.rules.specs.Soundness.{soon}
-use Rattle.rules.specs.Said.{Delay, ParamsFit}
+use Rattle.rules.specs.Facts.{Delay, ParamsFit}
 use Rattle.base.proofs.Tests.{no, both, cond-case}
 
 -- ---- parameters in range

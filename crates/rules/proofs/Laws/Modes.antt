@@ -19,7 +19,8 @@ use Rattle.rules.specs.declared.state.Link.the-variants.{Up, BusDown, Po
 use Rattle.rules.specs.declared.state.State.{State}
 use Rattle.rules.specs.Phases.{output, litAt, setOn}
 use Rattle.rules.specs.Orders.{on, timedStart, off, timedStop, nightFalls, withLock, withLink, held, settle, plain, byMode, locked, unlockingOutput, unlocked, lockDevice, busMode, bus, powerReturns, power, order}
-use Rattle.rules.specs.Said.{chosen, setTo, NothingHolds, ModesSet, runsTimed, butTimed, NightFalls, ParamsFit}
+use Rattle.rules.specs.Said.{chosen, setTo, NothingHolds, ModesSet, runsTimed, butTimed, NightFalls}
+use Rattle.rules.specs.Facts.{ParamsFit}
 use Rattle.base.specs.Time.{earlier}
 use Rattle.base.proofs.Tests.{no, by-order}
 use Rattle.rules.proofs.Laws.Said.{held-exactly-when}

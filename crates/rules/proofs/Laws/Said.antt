@@ -17,7 +17,7 @@ use Rattle.rules.specs.Phases.{deadline}
 use Rattle.rules.specs.Orders.{standing}
 use Rattle.rules.specs.Barriers.{powerDown}
 use Rattle.rules.specs.Soundness.{soon, isDark, isLit, agrees, heldIsSteady, forceDecides, nightEnds, powerDownIsClear, sound}
-use Rattle.rules.specs.Said.{SoundState}
+use Rattle.rules.specs.Facts.{SoundState}
 use Rattle.base.proofs.Tests.{no, both, either, or-else, by-order}
 use Rattle.rules.proofs.Laws.Deadlines.{params-exactly-when, Within, soon-within, within-soon}
 use Rattle.rules.proofs.Laws.Scenes.{scenes-exactly-when}

@@ -11,7 +11,7 @@ use borrow.Author.Tests.{leb-true, eqb-true, eqb-false, not-true, le-leb, eq-eqb
 use Rattle.rules.specs.declared.parameters.Scene.{Scene}
 use Rattle.rules.specs.Scenes.{learnt, entryInRange, absent, scenesInRange}
 use Rattle.rules.specs.Calls.{unused}
-use Rattle.rules.specs.Said.{EntryFits, entry, ScenesFit}
+use Rattle.rules.specs.Facts.{EntryFits, entry, ScenesFit}
 use Rattle.base.proofs.Tests.{no, both, either, or-else, cond-case}
 
 -- learning changes no number

@@ -18,7 +18,7 @@ use Rattle.rules.specs.Parameters.{delay, paramsOf, sceneAt, scenesOf, g
 use Rattle.rules.specs.Inputs.{stampAt}
 use Rattle.rules.specs.Files.{version, actuators, parametersOffset, inputCount, inputsOffset, endTime}
 use Rattle.rules.specs.Written.{octets16, delayOctets, modeOctets, paramsOctets, flagsOctet, scenesOctets, parametersOctets, headerOctets}
-use Rattle.rules.specs.Said.{Delay, ParamsFit, EntryFits, entry, ScenesFit}
+use Rattle.rules.specs.Facts.{Delay, ParamsFit, EntryFits, entry, ScenesFit}
 use Rattle.rules.specs.Calls.{unused}
 use Rattle.octets.proofs.BothWays.{what-is-written-is-read}
 use Rattle.base.proofs.Tests.{cond-case, either-way}
