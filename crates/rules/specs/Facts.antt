@@ -1,7 +1,7 @@
 -- Ranges and soundness said a second time, as facts, where Parameters.antt, Scenes.antt and Soundness.antt have tests. That both say the same is
 -- proved (proofs/Laws/Deadlines.antt, Scenes.antt, BadOctets.antt, Said.antt), so that a slip in one of them does not pass.
 use Prim.Native.Nat.{ℕ, _+_, _*_, _≤_, _<_}
-use mathlib.Core.Bool.{true, false}
+use mathlib.Core.Bool.{Bool, true, false}
 use mathlib.Core.Path.{_≡_}
 use mathlib.Core.Logic.{_↔_, _⊎_}
 use mathlib.Core.List.{List}
@@ -9,12 +9,14 @@ use lib.ListN.{getD}
 use Rattle.octets.specs.BigEndian.{octet}
 use Rattle.rules.specs.declared.parameters.Params.{Params}
 use Rattle.rules.specs.declared.parameters.Scene.{Scene}
+use Rattle.rules.specs.declared.parameters.Recalled.the-variants.{Nothing, Output}
 use Rattle.rules.specs.declared.phase.Phase.the-variants.{Dark, Lit}
 use Rattle.rules.specs.declared.phase.Deadline.the-variants.{At}
 use Rattle.rules.specs.declared.input.Force.the-variants.{Free, Off, On}
 use Rattle.rules.specs.declared.state.Link.the-variants.{PowerDown}
 use Rattle.rules.specs.declared.state.State.{State}
 use Rattle.rules.specs.Parameters.{badOctet}
+use Rattle.rules.specs.Scenes.{recalled, learnt}
 use Rattle.rules.specs.Phases.{deadline}
 use Rattle.rules.specs.Calls.{unused}
 
@@ -52,6 +54,23 @@ entry k n = getD k n unused
 pub record ScenesFit (k : List Scene) : Type 0 where
   pub entries : (n : ℕ) → EntryFits (entry k n)
   pub distinct : (m n : ℕ) → m < n → entry k m .number ≡ entry k n .number → entry k n .number ≡ 255
+
+-- ---- the scene table, entry by entry (01, "What each order does, at t"), for a table in range and a number that an input can have
+
+-- "Scene recall: a used, taught entry acts as On or Off by its value; any other number does nothing."
+pub record Recalls (k : List Scene) (number : ℕ) : Type 0 where
+  pub taught : (n : ℕ) → entry k n .number ≡ number → entry k n .taught ≡ true → recalled k number ≡ Output (entry k n .value)
+  pub untaught : (n : ℕ) → entry k n .number ≡ number → entry k n .taught ≡ false → recalled k number ≡ Nothing
+  pub other : ((n : ℕ) → entry k n .number ≡ number → ⊥) → recalled k number ≡ Nothing
+
+-- "Learn, if enabled and the number is in the table: the entry's value becomes the present output and it is taught."
+pub record Learns (k : List Scene) (number : ℕ) (present : Bool) : Type 0 where
+  pub value : (n : ℕ) → entry k n .number ≡ number → entry (learnt k number present) n .value ≡ present
+  pub taught : (n : ℕ) → entry k n .number ≡ number → entry (learnt k number present) n .taught ≡ true
+  pub numbers : (n : ℕ) → entry (learnt k number present) n .number ≡ entry k n .number
+  pub others : (n : ℕ) → (entry k n .number ≡ number → ⊥) → entry (learnt k number present) n ≡ entry k n
+
+-- ---- which octet is out of range
 
 -- a number that one of the first n entries has
 pub record Above (octets : List ℕ) (number n : ℕ) : Type 0 where
