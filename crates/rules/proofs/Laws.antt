@@ -20,3 +20,4 @@ pub mod Records
 pub mod Answers
 pub mod Moments
 pub mod Lists
+pub mod Numbers

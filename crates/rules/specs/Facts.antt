@@ -13,8 +13,12 @@ use Rattle.rules.specs.declared.parameters.Recalled.the-variants.{Nothin
 use Rattle.rules.specs.declared.phase.Phase.the-variants.{Dark, Lit}
 use Rattle.rules.specs.declared.phase.Deadline.the-variants.{At}
 use Rattle.rules.specs.declared.input.Force.the-variants.{Free, Off, On}
-use Rattle.rules.specs.declared.state.Link.the-variants.{PowerDown}
+use Rattle.rules.specs.declared.input.Event.the-variants.{Failure, Return}
+use Rattle.rules.specs.declared.input.Input.{Input}
+use Rattle.rules.specs.declared.input.Input.the-variants.{SwitchOnOff, TimedStartStop, NumberedSceneControl, Bus}
+use Rattle.rules.specs.declared.state.Link.the-variants.{Up, BusDown, PowerDown}
 use Rattle.rules.specs.declared.state.State.{State}
+use Rattle.rules.specs.Inputs.{kind}
 use Rattle.rules.specs.Parameters.{badOctet}
 use Rattle.rules.specs.Scenes.{recalled, learnt}
 use Rattle.rules.specs.Phases.{deadline}
@@ -115,3 +119,24 @@ pub record SoundState (s : State) : Type 0 where
   pub decided : s .lock ≡ false → (s .force ≡ Off → s .phase ≡ Dark) × (s .force ≡ On → s .phase ≡ Lit)
   pub ends : s .night ≡ true → s .phase ≡ Lit → (s .lock ≡ true) ⊎ (s .force ≡ Free → ⊥)
   pub clear : s .link ≡ PowerDown → (s .phase ≡ Dark) × (s .night ≡ false) × (s .lock ≡ false) × (s .force ≡ Free)
+
+-- ---- the inputs that the promises speak of (00, demand 3), by the scene table and the link that they meet
+
+-- a recall of a taught entry of this value
+pub record RecallsTo (s : State) (value : Bool) (i : Input) : Type 0 where
+  pub number : ℕ
+  pub recall : i ≡ NumberedSceneControl false number
+  pub found : recalled (s .scenes) number ≡ Output value
+
+-- "On, timed start or scene-on"
+abbrev pub Lights : State → Input → Type 0
+Lights s i = (i ≡ SwitchOnOff true) ⊎ (i ≡ TimedStartStop true) ⊎ RecallsTo s true i
+
+-- "Off, timed stop, scene-off, force, lock, bus or power input"
+abbrev pub Dims : State → Input → Type 0
+Dims s i = (i ≡ SwitchOnOff false) ⊎ (i ≡ TimedStartStop false) ⊎ RecallsTo s false i ⊎ (kind i ≡ 4) ⊎ (kind i ≡ 5) ⊎ (kind i ≡ 7) ⊎ (kind i ≡ 8)
+
+-- "bus event [that] has mode On": "Bus failure from up, return from bus down: the link changes; then the mode"
+abbrev pub BusOn : State → Input → Type 0
+BusOn s i =
+    ((i ≡ Bus Failure) × (s .link ≡ Up) × (s .params .busfailure ≡ 2)) ⊎ ((i ≡ Bus Return) × (s .link ≡ BusDown) × (s .params .busreturn ≡ 2))
