@@ -35,7 +35,7 @@ sceneNumber (Bus event) = 0
 sceneNumber (Power event) = 0
 
 -- what s has, u has too, with these flags
-abbrev With : State → Flags → State → Type 0
+abbrev pub With : State → Flags → State → Type 0
 With s f u = Holds (s .params) (s .clock) (s .scenes) f u
 
 -- nothing but the phase, if that, is changed
@@ -57,7 +57,7 @@ unfolding timed
 timed-leaves s true = same
 timed-leaves s false = same
 
-recall-leaves : (s : State) (found : Recalled) → With s (flagsOf s) (recall s found)
+pub recall-leaves : (s : State) (found : Recalled) → With s (flagsOf s) (recall s found)
 unfolding recall
 recall-leaves s Nothing = same
 recall-leaves s (Output value) = switch-leaves s value
