@@ -16,6 +16,7 @@ pub mod Steps
 pub mod Soundness
 pub mod Said
 pub mod Timers
+pub mod Status
 pub mod Records
 pub mod Answers
 pub mod Moments

@@ -1,6 +1,6 @@
 -- Ranges and soundness said a second time, as facts, where Parameters.antt, Scenes.antt and Soundness.antt have tests. That both say the same is
 -- proved (proofs/Laws/Deadlines.antt, Scenes.antt, BadOctets.antt, Said.antt), so that a slip in one of them does not pass.
-use Prim.Native.Nat.{ℕ, _+_, _*_, _≤_, _<_}
+use Prim.Native.Nat.{ℕ, _+_, _*_, _/_, _%_, _≤_, _<_}
 use mathlib.Core.Bool.{Bool, true, false}
 use mathlib.Core.Path.{_≡_}
 use mathlib.Core.Logic.{_↔_, _⊎_}
@@ -21,7 +21,8 @@ use Rattle.rules.specs.declared.state.State.{State}
 use Rattle.rules.specs.Inputs.{kind}
 use Rattle.rules.specs.Parameters.{badOctet}
 use Rattle.rules.specs.Scenes.{recalled, learnt}
-use Rattle.rules.specs.Phases.{deadline}
+use Rattle.rules.specs.Phases.{output, deadline}
+use Rattle.rules.specs.Status.{value, staircase, attributes}
 use Rattle.rules.specs.Calls.{unused}
 
 -- ---- ranges (01, "Time and the cue file")
@@ -119,6 +120,20 @@ pub record SoundState (s : State) : Type 0 where
   pub decided : s .lock ≡ false → (s .force ≡ Off → s .phase ≡ Dark) × (s .force ≡ On → s .phase ≡ Lit)
   pub ends : s .night ≡ true → s .phase ≡ Lit → (s .lock ≡ true) ⊎ (s .force ≡ Free → ⊥)
   pub clear : s .link ≡ PowerDown → (s .phase ≡ Dark) × (s .night ≡ false) × (s .lock ≡ false) × (s .force ≡ Free)
+
+-- ---- the status (01, "Records and the printout")
+
+-- "value 0 or 255"; "attributes bit 0 valid (power not down), bit 1 locked, 2 forced, 3 night, 4 staircase (our reading, which decides: Timed
+-- or Warning, however entered), 5 to 7 zero"
+pub record StatusShows (s : State) : Type 0 where
+  pub on : (value s ≡ 255) ↔ (output (s .phase) ≡ true)
+  pub off : (value s ≡ 0) ↔ (output (s .phase) ≡ false)
+  pub valid : (attributes s % 2 ≡ 0) ↔ (s .link ≡ PowerDown)
+  pub locked : (attributes s / 2 % 2 ≡ 1) ↔ (s .lock ≡ true)
+  pub forced : (attributes s / 4 % 2 ≡ 0) ↔ (s .force ≡ Free)
+  pub night : (attributes s / 8 % 2 ≡ 1) ↔ (s .night ≡ true)
+  pub staircase : (attributes s / 16 % 2 ≡ 1) ↔ (staircase (s .phase) ≡ true)
+  pub five-bits : attributes s < 32
 
 -- ---- the inputs that the promises speak of (00, demand 3), by the scene table and the link that they meet
 

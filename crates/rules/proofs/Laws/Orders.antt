@@ -2,6 +2,7 @@
 use Prim.Native.Nat.{ℕ}
 use mathlib.Core.Bool.{Bool, true, false, cond, _||_}
 use mathlib.Core.List.{List}
+use mathlib.Core.Logic.{_↔_}
 use mathlib.Core.Path.{_≡_, refl, sym}
 use lib.Dec.{eqb}
 use Rattle.rules.specs.declared.parameters.Scene.{Scene}
@@ -78,11 +79,11 @@ unfolding nightMode
 night-leaves s true = cond-case (Leaves s (NightMode true)) (s .night) _ _ (λ on. rw (← on) same) (λ off. same)
 night-leaves s false = same
 
--- a force that does not stand is none
-not-standing : (f : Force) → standing f ≡ false → f ≡ Free
-not-standing Free h = refl
-not-standing Off h = no (sym h)
-not-standing On h = no (sym h)
+-- "force (none, off, on)": none is the one that does not stand
+pub none-stands-exactly-when : (force : Force) → (standing force ≡ false) ↔ (force ≡ Free)
+none-stands-exactly-when Free = (λ h. refl, λ e. refl)
+none-stands-exactly-when Off = (λ h. no (sym h), λ e. cc)
+none-stands-exactly-when On = (λ h. no (sym h), λ e. cc)
 
 forced-leaves : (s : State) (force : Force) → Leaves s (SwitchOnOffForced force) (forced s force)
 unfolding forced
@@ -91,7 +92,7 @@ forced-leaves s On = same
 forced-leaves s Free =
     cond-case (Leaves s (SwitchOnOffForced Free)) (standing (s .force)) _ _
     (λ stood. settle-leaves (withForce s Free) _)
-    (λ free. rw (← not-standing (s .force) free) same)
+    (λ free. rw (← none-stands-exactly-when (s .force) .0 free) same)
 
 unlocked-leaves : (s : State) (force : Force) → Leaves s (LockDevice false) (unlocked s force)
 unfolding unlocked
