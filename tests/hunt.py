@@ -25,7 +25,10 @@ LIMIT = 300  # seconds for one check
 GROUPS = [g.split() for g in (
     'true false', 'Dark Lit', 'Timed Warning Ending', 'Free Off On', 'Failure Return', 'Up BusDown PowerDown',
     'SwitchOnOff TimedStartStop LockDevice NightMode', 'Bus Power', 'powerDown busDown', 'isDark isLit', 'be16 be32',
-    'modesAt scenesAt', 'scenePlace flagsPlace', 'recallsOn recallsOff', 'lights dims', 'before after', 'min max', '≤ <', '&& ||')]
+    'modesAt scenesAt', 'scenePlace flagsPlace', 'recallsOn recallsOff', 'lights dims', 'min max', '≤ <', '&& ||',
+    # functions of one type, and variables that often stand side by side
+    'timedStart timedStop off nightFalls', 'switch timed', 'value attributes', 'version actuators',
+    'parametersOffset inputCount inputsOffset endTime', 't d', 'night held', 'timed night', 'clock stamp', 'last stamp end', 'before after', 'a b c')]
 # In these, and among fields, a name is changed to the next one only: the groups are long.
 RINGS = [g.split() for g in (
     'NoPower NoBus Locked Forced',
@@ -100,6 +103,7 @@ def changes(body, tokens, i):
     """(start, end, text) of each change at a token."""
     t = tokens[i]
     before = tokens[i - 1].text if i else ''
+    if i + 1 < len(tokens) and tokens[i + 1].text == '=': return  # the name of a field that is written
     if re.fullmatch(r'\d[\d_]*', t.text) and before != 'Type': yield t.start, t.end, str(int(t.text.replace('_', '')) + 1)
     for other in OTHERS.get(t.text, []): yield t.start, t.end, other
     if t.text in ('&&', '||'):

@@ -22,7 +22,7 @@ use Rattle.rules.specs.declared.state.Link.the-variants.{Up, BusDown, Po
 use Rattle.rules.specs.declared.state.State.{State}
 use Rattle.rules.specs.Scenes.{learnt}
 use Rattle.rules.specs.Phases.{output}
-use Rattle.rules.specs.Orders.{nightFalls, order}
+use Rattle.rules.specs.Orders.{timedStart, off, timedStop, nightFalls, order}
 
 -- ---- what an order leaves of each field but the phase (01, "What each order does, at t")
 
@@ -129,7 +129,7 @@ pub record ModesSet (s : State) : Type 0 where
 
 -- ---- what the other orders make of the phase
 
--- a timed order or a nightfall is at work: "Timed, Warning and timed Starting"
+-- "Timed, Warning and timed Starting"
 abbrev pub runsTimed : Phase → Bool
 runsTimed Dark = false
 runsTimed Lit = false
@@ -138,14 +138,15 @@ runsTimed (Timed d) = true
 runsTimed (Warning d) = true
 runsTimed (Ending d) = false
 
--- a wait that is timed, and every other phase as it is
-abbrev pub butTimed : Phase → Phase
-butTimed Dark = Dark
-butTimed Lit = Lit
-butTimed (Starting timed d) = Starting true d
-butTimed (Timed d) = Timed d
-butTimed (Warning d) = Warning d
-butTimed (Ending d) = Ending d
+-- "Timed start: the same from Dark and Starting but timed; every lit phase becomes Timed until t+TimedOn."; "Timed stop: as Off in Timed,
+-- Warning and timed Starting; otherwise nothing."
+pub record TimedOrders (p : Params) (t : ℕ) : Type 0 where
+  pub at-once : p .ondelay ≡ 0 → timedStart p t Dark ≡ Timed (t + p .timedon)
+  pub after-delay : (p .ondelay ≡ 0 → ⊥) → timedStart p t Dark ≡ Starting true (t + p .ondelay)
+  pub waiting : (timed : Bool) (d : ℕ) → timedStart p t (Starting timed d) ≡ Starting true d
+  pub lit : (phase : Phase) → output phase ≡ true → timedStart p t phase ≡ Timed (t + p .timedon)
+  pub stop : (phase : Phase) → runsTimed phase ≡ true → timedStop p t phase ≡ off p t phase
+  pub no-stop : (phase : Phase) → runsTimed phase ≡ false → timedStop p t phase ≡ phase
 
 -- "Ending until the earlier of .. and .."
 pub record EndsAtEarlier (a b : ℕ) (phase : Phase) : Type 0 where

@@ -6,6 +6,7 @@ use mathlib.Core.Logic.{_⊎_, inl, inr, ⊎-elim}
 use mathlib.Core.Path.{_≡_, refl, sym, _∙_, ap}
 use native.Mathlib.Omega.{arith}
 use lib.Dec.{eqb}
+use borrow.Author.Tests.{eq-eqb, ne-eqb}
 use Rattle.rules.specs.declared.parameters.Params.{Params}
 use Rattle.rules.specs.declared.phase.Phase.{Phase}
 use Rattle.rules.specs.declared.phase.Phase.the-variants.{Dark, Lit, Starting, Timed, Warning, Ending}
@@ -18,8 +19,8 @@ use Rattle.rules.specs.declared.state.Link.{Link}
 use Rattle.rules.specs.declared.state.Link.the-variants.{Up, BusDown, PowerDown}
 use Rattle.rules.specs.declared.state.State.{State}
 use Rattle.rules.specs.Phases.{output, litAt, setOn}
-use Rattle.rules.specs.Orders.{on, timedStart, off, timedStop, nightFalls, withLock, withLink, held, settle, plain, byMode, locked, unlockingOutput, unlocked, lockDevice, busMode, bus, powerReturns, power, order}
-use Rattle.rules.specs.Said.{chosen, setTo, NothingHolds, ModesSet, runsTimed, butTimed, NightFalls}
+use Rattle.rules.specs.Orders.{timedStart, off, timedStop, nightFalls, withLock, withLink, held, settle, plain, byMode, locked, unlockingOutput, unlocked, lockDevice, busMode, bus, powerReturns, power, order}
+use Rattle.rules.specs.Said.{chosen, setTo, NothingHolds, ModesSet, runsTimed, TimedOrders, NightFalls}
 use Rattle.rules.specs.Facts.{ParamsFit}
 use Rattle.base.specs.Time.{earlier}
 use Rattle.base.proofs.Tests.{no, by-order}
@@ -99,39 +100,35 @@ modes-set s f =
 
 -- ---- timed orders and nightfall
 
--- "every lit phase becomes Timed until t+TimedOn"
-pub timed-start-of-every-lit-phase : (p : Params) (t : ℕ) (phase : Phase) → output phase ≡ true → timedStart p t phase ≡ Timed (t + p .timedon)
+lit-is-timed : (p : Params) (t : ℕ) (phase : Phase) → output phase ≡ true → timedStart p t phase ≡ Timed (t + p .timedon)
 unfolding timedStart
-timed-start-of-every-lit-phase p t Dark h = no h
-timed-start-of-every-lit-phase p t Lit h = refl
-timed-start-of-every-lit-phase p t (Starting timed d) h = no h
-timed-start-of-every-lit-phase p t (Timed d) h = refl
-timed-start-of-every-lit-phase p t (Warning d) h = refl
-timed-start-of-every-lit-phase p t (Ending d) h = refl
+lit-is-timed p t Dark h = no h
+lit-is-timed p t Lit h = refl
+lit-is-timed p t (Starting timed d) h = no h
+lit-is-timed p t (Timed d) h = refl
+lit-is-timed p t (Warning d) h = refl
+lit-is-timed p t (Ending d) h = refl
 
--- "Timed start: the same from Dark and Starting but timed": the same as On, which at night lights Timed at once
-pub timed-start-of-the-others : (p : Params) (t : ℕ) (phase : Phase) → output phase ≡ false → timedStart p t phase ≡ butTimed (on p true false t phase)
-unfolding timedStart on litAt
-timed-start-of-the-others p t Dark h = by (eqb (p .ondelay) 0)
-  where
-    by : (b : Bool) → cond b (Timed (t + p .timedon)) (Starting true (t + p .ondelay)) ≡ butTimed (cond b (Timed (t + p .timedon)) (Starting false (t + p .ondelay)))
-    by true = refl
-    by false = refl
-timed-start-of-the-others p t Lit h = no (sym h)
-timed-start-of-the-others p t (Starting timed d) h = refl
-timed-start-of-the-others p t (Timed d) h = no (sym h)
-timed-start-of-the-others p t (Warning d) h = no (sym h)
-timed-start-of-the-others p t (Ending d) h = no (sym h)
-
--- "Timed stop: as Off in Timed, Warning and timed Starting; otherwise nothing."
-pub timed-stop-of-every-phase : (p : Params) (t : ℕ) (phase : Phase) → timedStop p t phase ≡ cond (runsTimed phase) (off p t phase) phase
+stop-is-off : (p : Params) (t : ℕ) (phase : Phase) → timedStop p t phase ≡ cond (runsTimed phase) (off p t phase) phase
 unfolding timedStop
-timed-stop-of-every-phase p t Dark = refl
-timed-stop-of-every-phase p t Lit = refl
-timed-stop-of-every-phase p t (Starting timed d) = refl
-timed-stop-of-every-phase p t (Timed d) = refl
-timed-stop-of-every-phase p t (Warning d) = refl
-timed-stop-of-every-phase p t (Ending d) = refl
+stop-is-off p t Dark = refl
+stop-is-off p t Lit = refl
+stop-is-off p t (Starting timed d) = refl
+stop-is-off p t (Timed d) = refl
+stop-is-off p t (Warning d) = refl
+stop-is-off p t (Ending d) = refl
+
+pub timed-orders : (p : Params) (t : ℕ) → TimedOrders p t
+unfolding timedStart
+timed-orders p t =
+    record {
+      at-once = λ none. rw (eq-eqb (p .ondelay) 0 none);
+      after-delay = λ some. rw (ne-eqb (p .ondelay) 0 some);
+      waiting = λ timed d. refl;
+      lit = lit-is-timed p t;
+      stop = λ phase runs. stop-is-off p t phase ∙ rw runs;
+      no-stop = λ phase idle. stop-is-off p t phase ∙ rw idle;
+    }
 
 earlier-is : (a b until : ℕ) → until ≡ earlier a b → (until ≤ a) × (until ≤ b) × ((until ≡ a) ⊎ (until ≡ b))
 earlier-is a b until e = by-order a b (λ first. (omega arith, omega arith, inl (omega arith))) (λ second. (omega arith, omega arith, inr (omega arith)))
