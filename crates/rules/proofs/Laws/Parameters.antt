@@ -139,11 +139,11 @@ params-in-range octets small a =
 
 -- ---- accepted octets are scenes in range
 
-abbrev pub numberOf : List ℕ → ℕ → ℕ
+abbrev numberOf : List ℕ → ℕ → ℕ
 numberOf octets n = octet octets (16 + 2 * n)
 
 -- from octet 16 on the even octets are numbers, the odd ones flags
-pub scene-octet : (octets : List ℕ) (at n : ℕ) → 16 ≤ at → (at - 16) / 2 ≡ n → badOctet octets at ≡ cond (eqb (at % 2) 0) (badNumber octets n) (badFlags octets n)
+scene-octet : (octets : List ℕ) (at n : ℕ) → 16 ≤ at → (at - 16) / 2 ≡ n → badOctet octets at ≡ cond (eqb (at % 2) 0) (badNumber octets n) (badFlags octets n)
 unfolding badOctet
 scene-octet octets at n past entry = simp (le-ltb at 8 (omega arith), le-ltb at 16 past, entry)
 

@@ -2,7 +2,7 @@
 use Prim.Native.Nat.{ℕ, _+_, _≤_}
 use mathlib.Core.Bool.{Bool, true, false, cond, not, _&&_, _||_}
 use mathlib.Core.Logic.{_↔_, _⊎_, inl, inr, ⊎-elim}
-use mathlib.Core.Path.{_≡_, refl, sym, _∙_}
+use mathlib.Core.Path.{_≡_, refl, sym}
 use native.Mathlib.Omega.{arith}
 use Rattle.rules.specs.declared.phase.Phase.{Phase}
 use Rattle.rules.specs.declared.phase.Phase.the-variants.{Dark, Lit, Starting, Timed, Warning, Ending}
@@ -15,10 +15,9 @@ use Rattle.rules.specs.declared.state.Link.the-variants.{Up, BusDown, Po
 use Rattle.rules.specs.declared.state.State.{State}
 use Rattle.rules.specs.Phases.{deadline}
 use Rattle.rules.specs.Orders.{standing}
-use Rattle.rules.specs.Barriers.{powerDown}
 use Rattle.rules.specs.Soundness.{soon, isDark, isLit, agrees, heldIsSteady, forceDecides, nightEnds, powerDownIsClear, sound}
 use Rattle.rules.specs.Facts.{SoundState}
-use Rattle.base.proofs.Tests.{no, both, either, or-else, by-order}
+use Rattle.base.proofs.Tests.{no, both, either}
 use Rattle.rules.proofs.Laws.Deadlines.{params-exactly-when, Within, soon-within, within-soon}
 use Rattle.rules.proofs.Laws.Scenes.{scenes-exactly-when}
 use Rattle.rules.proofs.Laws.Holding.{fits-view, fits-consistent}

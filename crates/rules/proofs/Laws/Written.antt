@@ -8,21 +8,21 @@ use mathlib.Core.Path.{_≡_, refl, sym, _∙_, ap}
 use native.Mathlib.Omega.{arith}
 use lib.ListN.{length, getD, drop}
 use lib.Seq.{drop-length, drop-cons, getD-append-add}
-use lib.Dec.{eqb, leb, ltb}
-use borrow.Author.Tests.{ltb-true, ltb-false, leb-true, eqb-true, eqb-false, le-leb, lt-leb, le-ltb, lt-ltb, eq-eqb, ne-eqb, not-false}
-use Rattle.octets.specs.BigEndian.{octet, be16, be32, octets32}
+use lib.Dec.{eqb, ltb}
+use borrow.Author.Tests.{ltb-true, ltb-false, eqb-true, eqb-false, le-leb, le-ltb, ne-eqb, not-false}
+use Rattle.octets.specs.BigEndian.{octet, be16, octets32}
 use Rattle.rules.specs.declared.parameters.Params.{Params}
 use Rattle.rules.specs.declared.parameters.Scene.{Scene}
 use Rattle.base.specs.declared.refusal.Check.the-variants.{Passed}
 use Rattle.rules.specs.Parameters.{delay, paramsOf, sceneAt, scenesOf, greatest, numberAbove, badNumber, badFlags, badOctet, checkParameters}
 use Rattle.rules.specs.Inputs.{stampAt}
 use Rattle.rules.specs.Files.{version, actuators, parametersOffset, inputCount, inputsOffset, endTime}
-use Rattle.rules.specs.Written.{octets16, delayOctets, modeOctets, paramsOctets, flagsOctet, scenesOctets, parametersOctets, headerOctets}
-use Rattle.rules.specs.Facts.{Delay, ParamsFit, EntryFits, entry, ScenesFit}
+use Rattle.rules.specs.Written.{delayOctets, modeOctets, paramsOctets, flagsOctet, scenesOctets, parametersOctets, headerOctets}
+use Rattle.rules.specs.Facts.{Delay, ParamsFit, entry, ScenesFit}
 use Rattle.rules.specs.Calls.{unused}
 use Rattle.octets.proofs.BothWays.{what-is-written-is-read}
 use Rattle.base.proofs.Tests.{cond-case, either-way}
-use Rattle.rules.proofs.Laws.Parameters.{lowest-bad-octet, number-octet, flags-octet, scene-octet, entries}
+use Rattle.rules.proofs.Laws.Parameters.{lowest-bad-octet, flags-octet, entries}
 
 -- ---- accepted parameters are written in one way
 

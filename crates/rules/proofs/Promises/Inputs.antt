@@ -1,9 +1,9 @@
 -- Which inputs light, dim or have the mode On, in the words of the promises.
-use mathlib.Core.Bool.{Bool, true, false, true≢false}
+use mathlib.Core.Bool.{true, false}
 use mathlib.Core.Logic.{_↔_, _⊎_, inl, inr, ⊎-elim}
-use mathlib.Core.Path.{_≡_, refl, sym, _∙_}
+use mathlib.Core.Path.{_≡_, refl}
 use native.Mathlib.Omega.{arith}
-use borrow.Author.Tests.{eqb-true, eq-eqb, not-true}
+use borrow.Author.Tests.{eqb-true, eq-eqb}
 use Prim.Native.Nat.{ℕ, _≤_}
 use Rattle.rules.specs.declared.parameters.Recalled.{Recalled}
 use Rattle.rules.specs.declared.parameters.Recalled.the-variants.{Nothing, Output}
@@ -17,7 +17,7 @@ use Rattle.rules.specs.declared.state.State.{State}
 use Rattle.rules.specs.Inputs.{kind}
 use Rattle.rules.specs.Scenes.{recalled}
 use Rattle.rules.specs.Promises.{recallsOn, recallsOff, lights, dims, modeOn, busOn}
-use Rattle.rules.specs.Facts.{RecallsTo, Lights, Dims, BusOn}
+use Rattle.rules.specs.Facts.{Lights, Dims, BusOn}
 use Rattle.base.proofs.Tests.{no}
 
 recalls-on : (r : Recalled) → recallsOn r ≡ true → r ≡ Output true
