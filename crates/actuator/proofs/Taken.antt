@@ -21,7 +21,7 @@ use Rattle.rules.specs.Answers.{answer, samePhase, sameFlags, sameScenes, sameB
 use Rattle.rules.specs.Steps.{Stepped, atMoment, clockMove, taken, meet, act, step}
 use Rattle.rules.specs.Lists.{Played, still}
 use Rattle.base.proofs.Tests.{eqb-same, beq-same}
-use Rattle.rules.proofs.Laws.Orders.{order-keeps}
+use Rattle.rules.proofs.Laws.Orders.{order-leaves}
 use Rattle.rules.proofs.Laws.Answers.{same-but-clock-is-exact, scenes-same}
 use Rattle.rules.proofs.Laws.Soundness.{move-keeps}
 use Rattle.rules.proofs.Laws.Records.{a-move-writes-at-most-two, one-record-at-most}
@@ -55,7 +55,7 @@ module _ (p : Params) (k : List Scene) (l : Lamp) (i : Input) where
 
   -- the state after an order is its parts
   order-joined : (after : Lamp) → lampOf (order met i) ≡ after → stateOf p table after ≡ order met i
-  order-joined after e = rw (← e) (joined (order met i) p table (order-keeps met i .params) refl)
+  order-joined after e = rw (← e) (joined (order met i) p table (order-leaves met i .params) refl)
 
   -- a lamp that stays: only the table can have changed, and nothing is shown
   stays : (k₁ : List Scene) → record { lamp = l; answer = answer Open (sameScenes k k₁); note = Silent } ≡ doneBy met i (stateOf p k₁ l)
@@ -95,7 +95,7 @@ module _ (p : Params) (k : List Scene) (l : Lamp) (i : Input) where
   other-keeps other = rw (other-orders-keep-the-table met i other) (scenes-same k)
 
   pub other-stays : (after : Lamp) → after ≡ lampOf (order met i) → (samePhase (l .phase) (after .phase) && sameFlags (alone l) (alone after)) ≡ true → lampOf (order met i) ≡ l
-  other-stays after e same = sym e ∙ sym (same-lamp l after (rw e (sym (order-keeps met i .clock))) same)
+  other-stays after e same = sym e ∙ sym (same-lamp l after (rw e (sym (order-leaves met i .clock))) same)
 
 -- ---- at the moved clock
 
@@ -123,7 +123,7 @@ module _ (s : State) (i : Input) where
   acting-keeps = go (barrier s i)
     where
       go : (b : Barrier) → (meet b (still s) i .state .params ≡ s .params) × (length (meet b (still s) i .records) ≤ 1)
-      go Open = unfold meet taken in (order-keeps s i .params, one-record-at-most (kind i) s (order s i))
+      go Open = unfold meet taken in (order-leaves s i .params, one-record-at-most (kind i) s (order s i))
       go (Stopped why) = unfold meet in (refl, omega arith)
 
 -- ---- the whole step

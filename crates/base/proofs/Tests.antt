@@ -1,6 +1,7 @@
 -- Laws of tests that the theorems share.
 use Prim.Native.Nat.{ℕ, _≤_, _<_}
 use mathlib.Core.Bool.{Bool, true, false, cond, _&&_, _||_, Bool·beq, true≢false}
+use mathlib.Core.Logic.{_⊎_, inl, inr}
 use mathlib.Core.Path.{_≡_, refl, sym}
 use native.Mathlib.Omega.{arith}
 use lib.Dec.{eqb, leb}
@@ -17,6 +18,15 @@ both false b h = no h
 pub neither-left : (a b : Bool) → (a || b) ≡ false → a ≡ false
 neither-left true b h = h
 neither-left false b h = refl
+
+pub either : (a b : Bool) → (a || b) ≡ true → (a ≡ true) ⊎ (b ≡ true)
+either true b h = inl refl
+either false b h = inr h
+
+-- and the other way: it is enough that the second holds where the first does not
+pub or-else : (a b : Bool) → (a ≡ false → b ≡ true) → (a || b) ≡ true
+or-else true b f = refl
+or-else false b f = f refl
 
 -- what holds of either branch, under what its test says, holds of the choice
 pub cond-case : {A : Type 0} (P : A → Type 0) (b : Bool) (x y : A) → (b ≡ true → P x) → (b ≡ false → P y) → P (cond b x y)

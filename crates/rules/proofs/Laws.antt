@@ -2,6 +2,8 @@
 -- what several share.
 pub mod Deadlines
 pub mod Parameters
+pub mod Written
+pub mod BadOctets
 pub mod Inputs
 pub mod Phases
 pub mod Holding
@@ -9,10 +11,14 @@ pub mod Scenes
 pub mod Barriers
 pub mod Fitting
 pub mod Orders
+pub mod Modes
 pub mod Steps
 pub mod Soundness
+pub mod Said
 pub mod Timers
+pub mod Status
 pub mod Records
 pub mod Answers
 pub mod Moments
 pub mod Lists
+pub mod Numbers

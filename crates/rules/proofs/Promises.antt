@@ -1,4 +1,5 @@
 -- "Nobody waits for ever": Dark and Light, and the cases worked on paper.
+pub mod Inputs
 pub mod Stamps
 pub mod Lasting
 pub mod Prolonging

@@ -18,3 +18,6 @@ pub mod Soundness
 pub mod Refusals
 pub mod Promises
 pub mod Mistakes
+pub mod Said
+pub mod Facts
+pub mod Written

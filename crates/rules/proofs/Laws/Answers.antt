@@ -24,7 +24,7 @@ use Rattle.rules.specs.Inputs.{forceNumber}
 use Rattle.rules.specs.Answers.{answer, phaseNumber, due, linkNumber, samePhase, sameScene, sameScenes, sameFlags, sameButClock}
 use Rattle.rules.specs.Steps.{atMoment, Moved, taken, meet, act}
 use Rattle.base.proofs.Tests.{and-left, and-right, beq-true, beq-same, eqb-same}
-use Rattle.rules.proofs.Laws.Orders.{order-keeps}
+use Rattle.rules.proofs.Laws.Orders.{order-leaves}
 
 -- a phase, a force and a link can be read back from their numbers, so equal numbers mean equal things
 
@@ -130,7 +130,7 @@ one-or-zero false e = ((λ h. absurd (omega arith), λ same. cc (e .1 same)), (�
 pub answer-one-means-nothing-changed : (s : State) (i : Input) →
     ((answer Open (sameButClock s (order s i)) ≡ 1) ↔ (order s i ≡ s)) × ((answer Open (sameButClock s (order s i)) ≡ 0) ↔ (order s i ≡ s → ⊥))
 answer-one-means-nothing-changed s i =
-    let kept = order-keeps s i in
+    let kept = order-leaves s i in
     one-or-zero (sameButClock s (order s i)) (Iff·trans (same-but-clock-is-exact s (order s i) (sym (kept .clock)) (sym (kept .params))) eq-comm)
 
 -- the same of the answer and the state that an input gives, after the due timers had run

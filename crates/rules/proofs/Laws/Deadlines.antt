@@ -1,10 +1,11 @@
 -- Times in range, and deadlines that lie 1 to 655,350 after the clock: what keeps every sum within its type.
-use Prim.Native.Nat.{ℕ, _+_, _-_, _≤_, _<_}
+use Prim.Native.Nat.{ℕ, _+_, _-_, _/_, _%_, _≤_, _<_}
 use mathlib.Core.Bool.{Bool, true, false}
 use mathlib.Core.Path.{_≡_}
+use mathlib.Core.Logic.{_↔_}
 use native.Mathlib.Omega.{arith}
 use lib.Dec.{leb, ltb}
-use borrow.Author.Tests.{leb-true, ltb-true, le-leb, lt-ltb}
+use borrow.Author.Tests.{leb-true, ltb-true, eqb-true, le-leb, lt-ltb, eq-eqb}
 use Rattle.rules.specs.declared.parameters.Params.{Params}
 use Rattle.rules.specs.declared.phase.Phase.{Phase}
 use Rattle.rules.specs.declared.phase.Phase.the-variants.{Dark, Lit, Starting, Timed, Warning, Ending}
@@ -14,9 +15,64 @@ use Rattle.rules.specs.Parameters.{timeInRange, paramsInRange}
 use Rattle.rules.specs.Phases.{deadline}
 use Rattle.rules.specs.Answers.{due}
 use Rattle.rules.specs.Soundness.{soon}
+use Rattle.rules.specs.Facts.{Delay, ParamsFit}
 use Rattle.base.proofs.Tests.{no, both, cond-case}
 
--- the ranges of the times
+-- ---- parameters in range
+
+-- whole seconds, as a delay that is at most 655,350 and divisible by 10
+delay-exactly-when : (t : ℕ) → (timeInRange t ≡ true) ↔ Delay t
+unfolding timeInRange
+delay-exactly-when t = (
+  λ h. let parts = both _ _ h in record { seconds = t / 10; fits = omega (arith, leb-true t longestDelay (parts .0)); lasts = omega (arith, eqb-true (t % 10) 0 (parts .1)) },
+  λ d. simp (le-leb t longestDelay (omega (arith, d .fits, d .lasts)), eq-eqb (t % 10) 0 (omega (arith, d .lasts))),
+)
+
+-- parameters are in range exactly when each of them is as 01 says
+pub params-exactly-when : (p : Params) → (paramsInRange p ≡ true) ↔ ParamsFit p
+unfolding paramsInRange
+params-exactly-when p = (view, whole)
+  where
+    view : paramsInRange p ≡ true → ParamsFit p
+    view h =
+        let back = both _ _ h in
+        let buses = both _ _ (back .0) in
+        let modes = both _ _ (buses .0) in
+        let delays = both _ _ (modes .0) in
+        let switched = both _ _ (delays .0) in
+        let staged = both _ _ (delays .1) in
+        let first = both _ _ (modes .1) in
+        let middle = both _ _ (buses .1) in
+        let last = both _ _ (back .1) in
+        record {
+          ondelay = delay-exactly-when _ .0 (switched .0);
+          offdelay = delay-exactly-when _ .0 (switched .1);
+          timedon = delay-exactly-when _ .0 (staged .0);
+          prewarning = delay-exactly-when _ .0 (staged .1);
+          some = λ none. omega (arith, leb-true (tenths 1) (p .timedon) (first .0));
+          locking = leb-true _ _ (first .1);
+          unlocking = leb-true _ _ (middle .0);
+          busfailure = leb-true _ _ (middle .1);
+          busreturn = leb-true _ _ (last .0);
+          powerreturn = leb-true _ _ (last .1);
+        }
+
+    whole : ParamsFit p → paramsInRange p ≡ true
+    whole f =
+        simp (
+          delay-exactly-when _ .1 (f .ondelay),
+          delay-exactly-when _ .1 (f .offdelay),
+          delay-exactly-when _ .1 (f .timedon),
+          delay-exactly-when _ .1 (f .prewarning),
+          le-leb (tenths 1) (p .timedon) (omega (arith, f .some, f .timedon .lasts)),
+          le-leb _ _ (f .locking),
+          le-leb _ _ (f .unlocking),
+          le-leb _ _ (f .busfailure),
+          le-leb _ _ (f .busreturn),
+          le-leb _ _ (f .powerreturn),
+        )
+
+-- how long the times are at most
 pub record Times (p : Params) : Type 0 where
   pub ondelay : p .ondelay ≤ 655_350
   pub offdelay : p .offdelay ≤ 655_350
@@ -24,24 +80,18 @@ pub record Times (p : Params) : Type 0 where
   pub prewarning : p .prewarning ≤ 655_350
   pub some : 1 ≤ p .timedon
 
-time-bounded : (t : ℕ) → timeInRange t ≡ true → t ≤ 655_350
-unfolding timeInRange
-time-bounded t h = leb-true _ _ (both _ _ h .0)
-
 pub times-bounded : (p : Params) → paramsInRange p ≡ true → Times p
-unfolding paramsInRange
 times-bounded p h =
-    let modes = both _ _ (both _ _ (both _ _ h .0) .0) in
-    let delays = both _ _ (modes .0) in
-    let switched = both _ _ (delays .0) in
-    let timed = both _ _ (delays .1) in
+    let f = params-exactly-when p .0 h in
     record {
-      ondelay = time-bounded _ (switched .0);
-      offdelay = time-bounded _ (switched .1);
-      timedon = time-bounded _ (timed .0);
-      prewarning = time-bounded _ (timed .1);
-      some = omega (arith, leb-true (tenths 1) (p .timedon) (both _ _ (modes .1) .0));
+      ondelay = omega (arith, f .ondelay .fits, f .ondelay .lasts);
+      offdelay = omega (arith, f .offdelay .fits, f .offdelay .lasts);
+      timedon = omega (arith, f .timedon .fits, f .timedon .lasts);
+      prewarning = omega (arith, f .prewarning .fits, f .prewarning .lasts);
+      some = omega (arith, f .some);
     }
+
+-- ---- deadlines
 
 -- d lies 1 to 655,350 after t
 pub record Within (t d : ℕ) : Type 0 where

@@ -1,11 +1,10 @@
--- What an order keeps: the clock, the parameters, and the scenes but for one that it teaches.
+-- What an order leaves: the parameters and the clock, the scenes but for one that it teaches, and each flag that is not its own.
 use Prim.Native.Nat.{ℕ}
-use mathlib.Core.Bool.{Bool, true, false, _||_}
+use mathlib.Core.Bool.{Bool, true, false, cond, _||_}
 use mathlib.Core.List.{List}
-use mathlib.Core.Logic.{_⊎_, inl, inr}
-use mathlib.Core.Path.{_≡_, refl}
+use mathlib.Core.Logic.{_↔_}
+use mathlib.Core.Path.{_≡_, refl, sym}
 use lib.Dec.{eqb}
-use Rattle.rules.specs.declared.parameters.Params.{Params}
 use Rattle.rules.specs.declared.parameters.Scene.{Scene}
 use Rattle.rules.specs.declared.parameters.Recalled.{Recalled}
 use Rattle.rules.specs.declared.parameters.Recalled.the-variants.{Nothing, Output}
@@ -19,128 +18,115 @@ use Rattle.rules.specs.declared.state.Link.{Link}
 use Rattle.rules.specs.declared.state.Link.the-variants.{Up, BusDown, PowerDown}
 use Rattle.rules.specs.declared.state.State.{State}
 use Rattle.rules.specs.Scenes.{recalled, learnt}
-use Rattle.rules.specs.Inputs.{kind, sceneNumber}
 use Rattle.rules.specs.Phases.{output}
 use Rattle.rules.specs.declared.phase.Phase.the-variants.{Dark, Lit}
-use Rattle.rules.specs.Orders.{withForce, withLink, withLock, standing, held, settle, switch, timed, recall, learn, scene, nightMode, forced, locked, unlocked, lockDevice, busMode, bus, powerFails, powerReturns, power, order}
-use Rattle.base.proofs.Tests.{cond-case}
+use Rattle.rules.specs.Orders.{withForce, withLink, withLock, withScenes, standing, held, settle, switch, timed, recall, learn, scene, nightMode, forced, locked, unlocked, lockDevice, busMode, bus, powerFails, powerReturns, power, order}
+use Rattle.rules.specs.Said.{Flags, flagsOf, flagsAfterPower, Holds, Leaves}
+use Rattle.base.proofs.Tests.{no, cond-case}
 
--- a state with these parameters, this clock, and these scenes or those that are taught
-pub record Kept (p : Params) (t : ℕ) (k taught : List Scene) (u : State) : Type 0 where
-  pub params : u .params ≡ p
-  pub clock : u .clock ≡ t
-  pub scenes : (u .scenes ≡ k) ⊎ (u .scenes ≡ taught)
+-- what s has, u has too, with these flags
+abbrev pub With : State → Flags → State → Type 0
+With s f u = Holds (s .params) (s .clock) (s .scenes) f u
 
--- an order that touches none of the three
-same : {taught : List Scene} {u : State} → Kept (u .params) (u .clock) (u .scenes) taught u
-same = record { params = refl; clock = refl; scenes = inl refl }
+-- nothing but the phase, if that, is changed
+same : {u : State} → With u (flagsOf u) u
+same = record { params = refl; clock = refl; scenes = refl; flags = refl }
 
-module _ (taught : List Scene) where
-  -- what s has, u has too
-  abbrev KeepsAll : State → State → Type 0
-  KeepsAll s u = Kept (s .params) (s .clock) (s .scenes) taught u
+settle-leaves : (s : State) (output : Bool) → With s (flagsOf s) (settle s output)
+unfolding settle
+settle-leaves s true = same
+settle-leaves s false = same
 
-  settle-keeps : (s : State) (output : Bool) → KeepsAll s (settle s output)
-  unfolding settle
-  settle-keeps s true = same
-  settle-keeps s false = same
+switch-leaves : (s : State) (value : Bool) → With s (flagsOf s) (switch s value)
+unfolding switch
+switch-leaves s true = same
+switch-leaves s false = same
 
-  switch-keeps : (s : State) (value : Bool) → KeepsAll s (switch s value)
-  unfolding switch
-  switch-keeps s true = same
-  switch-keeps s false = same
+timed-leaves : (s : State) (value : Bool) → With s (flagsOf s) (timed s value)
+unfolding timed
+timed-leaves s true = same
+timed-leaves s false = same
 
-  timed-keeps : (s : State) (value : Bool) → KeepsAll s (timed s value)
-  unfolding timed
-  timed-keeps s true = same
-  timed-keeps s false = same
+pub recall-leaves : (s : State) (found : Recalled) → With s (flagsOf s) (recall s found)
+unfolding recall
+recall-leaves s Nothing = same
+recall-leaves s (Output value) = switch-leaves s value
 
-  recall-keeps : (s : State) (found : Recalled) → KeepsAll s (recall s found)
-  unfolding recall
-  recall-keeps s Nothing = same
-  recall-keeps s (Output value) = switch-keeps s value
-
-  night-keeps : (s : State) (value : Bool) → KeepsAll s (nightMode s value)
-  unfolding nightMode
-  night-keeps s true = cond-case (KeepsAll s) (s .night) _ _ (λ on. same) (λ off. same)
-  night-keeps s false = same
-
-  forced-keeps : (s : State) (force : Force) → KeepsAll s (forced s force)
-  unfolding forced
-  forced-keeps s Off = same
-  forced-keeps s On = same
-  forced-keeps s Free = cond-case (KeepsAll s) (standing (s .force)) _ _ (λ stood. settle-keeps (withForce s Free) _) (λ free. same)
-
-  unlocked-keeps : (s : State) (force : Force) → KeepsAll s (unlocked s force)
-  unfolding unlocked
-  unlocked-keeps s Off = same
-  unlocked-keeps s On = same
-  unlocked-keeps s Free = settle-keeps (withLock s false (s .atlocking)) _
-
-  lock-keeps : (s : State) (value : Bool) → KeepsAll s (lockDevice s value)
-  unfolding lockDevice locked
-  lock-keeps s true = cond-case (KeepsAll s) (s .lock) _ _ (λ already. same) (λ free. same)
-  lock-keeps s false = cond-case (KeepsAll s) (s .lock) _ _ (λ stood. unlocked-keeps s (s .force)) (λ free. same)
-
-  bus-mode-keeps : (s : State) (mode : ℕ) → KeepsAll s (busMode s mode)
-  unfolding busMode
-  bus-mode-keeps s mode = cond-case (KeepsAll s) (held s || eqb mode 0) _ _ (λ keep. same) (λ acts. settle-keeps s _)
-
-  bus-keeps : (s : State) (link : Link) (event : Event) → KeepsAll s (bus s link event)
-  unfolding bus
-  bus-keeps s Up Failure = bus-mode-keeps (withLink s BusDown) _
-  bus-keeps s Up Return = same
-  bus-keeps s BusDown Failure = same
-  bus-keeps s BusDown Return = bus-mode-keeps (withLink s Up) _
-  bus-keeps s PowerDown event = same
-
-  power-keeps : (s : State) (link : Link) (event : Event) → KeepsAll s (power s link event)
-  unfolding power powerFails powerReturns
-  power-keeps s Up Failure = same
-  power-keeps s Up Return = same
-  power-keeps s BusDown Failure = same
-  power-keeps s BusDown Return = same
-  power-keeps s PowerDown Failure = same
-  power-keeps s PowerDown Return = settle-keeps (withLink s Up) _
-
-learn-keeps : (s : State) (number : ℕ) → KeepsAll (learnt (s .scenes) number (output (s .phase))) s (learn s number)
+learn-leaves : (s : State) (number : ℕ) → Leaves s (NumberedSceneControl true number) (learn s number)
 unfolding learn
-learn-keeps s number =
-    cond-case (KeepsAll (learnt (s .scenes) number (output (s .phase))) s) (s .params .learning) _ _
-    (λ enabled. record { params = refl; clock = refl; scenes = inr refl })
-    (λ disabled. same)
-
--- only a scene input that teaches writes one of the three
-pub order-keeps : (s : State) (i : Input) → Kept (s .params) (s .clock) (s .scenes) (learnt (s .scenes) (sceneNumber i) (output (s .phase))) (order s i)
-unfolding order scene
-order-keeps s (SwitchOnOff value) = switch-keeps _ s value
-order-keeps s (TimedStartStop value) = timed-keeps _ s value
-order-keeps s (NumberedSceneControl true number) = learn-keeps s number
-order-keeps s (NumberedSceneControl false number) = recall-keeps _ s (recalled (s .scenes) number)
-order-keeps s (SwitchOnOffForced force) = forced-keeps _ s force
-order-keeps s (LockDevice value) = lock-keeps _ s value
-order-keeps s (NightMode value) = night-keeps _ s value
-order-keeps s (Bus event) = bus-keeps _ s (s .link) event
-order-keeps s (Power event) = power-keeps _ s (s .link) event
-
--- every other kind leaves the scenes as they are
-pub other-kinds-keep-scenes : (s : State) (i : Input) → (kind i ≡ 3 → ⊥) → order s i .scenes ≡ s .scenes
-unfolding order
-other-kinds-keep-scenes s i other = by i other
+learn-leaves s number = by (s .params .learning)
   where
-    either-one : {k l : List Scene} → (k ≡ l) ⊎ (k ≡ l) → k ≡ l
-    either-one (inl e) = e
-    either-one (inr e) = e
+    taught : List Scene
+    taught = learnt (s .scenes) number (output (s .phase))
 
-    by : (i : Input) → (kind i ≡ 3 → ⊥) → order s i .scenes ≡ s .scenes
-    by (SwitchOnOff value) other = either-one (switch-keeps (s .scenes) s value .scenes)
-    by (TimedStartStop value) other = either-one (timed-keeps (s .scenes) s value .scenes)
-    by (NumberedSceneControl learns number) other = absurd (other refl)
-    by (SwitchOnOffForced force) other = either-one (forced-keeps (s .scenes) s force .scenes)
-    by (LockDevice value) other = either-one (lock-keeps (s .scenes) s value .scenes)
-    by (NightMode value) other = either-one (night-keeps (s .scenes) s value .scenes)
-    by (Bus event) other = either-one (bus-keeps (s .scenes) s (s .link) event .scenes)
-    by (Power event) other = either-one (power-keeps (s .scenes) s (s .link) event .scenes)
+    by : (b : Bool) → Holds (s .params) (s .clock) (cond b taught (s .scenes)) (flagsOf s) (cond b (withScenes s taught) s)
+    by true = same
+    by false = same
+
+night-leaves : (s : State) (value : Bool) → Leaves s (NightMode value) (nightMode s value)
+unfolding nightMode
+night-leaves s true = cond-case (Leaves s (NightMode true)) (s .night) _ _ (λ on. rw (← on) same) (λ off. same)
+night-leaves s false = same
+
+-- "force (none, off, on)": none is the one that does not stand
+pub none-stands-exactly-when : (force : Force) → (standing force ≡ false) ↔ (force ≡ Free)
+none-stands-exactly-when Free = (λ h. refl, λ e. refl)
+none-stands-exactly-when Off = (λ h. no (sym h), λ e. cc)
+none-stands-exactly-when On = (λ h. no (sym h), λ e. cc)
+
+forced-leaves : (s : State) (force : Force) → Leaves s (SwitchOnOffForced force) (forced s force)
+unfolding forced
+forced-leaves s Off = same
+forced-leaves s On = same
+forced-leaves s Free =
+    cond-case (Leaves s (SwitchOnOffForced Free)) (standing (s .force)) _ _
+    (λ stood. settle-leaves (withForce s Free) _)
+    (λ free. rw (← none-stands-exactly-when (s .force) .0 free) same)
+
+unlocked-leaves : (s : State) (force : Force) → Leaves s (LockDevice false) (unlocked s force)
+unfolding unlocked
+unlocked-leaves s Off = same
+unlocked-leaves s On = same
+unlocked-leaves s Free = settle-leaves (withLock s false (s .atlocking)) _
+
+lock-leaves : (s : State) (value : Bool) → Leaves s (LockDevice value) (lockDevice s value)
+unfolding lockDevice locked
+lock-leaves s true = cond-case (Leaves s (LockDevice true)) (s .lock) _ _ (λ already. rw already (rw (← already) same)) (λ free. rw free same)
+lock-leaves s false = cond-case (Leaves s (LockDevice false)) (s .lock) _ _ (λ stood. unlocked-leaves s (s .force)) (λ free. rw (← free) same)
+
+bus-mode-leaves : (s : State) (mode : ℕ) → With s (flagsOf s) (busMode s mode)
+unfolding busMode
+bus-mode-leaves s mode = cond-case (With s (flagsOf s)) (held s || eqb mode 0) _ _ (λ keep. same) (λ acts. settle-leaves s _)
+
+bus-leaves : (s : State) (link : Link) (event : Event) → s .link ≡ link → Leaves s (Bus event) (bus s link event)
+unfolding bus
+bus-leaves s Up Failure e = rw e (bus-mode-leaves (withLink s BusDown) _)
+bus-leaves s Up Return e = rw e (rw (← e) same)
+bus-leaves s BusDown Failure e = rw e (rw (← e) same)
+bus-leaves s BusDown Return e = rw e (bus-mode-leaves (withLink s Up) _)
+bus-leaves s PowerDown event e = rw e (rw (← e) same)
+
+power-leaves : (s : State) (link : Link) (event : Event) → With s (flagsAfterPower s link event) (power s link event)
+unfolding power powerFails powerReturns
+power-leaves s Up Failure = same
+power-leaves s Up Return = same
+power-leaves s BusDown Failure = same
+power-leaves s BusDown Return = same
+power-leaves s PowerDown Failure = same
+power-leaves s PowerDown Return = settle-leaves (withLink s Up) _
+
+-- each order changes what 01 says that it changes, and nothing else; what it makes of the phase: Phases.antt and Said.antt
+pub order-leaves : (s : State) (i : Input) → Leaves s i (order s i)
+unfolding order scene
+order-leaves s (SwitchOnOff value) = switch-leaves s value
+order-leaves s (TimedStartStop value) = timed-leaves s value
+order-leaves s (NumberedSceneControl true number) = learn-leaves s number
+order-leaves s (NumberedSceneControl false number) = recall-leaves s (recalled (s .scenes) number)
+order-leaves s (SwitchOnOffForced force) = forced-leaves s force
+order-leaves s (LockDevice value) = lock-leaves s value
+order-leaves s (NightMode value) = night-leaves s value
+order-leaves s (Bus event) = bus-leaves s (s .link) event refl
+order-leaves s (Power event) = power-leaves s (s .link) event
 
 -- 01, "Slips we have seen": "An unlock that forgets a standing force."
 pub unlock-obeys-a-standing-force : (s : State) → s .lock ≡ true →

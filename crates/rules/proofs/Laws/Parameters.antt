@@ -125,10 +125,10 @@ scene-octet : (octets : List ℕ) (at n : ℕ) → 16 ≤ at → (at - 16) / 2 �
 unfolding badOctet
 scene-octet octets at n past entry = simp (le-ltb at 8 (omega arith), le-ltb at 16 past, entry)
 
-number-octet : (octets : List ℕ) (n : ℕ) → badOctet octets (16 + 2 * n) ≡ badNumber octets n
+pub number-octet : (octets : List ℕ) (n : ℕ) → badOctet octets (16 + 2 * n) ≡ badNumber octets n
 number-octet octets n = scene-octet octets (16 + 2 * n) n (omega arith) (omega arith) ∙ simp (eq-eqb ((16 + 2 * n) % 2) 0 (omega arith))
 
-flags-octet : (octets : List ℕ) (n : ℕ) → badOctet octets (17 + 2 * n) ≡ badFlags octets n
+pub flags-octet : (octets : List ℕ) (n : ℕ) → badOctet octets (17 + 2 * n) ≡ badFlags octets n
 flags-octet octets n = scene-octet octets (17 + 2 * n) n (omega arith) (omega arith) ∙ simp (ne-eqb ((17 + 2 * n) % 2) 0 (λ even. omega arith))
 
 -- a used entry: its number is at most 63 and in no earlier entry
@@ -183,7 +183,7 @@ later-differs octets m n a within earlier few =
     (used-or-unused octets n a within))
 
 -- the entries from the n-th on, this many
-unfoldable entries : List ℕ → ℕ → ℕ → List Scene
+unfoldable pub entries : List ℕ → ℕ → ℕ → List Scene
 entries octets zero n = []
 entries octets (suc left) n = sceneAt octets (16 + 2 * n) ∷ entries octets left (n + 1)
 

@@ -1,8 +1,7 @@
 -- A sound state stays sound: from its start, by a timer, by a clock move, by an order that nothing stops, by a step.
 use Prim.Native.Nat.{ℕ, _+_, _≤_}
-use mathlib.Core.Bool.{true}
+use mathlib.Core.Bool.{true, false}
 use mathlib.Core.List.{List}
-use mathlib.Core.Logic.{⊎-elim}
 use mathlib.Core.Path.{_≡_, refl, _∙_, ap}
 use native.Mathlib.Omega.{arith}
 use borrow.Author.Tests.{leb-true, le-leb}
@@ -11,6 +10,7 @@ use Rattle.rules.specs.declared.parameters.Scene.{Scene}
 use Rattle.rules.specs.declared.phase.Deadline.{Deadline}
 use Rattle.rules.specs.declared.phase.Deadline.the-variants.{Never, At}
 use Rattle.rules.specs.declared.input.Input.{Input}
+use Rattle.rules.specs.declared.input.Input.the-variants.{SwitchOnOff, TimedStartStop, NumberedSceneControl, SwitchOnOffForced, LockDevice, NightMode, Bus, Power}
 use Rattle.rules.specs.declared.state.State.{State}
 use Rattle.rules.specs.declared.barrier.Barrier.{Barrier}
 use Rattle.rules.specs.declared.barrier.Barrier.the-variants.{Open, Stopped}
@@ -25,14 +25,15 @@ use Rattle.rules.specs.Answers.{due}
 use Rattle.rules.specs.Steps.{fresh, atMoment, tick, Moved, ticked, clockMove, taken, meet, act, step, Quiet, fired}
 use Rattle.rules.specs.Soundness.{soon, consistent, sound}
 use Rattle.rules.specs.Calls.{leastParams, unused, noScenes, ownState}
-use Rattle.base.proofs.Tests.{both}
+use Rattle.rules.specs.Said.{scenesAfter}
+use Rattle.base.proofs.Tests.{both, either-way}
 use Rattle.rules.proofs.Laws.Deadlines.{times-bounded, soon-within, within-soon, soon-due, due-is}
 use Rattle.rules.proofs.Laws.Phases.{timer-unheld}
 use Rattle.rules.proofs.Laws.Holding.{Fits, fits-view, fits-consistent, waiting-is-loose, fits-unheld, unheld-fits}
 use Rattle.rules.proofs.Laws.Steps.{tick-case, tick-keeps, three-are-enough}
 use Rattle.rules.proofs.Laws.Scenes.{learnt-in-range}
 use Rattle.rules.proofs.Laws.Fitting.{order-fits}
-use Rattle.rules.proofs.Laws.Orders.{order-keeps}
+use Rattle.rules.proofs.Laws.Orders.{order-leaves}
 
 -- ---- the rules of a sound state by name
 
@@ -142,16 +143,31 @@ move-params s t = ap (λ (u : State). u .params) (move-keeps s t)
 
 -- ---- an order and a step
 
+-- an entry that is taught has a number up to 63
+taught-in-range : (s : State) (i : Input) → sceneNumber i ≤ 63 → scenesInRange (scenesAfter s i) ≡ scenesInRange (s .scenes)
+taught-in-range s (SwitchOnOff value) small = refl
+taught-in-range s (TimedStartStop value) small = refl
+taught-in-range s (NumberedSceneControl true number) small =
+    either-way (λ (k : List Scene). scenesInRange k ≡ scenesInRange (s .scenes)) (s .params .learning) _ _
+    (learnt-in-range (s .scenes) number (output (s .phase)) small)
+    refl
+taught-in-range s (NumberedSceneControl false number) small = refl
+taught-in-range s (SwitchOnOffForced force) small = refl
+taught-in-range s (LockDevice value) small = refl
+taught-in-range s (NightMode value) small = refl
+taught-in-range s (Bus event) small = refl
+taught-in-range s (Power event) small = refl
+
 -- an order keeps clock and parameters, teaches a used entry at most, and sets a phase that fits
 pub order-is-sound : (s : State) (i : Input) → sceneNumber i ≤ 63 → sound s ≡ true → barrier s i ≡ Open → sound (order s i) ≡ true
 order-is-sound s i small h way =
     let view = sound-view s h in
-    let k = order-keeps s i in
+    let k = order-leaves s i in
     let f = order-fits s (times-bounded (s .params) (view .params)) (fits s view) i way in
     sound-whole (order s i)
     record {
       params = rw (k .params) (view .params);
-      scenes = ⊎-elim (λ e. rw e (view .scenes)) (λ e. ap scenesInRange e ∙ (learnt-in-range (s .scenes) (sceneNumber i) (output (s .phase)) small ∙ view .scenes)) (k .scenes);
+      scenes = ap scenesInRange (k .scenes) ∙ (taught-in-range s i small ∙ view .scenes);
       clock = rw (k .clock) (view .clock);
       soon = f .soon;
       consistent = fits-consistent _ f;
@@ -180,9 +196,9 @@ step-is-sound s i t small h later end =
 pub step-clock : (s : State) (i : Input) (t : ℕ) → step s i t .state .clock ≡ t
 step-clock s i t =
     let there = move-clock s t in
-    step-case (λ (u : State). u .clock ≡ t) s i t (λ way. order-keeps (clockMove s t .state) i .clock ∙ there) there
+    step-case (λ (u : State). u .clock ≡ t) s i t (λ way. order-leaves (clockMove s t .state) i .clock ∙ there) there
 
 pub step-params : (s : State) (i : Input) (t : ℕ) → step s i t .state .params ≡ s .params
 step-params s i t =
     let same = move-params s t in
-    step-case (λ (u : State). u .params ≡ s .params) s i t (λ way. order-keeps (clockMove s t .state) i .params ∙ same) same
+    step-case (λ (u : State). u .params ≡ s .params) s i t (λ way. order-leaves (clockMove s t .state) i .params ∙ same) same

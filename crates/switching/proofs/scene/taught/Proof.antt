@@ -1,5 +1,5 @@
 use mathlib.Core.Path.{sym}
-use Rattle.switching.proofs.Scenes.{recalling-keeps-the-table}
+use Rattle.rules.proofs.Laws.Orders.{recall-leaves}
 use Rattle.rules.specs.Orders.{learn, scene}
 use borrow.Author.Needs.{needs}
 use Rattle.switching.proofs.scene.taught.Statement.{statement}
@@ -15,7 +15,7 @@ returns-2 c = simp (c .if2 .left, c .before .if1 .taken)
 
 returns-3 : tie.Need-returns-3
 unfolding scene
-returns-3 c = rw (c .if1 .left) (sym (recalling-keeps-the-table _ _))
+returns-3 c = rw (c .if1 .left) (sym (recall-leaves _ _ .scenes))
 
 pub taught-spec : {M : Type 1} → statement M
 taught-spec = tie.close (tie.spec (λ c κs. search needs) (λ c κs. search needs) returns returns-2 returns-3)

@@ -1,0 +1,145 @@
+-- What each mode sets, and what timed orders and nightfall make of a phase, in 01's words.
+use Prim.Native.Nat.{ℕ, zero, suc, _+_, _≤_}
+use mathlib.Core.Bool.{Bool, true, false, cond, _&&_}
+use mathlib.Core.List.{[], _∷_}
+use mathlib.Core.Logic.{_⊎_, inl, inr}
+use mathlib.Core.Path.{_≡_, refl, _∙_, ap}
+use native.Mathlib.Omega.{arith}
+use lib.Dec.{eqb}
+use borrow.Author.Tests.{eq-eqb, ne-eqb}
+use Rattle.rules.specs.declared.parameters.Params.{Params}
+use Rattle.rules.specs.declared.phase.Phase.{Phase}
+use Rattle.rules.specs.declared.phase.Phase.the-variants.{Dark, Lit, Starting, Timed, Warning, Ending}
+use Rattle.rules.specs.declared.input.Force.{Force}
+use Rattle.rules.specs.declared.input.Force.the-variants.{Free, Off, On}
+use Rattle.rules.specs.declared.input.Event.{Event}
+use Rattle.rules.specs.declared.input.Event.the-variants.{Failure, Return}
+use Rattle.rules.specs.declared.state.Link.{Link}
+use Rattle.rules.specs.declared.state.Link.the-variants.{Up, BusDown, PowerDown}
+use Rattle.rules.specs.declared.state.State.{State}
+use Rattle.rules.specs.Phases.{output, litAt, setOn}
+use Rattle.rules.specs.Orders.{timedStart, off, timedStop, nightFalls, withLock, withLink, held, settle, plain, byMode, locked, unlockingOutput, unlocked, lockDevice, busMode, bus, powerReturns, power, order}
+use Rattle.rules.specs.Said.{chosen, setTo, NothingHolds, ModesSet, runsTimed, TimedOrders, NightFalls}
+use Rattle.rules.specs.Facts.{ParamsFit}
+use Rattle.base.specs.Time.{earlier}
+use Rattle.base.proofs.Tests.{no, by-order}
+use Rattle.rules.proofs.Laws.Said.{held-exactly-when}
+
+-- ---- modes
+
+-- "0 keep, 1 off, 2 on"
+by-mode : (mode : ℕ) (kept : Bool) → mode ≤ 2 → byMode mode kept ≡ chosen (kept ∷ false ∷ true ∷ []) false mode
+unfolding byMode
+by-mode zero kept few = refl
+by-mode (suc zero) kept few = refl
+by-mode (suc (suc zero)) kept few = refl
+by-mode (suc (suc (suc mode))) kept few = absurd (omega arith)
+
+settle-sets : (s : State) (on : Bool) → NothingHolds s → settle s on .phase ≡ setTo s on
+unfolding settle setOn litAt held
+settle-sets s true l = rw (l .unlocked, l .unforced) (by (s .night))
+  where
+    by : (night : Bool) → cond (night && true) (Timed (s .clock + s .params .timedon)) Lit ≡ cond night (Timed (s .clock + s .params .timedon)) Lit
+    by true = refl
+    by false = refl
+settle-sets s false l = refl
+
+plain-is : (on : Bool) → plain on ≡ cond on Lit Dark
+plain-is true = refl
+plain-is false = refl
+
+unlocking-sets : (mode : ℕ) (kept before : Bool) → mode ≤ 3 → cond (eqb mode 3) before (byMode mode kept) ≡ chosen (kept ∷ false ∷ true ∷ before ∷ []) false mode
+unfolding byMode
+unlocking-sets zero kept before few = refl
+unlocking-sets (suc zero) kept before few = refl
+unlocking-sets (suc (suc zero)) kept before few = refl
+unlocking-sets (suc (suc (suc zero))) kept before few = refl
+unlocking-sets (suc (suc (suc (suc mode)))) kept before few = absurd (omega arith)
+
+unlock-sets : (s : State) (lock : Bool) (force : Force) → s .params .unlocking ≤ 3 → s .force ≡ force → lock ≡ true → force ≡ Free →
+    cond lock (unlocked s force) s .phase ≡ setTo s (chosen (output (s .phase) ∷ false ∷ true ∷ s .atlocking ∷ []) false (s .params .unlocking))
+unfolding unlocked unlockingOutput
+unlock-sets s false force few same stood free = no stood
+unlock-sets s true Off few same stood free = no cc
+unlock-sets s true On few same stood free = no cc
+unlock-sets s true Free few same stood free =
+    settle-sets (withLock s false (s .atlocking)) _ (record { unlocked = refl; unforced = same }) ∙
+    ap (setTo s) (unlocking-sets (s .params .unlocking) (output (s .phase)) (s .atlocking) few)
+
+nothing-is-unheld : (s : State) → NothingHolds s → held s ≡ false
+unfolding held
+nothing-is-unheld s l = rw (l .unlocked, l .unforced)
+
+bus-sets : (s : State) (mode : ℕ) → mode ≤ 2 → NothingHolds s → busMode s mode .phase ≡ chosen (s .phase ∷ Dark ∷ setTo s true ∷ []) Dark mode
+unfolding busMode
+bus-sets s zero few l = rw (nothing-is-unheld s l)
+bus-sets s (suc zero) few l = rw (nothing-is-unheld s l) (settle-sets s false l)
+bus-sets s (suc (suc zero)) few l = rw (nothing-is-unheld s l) (settle-sets s true l)
+bus-sets s (suc (suc (suc mode))) few l = absurd (omega arith)
+
+held-bus : (s : State) (link : Link) (event : Event) → (s .lock ≡ true) ⊎ (s .force ≡ Free → ⊥) → bus s link event .phase ≡ s .phase
+unfolding bus busMode held
+held-bus s Up Failure h = rw (held-exactly-when (s .lock) (s .force) .1 h)
+held-bus s Up Return h = refl
+held-bus s BusDown Failure h = refl
+held-bus s BusDown Return h = rw (held-exactly-when (s .lock) (s .force) .1 h)
+held-bus s PowerDown event h = refl
+
+pub modes-set : (s : State) → ParamsFit (s .params) → ModesSet s
+unfolding order lockDevice locked bus power powerReturns
+modes-set s f =
+    record {
+      locking = λ free. rw (free, by-mode (s .params .locking) (output (s .phase)) (f .locking)) (plain-is (chosen (output (s .phase) ∷ false ∷ true ∷ []) false (s .params .locking)));
+      unlocking = λ stood free. unlock-sets s (s .lock) (s .force) (f .unlocking) refl stood free;
+      busfailure = λ up l. rw up (bus-sets (withLink s BusDown) (s .params .busfailure) (f .busfailure) (record { unlocked = l .unlocked; unforced = l .unforced }));
+      busreturn = λ down l. rw down (bus-sets (withLink s Up) (s .params .busreturn) (f .busreturn) (record { unlocked = l .unlocked; unforced = l .unforced }));
+      busheld = λ event h. held-bus s (s .link) event h;
+      powerreturn = λ down l. rw down (settle-sets (withLink s Up) _ (record { unlocked = l .unlocked; unforced = l .unforced }) ∙ ap (setTo s) (by-mode (s .params .powerreturn) (s .atfailure) (f .powerreturn)));
+    }
+
+-- ---- timed orders and nightfall
+
+lit-is-timed : (p : Params) (t : ℕ) (phase : Phase) → output phase ≡ true → timedStart p t phase ≡ Timed (t + p .timedon)
+unfolding timedStart
+lit-is-timed p t Dark h = no h
+lit-is-timed p t Lit h = refl
+lit-is-timed p t (Starting timed d) h = no h
+lit-is-timed p t (Timed d) h = refl
+lit-is-timed p t (Warning d) h = refl
+lit-is-timed p t (Ending d) h = refl
+
+stop-is-off : (p : Params) (t : ℕ) (phase : Phase) → timedStop p t phase ≡ cond (runsTimed phase) (off p t phase) phase
+unfolding timedStop
+stop-is-off p t Dark = refl
+stop-is-off p t Lit = refl
+stop-is-off p t (Starting timed d) = refl
+stop-is-off p t (Timed d) = refl
+stop-is-off p t (Warning d) = refl
+stop-is-off p t (Ending d) = refl
+
+pub timed-orders : (p : Params) (t : ℕ) → TimedOrders p t
+unfolding timedStart
+timed-orders p t =
+    record {
+      at-once = λ none. rw (eq-eqb (p .ondelay) 0 none);
+      after-delay = λ some. rw (ne-eqb (p .ondelay) 0 some);
+      waiting = λ timed d. refl;
+      lit = lit-is-timed p t;
+      stop = λ phase runs. stop-is-off p t phase ∙ rw runs;
+      no-stop = λ phase idle. stop-is-off p t phase ∙ rw idle;
+    }
+
+earlier-is : (a b until : ℕ) → until ≡ earlier a b → (until ≤ a) × (until ≤ b) × ((until ≡ a) ⊎ (until ≡ b))
+earlier-is a b until e = by-order a b (λ first. (omega arith, omega arith, inl (omega arith))) (λ second. (omega arith, omega arith, inr (omega arith)))
+
+pub night-falls : (p : Params) (t : ℕ) → NightFalls p t
+unfolding nightFalls
+night-falls p t =
+    record {
+      lit = refl;
+      ending = λ d. let e = earlier-is d (t + p .timedon + p .prewarning) _ refl in record { until = _; ending = refl; not-after-a = e .0; not-after-b = e .1; one-of-them = e .2 };
+      dark = refl;
+      starting = λ timed d. refl;
+      timed = λ d. refl;
+      warning = λ d. refl;
+    }

@@ -1,0 +1,62 @@
+-- The numbers, blank values and rooms that 01 names, each said once more.
+use Prim.Native.Nat.{ℕ, _+_, _*_, _≤_}
+use mathlib.Core.Bool.{true, false}
+use mathlib.Core.List.{List, [], _∷_, map}
+use mathlib.Core.Logic.{_↔_}
+use mathlib.Core.Path.{_≡_, refl}
+use lib.ListN.{length}
+use borrow.Author.Tests.{leb-true, le-leb}
+use Rattle.octets.specs.BigEndian.{octets32}
+use Rattle.base.specs.declared.refusal.Refusal.the-variants.{WrongLength, WrongVersion, WrongActuators, WrongLayout, BadParameter, BadInput, BadStamp, ShortBuffer, UnsoundState}
+use Rattle.rules.specs.declared.parameters.Params.{Params}
+use Rattle.rules.specs.declared.parameters.Scene.{Scene}
+use Rattle.rules.specs.declared.state.Link.{Link}
+use Rattle.rules.specs.declared.state.Link.the-variants.{Up, BusDown, PowerDown}
+use Rattle.base.specs.Refusals.{number}
+use Rattle.rules.specs.Barriers.{powerDown, busDown}
+use Rattle.rules.specs.Steps.{fresh}
+use Rattle.rules.specs.Calls.{leastParams, unused, noScenes, blank}
+use Rattle.rules.specs.Files.{inputCount, roomy}
+use Rattle.rules.specs.Runs.{recordOctets}
+use Rattle.rules.specs.Written.{parametersOctets}
+use Rattle.base.proofs.Tests.{no, both}
+
+-- 01, "Refusal numbers": the rows of the table, from the first to the ninth
+pub refusal-numbers : map number (WrongLength ∷ WrongVersion ∷ WrongActuators ∷ WrongLayout ∷ BadParameter ∷ BadInput ∷ BadStamp ∷ ShortBuffer ∷ UnsoundState ∷ []) ≡ 1 ∷ 2 ∷ 3 ∷ 4 ∷ 5 ∷ 6 ∷ 7 ∷ 8 ∷ 9 ∷ []
+refusal-numbers = refl
+
+-- "all by-value records are 0 on refusal, and by-value records not used are 0": all eight octets
+pub a-blank-record-is-eight-zeros : recordOctets blank ≡ 0 ∷ 0 ∷ 0 ∷ 0 ∷ 0 ∷ 0 ∷ 0 ∷ 0 ∷ []
+unfolding recordOctets blank octets32
+a-blank-record-is-eight-zeros = refl
+
+-- "a refusal's state is the fresh one with TimedOn 1 second, other times and modes 0, no scenes": as the 32 octets of its parameters
+pub the-least-parameters-in-octets : parametersOctets leastParams noScenes ≡
+    0 ∷ 0 ∷ 0 ∷ 0 ∷ 0 ∷ 1 ∷ 0 ∷ 0 ∷ 0 ∷ 0 ∷ 0 ∷ 0 ∷ 0 ∷ 0 ∷ 0 ∷ 0 ∷ 255 ∷ 0 ∷ 255 ∷ 0 ∷ 255 ∷ 0 ∷ 255 ∷ 0 ∷ 255 ∷ 0 ∷ 255 ∷ 0 ∷ 255 ∷ 0 ∷ 255 ∷ 0 ∷ []
+unfolding leastParams noScenes unused
+the-least-parameters-in-octets = refl
+
+-- "Fresh: .. both remembered outputs off." (the rest of it shows in the first record: Promises/Worked.antt)
+pub fresh-remembers-off : (p : Params) (k : List Scene) → (fresh p k .atlocking ≡ false) × (fresh p k .atfailure ≡ false)
+unfolding fresh
+fresh-remembers-off p k = (refl, refl)
+
+-- "link (up, bus down, power down)": which of the three stops what the rows name
+pub power-down-exactly-when : (link : Link) → (powerDown link ≡ true) ↔ (link ≡ PowerDown)
+power-down-exactly-when Up = (λ h. no h, λ e. cc)
+power-down-exactly-when BusDown = (λ h. no h, λ e. cc)
+power-down-exactly-when PowerDown = (λ h. refl, λ e. refl)
+
+pub bus-down-exactly-when : (link : Link) → (busDown link ≡ true) ↔ (link ≡ BusDown)
+bus-down-exactly-when Up = (λ h. no h, λ e. cc)
+bus-down-exactly-when BusDown = (λ h. refl, λ e. refl)
+bus-down-exactly-when PowerDown = (λ h. no h, λ e. cc)
+
+-- "records, at least 8(3n+3) octets, and answers, at least n"
+pub roomy-exactly-when : (file records answers : List ℕ) →
+    (roomy file records answers ≡ true) ↔ ((8 * (3 * inputCount file + 3) ≤ length records) × (inputCount file ≤ length answers))
+unfolding roomy
+roomy-exactly-when file records answers = (
+  λ h. let parts = both _ _ h in (leb-true _ _ (parts .0), leb-true _ _ (parts .1)),
+  λ f. simp (le-leb (8 * (3 * inputCount file + 3)) (length records) (f .0), le-leb (inputCount file) (length answers) (f .1)),
+)

@@ -1,0 +1,166 @@
+-- Orders said a second time, from another side: what each leaves of every field, what each mode sets, what timed orders and nightfall make
+-- of a phase, where Orders.antt goes order by order. That both sides say the same is proved (proofs/Laws/Orders.antt, Modes.antt), so that a
+-- slip in one of them does not pass.
+use Prim.Native.Nat.{ℕ, _+_, _≤_}
+use mathlib.Core.Bool.{Bool, true, false, cond}
+use mathlib.Core.Path.{_≡_}
+use mathlib.Core.Logic.{_⊎_}
+use mathlib.Core.List.{List, [], _∷_}
+use lib.ListN.{getD}
+use Rattle.rules.specs.declared.parameters.Params.{Params}
+use Rattle.rules.specs.declared.parameters.Scene.{Scene}
+use Rattle.rules.specs.declared.phase.Phase.{Phase}
+use Rattle.rules.specs.declared.phase.Phase.the-variants.{Dark, Lit, Starting, Timed, Warning, Ending}
+use Rattle.rules.specs.declared.input.Force.{Force}
+use Rattle.rules.specs.declared.input.Force.the-variants.{Free}
+use Rattle.rules.specs.declared.input.Event.{Event}
+use Rattle.rules.specs.declared.input.Event.the-variants.{Failure, Return}
+use Rattle.rules.specs.declared.input.Input.{Input}
+use Rattle.rules.specs.declared.input.Input.the-variants.{SwitchOnOff, TimedStartStop, NumberedSceneControl, SwitchOnOffForced, LockDevice, NightMode, Bus, Power}
+use Rattle.rules.specs.declared.state.Link.{Link}
+use Rattle.rules.specs.declared.state.Link.the-variants.{Up, BusDown, PowerDown}
+use Rattle.rules.specs.declared.state.State.{State}
+use Rattle.rules.specs.Scenes.{learnt}
+use Rattle.rules.specs.Phases.{output}
+use Rattle.rules.specs.Orders.{timedStart, off, timedStop, nightFalls, order}
+
+-- ---- what an order leaves of each field but the phase (01, "What each order does, at t")
+
+-- all that a state holds but parameters, scenes, clock and phase
+pub record Flags : Type 0 where
+  pub night : Bool
+  pub lock : Bool
+  pub force : Force
+  pub link : Link
+  pub atlocking : Bool
+  pub atfailure : Bool
+
+abbrev pub flags : Bool → Bool → Force → Link → Bool → Bool → Flags
+flags night lock force link atlocking atfailure =
+    record { night = night; lock = lock; force = force; link = link; atlocking = atlocking; atfailure = atfailure }
+
+abbrev pub flagsOf : State → Flags
+flagsOf s = flags (s .night) (s .lock) (s .force) (s .link) (s .atlocking) (s .atfailure)
+
+-- "Bus failure from up, return from bus down: the link changes", and then alone
+abbrev pub linkAfterBus : Link → Event → Link
+linkAfterBus Up Failure = BusDown
+linkAfterBus Up Return = Up
+linkAfterBus BusDown Failure = BusDown
+linkAfterBus BusDown Return = Up
+linkAfterBus PowerDown event = PowerDown
+
+-- "Power failure, link up or bus down: the output is remembered, .. night, lock and force clear, link power down. Power return from
+-- power down: link up .. Else nothing."
+abbrev pub flagsAfterPower : State → Link → Event → Flags
+flagsAfterPower s Up Failure = flags false false Free PowerDown (s .atlocking) (output (s .phase))
+flagsAfterPower s BusDown Failure = flags false false Free PowerDown (s .atlocking) (output (s .phase))
+flagsAfterPower s PowerDown Failure = flagsOf s
+flagsAfterPower s Up Return = flagsOf s
+flagsAfterPower s BusDown Return = flagsOf s
+flagsAfterPower s PowerDown Return = flags (s .night) (s .lock) (s .force) Up (s .atlocking) (s .atfailure)
+
+-- On, Off, timed orders and scenes change the phase and the scenes alone; "Force Off or On: force stands", and its release ends it;
+-- "Lock, when unlocked: the output is remembered"; "Night 1, when off: night on; .. Night 0 clears the flag only."
+abbrev pub flagsAfter : State → Input → Flags
+flagsAfter s (SwitchOnOff value) = flagsOf s
+flagsAfter s (TimedStartStop value) = flagsOf s
+flagsAfter s (NumberedSceneControl learns number) = flagsOf s
+flagsAfter s (SwitchOnOffForced force) = flags (s .night) (s .lock) force (s .link) (s .atlocking) (s .atfailure)
+flagsAfter s (LockDevice true) = flags (s .night) true (s .force) (s .link) (cond (s .lock) (s .atlocking) (output (s .phase))) (s .atfailure)
+flagsAfter s (LockDevice false) = flags (s .night) false (s .force) (s .link) (s .atlocking) (s .atfailure)
+flagsAfter s (NightMode value) = flags value (s .lock) (s .force) (s .link) (s .atlocking) (s .atfailure)
+flagsAfter s (Bus event) = flags (s .night) (s .lock) (s .force) (linkAfterBus (s .link) event) (s .atlocking) (s .atfailure)
+flagsAfter s (Power event) = flagsAfterPower s (s .link) event
+
+-- "Learn, if enabled and the number is in the table": nothing else changes the scenes ("Scenes outlive it.")
+abbrev pub scenesAfter : State → Input → List Scene
+scenesAfter s (SwitchOnOff value) = s .scenes
+scenesAfter s (TimedStartStop value) = s .scenes
+scenesAfter s (NumberedSceneControl true number) = cond (s .params .learning) (learnt (s .scenes) number (output (s .phase))) (s .scenes)
+scenesAfter s (NumberedSceneControl false number) = s .scenes
+scenesAfter s (SwitchOnOffForced force) = s .scenes
+scenesAfter s (LockDevice value) = s .scenes
+scenesAfter s (NightMode value) = s .scenes
+scenesAfter s (Bus event) = s .scenes
+scenesAfter s (Power event) = s .scenes
+
+-- a state with these parameters, this clock, these scenes and flags
+pub record Holds (p : Params) (t : ℕ) (k : List Scene) (f : Flags) (u : State) : Type 0 where
+  pub params : u .params ≡ p
+  pub clock : u .clock ≡ t
+  pub scenes : u .scenes ≡ k
+  pub flags : flagsOf u ≡ f
+
+-- no order changes the parameters or the clock
+abbrev pub Leaves : State → Input → State → Type 0
+Leaves s i u = Holds (s .params) (s .clock) (scenesAfter s i) (flagsAfter s i) u
+
+-- ---- what the modes set (01, "Time and the cue file": "0 keep, 1 off, 2 on", "3 as before locking", "0 as before the failure, 1 off, 2 on")
+
+-- what stands in a mode's place of its row (no other mode is in range)
+abbrev pub chosen : {A : Type 0} → List A → A → ℕ → A
+chosen row other mode = getD row mode other
+
+-- "set on" or "set off" where neither lock nor force stands
+abbrev pub setTo : State → Bool → Phase
+setTo s on = cond on (cond (s .night) (Timed (s .clock + s .params .timedon)) Lit) Dark
+
+-- lock and force do not stand
+pub record NothingHolds (s : State) : Type 0 where
+  pub unlocked : s .lock ≡ false
+  pub unforced : s .force ≡ Free
+
+-- the phase that each order with a mode leaves
+pub record ModesSet (s : State) : Type 0 where
+  -- "Lock, when unlocked: .. the phase becomes Dark or Lit by BehaviourAtLocking (keep: by the present output)"
+  pub locking : s .lock ≡ false → order s (LockDevice true) .phase ≡ cond (chosen (output (s .phase) ∷ false ∷ true ∷ []) false (s .params .locking)) Lit Dark
+  -- "Unlock, when locked: a standing force decides the phase; otherwise BehaviourAtUnlocking, by set on or set off ("keep" sets the present
+  -- output)"
+  pub unlocking : s .lock ≡ true → s .force ≡ Free →
+      order s (LockDevice false) .phase ≡ setTo s (chosen (output (s .phase) ∷ false ∷ true ∷ s .atlocking ∷ []) false (s .params .unlocking))
+  -- "Bus failure from up, return from bus down: the link changes; then the mode, unless lock or force stands. Keep leaves phase and timers
+  -- running."
+  pub busfailure : s .link ≡ Up → NothingHolds s → order s (Bus Failure) .phase ≡ chosen (s .phase ∷ Dark ∷ setTo s true ∷ []) Dark (s .params .busfailure)
+  pub busreturn : s .link ≡ BusDown → NothingHolds s → order s (Bus Return) .phase ≡ chosen (s .phase ∷ Dark ∷ setTo s true ∷ []) Dark (s .params .busreturn)
+  pub busheld : (event : Event) → (s .lock ≡ true) ⊎ (s .force ≡ Free → ⊥) → order s (Bus event) .phase ≡ s .phase
+  -- "Power return from power down: link up, set on or set off by mode."
+  pub powerreturn : s .link ≡ PowerDown → NothingHolds s → order s (Power Return) .phase ≡ setTo s (chosen (s .atfailure ∷ false ∷ true ∷ []) false (s .params .powerreturn))
+
+-- ---- what the other orders make of the phase
+
+-- "Timed, Warning and timed Starting"
+abbrev pub runsTimed : Phase → Bool
+runsTimed Dark = false
+runsTimed Lit = false
+runsTimed (Starting timed d) = timed
+runsTimed (Timed d) = true
+runsTimed (Warning d) = true
+runsTimed (Ending d) = false
+
+-- "Timed start: the same from Dark and Starting but timed; every lit phase becomes Timed until t+TimedOn."; "Timed stop: as Off in Timed,
+-- Warning and timed Starting; otherwise nothing."
+pub record TimedOrders (p : Params) (t : ℕ) : Type 0 where
+  pub at-once : p .ondelay ≡ 0 → timedStart p t Dark ≡ Timed (t + p .timedon)
+  pub after-delay : (p .ondelay ≡ 0 → ⊥) → timedStart p t Dark ≡ Starting true (t + p .ondelay)
+  pub waiting : (timed : Bool) (d : ℕ) → timedStart p t (Starting timed d) ≡ Starting true d
+  pub lit : (phase : Phase) → output phase ≡ true → timedStart p t phase ≡ Timed (t + p .timedon)
+  pub stop : (phase : Phase) → runsTimed phase ≡ true → timedStop p t phase ≡ off p t phase
+  pub no-stop : (phase : Phase) → runsTimed phase ≡ false → timedStop p t phase ≡ phase
+
+-- "Ending until the earlier of .. and .."
+pub record EndsAtEarlier (a b : ℕ) (phase : Phase) : Type 0 where
+  pub until : ℕ
+  pub ending : phase ≡ Ending until
+  pub not-after-a : until ≤ a
+  pub not-after-b : until ≤ b
+  pub one-of-them : (until ≡ a) ⊎ (until ≡ b)
+
+-- "Lit becomes Timed until t+TimedOn; Ending until the earlier of d and t+TimedOn+Prewarning", and nothing else changes
+pub record NightFalls (p : Params) (t : ℕ) : Type 0 where
+  pub lit : nightFalls p t Lit ≡ Timed (t + p .timedon)
+  pub ending : (d : ℕ) → EndsAtEarlier d (t + p .timedon + p .prewarning) (nightFalls p t (Ending d))
+  pub dark : nightFalls p t Dark ≡ Dark
+  pub starting : (timed : Bool) (d : ℕ) → nightFalls p t (Starting timed d) ≡ Starting timed d
+  pub timed : (d : ℕ) → nightFalls p t (Timed d) ≡ Timed d
+  pub warning : (d : ℕ) → nightFalls p t (Warning d) ≡ Warning d

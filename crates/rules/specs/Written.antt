@@ -1,0 +1,43 @@
+-- How parameters, a header and a stamp are written (01, "Time and the cue file"): the other way round than Parameters.antt, Inputs.antt and
+-- Files.antt read them. proofs/Laws/Written.antt proves that what is written so is accepted and read back as itself, and that accepted
+-- parameters are written in no other way.
+use Prim.Native.Nat.{ℕ, _+_, _/_, _%_}
+use mathlib.Core.Bool.{cond}
+use mathlib.Core.List.{List, [], _∷_, _++_}
+use Rattle.octets.specs.BigEndian.{octets32}
+use Rattle.rules.specs.declared.parameters.Params.{Params}
+use Rattle.rules.specs.declared.parameters.Scene.{Scene}
+use Rattle.rules.specs.Status.{bit}
+
+-- "Numbers are most significant octet first."
+abbrev pub octets16 : ℕ → List ℕ
+octets16 n = n / 256 ∷ n % 256 ∷ []
+
+-- "Delays are U16 seconds; a delay of s lasts 10*s tenths."
+abbrev pub delayOctets : ℕ → List ℕ
+delayOctets t = octets16 (t / 10)
+
+-- "0-1 OnDelay; 2-3 OffDelay; 4-5 TimedOnDuration, 1 or more; 6-7 PrewarningDuration; 8 BehaviourAtLocking ..; 9 BehaviourAtUnlocking ..;
+-- 10 BusFailureMode, 11 BusReturnMode ..; 12 PowerReturnMode ..; 13 SceneLearningModeEnable (0, 1); 14-15 zero"
+abbrev pub modeOctets : Params → List ℕ
+modeOctets p = p .locking ∷ p .unlocking ∷ p .busfailure ∷ p .busreturn ∷ p .powerreturn ∷ cond (p .learning) 1 0 ∷ 0 ∷ 0 ∷ []
+
+abbrev pub paramsOctets : Params → List ℕ
+paramsOctets p = delayOctets (p .ondelay) ++ (delayOctets (p .offdelay) ++ (delayOctets (p .timedon) ++ (delayOctets (p .prewarning) ++ modeOctets p)))
+
+-- "number (0 to 63, or 255 for unused) and flags (bit 0 value, bit 1 taught in, others zero)"
+abbrev pub flagsOctet : Scene → ℕ
+flagsOctet e = bit (e .value) 1 + bit (e .taught) 2
+
+abbrev pub scenesOctets : List Scene → List ℕ
+scenesOctets [] = []
+scenesOctets (e ∷ later) = e .number ∷ flagsOctet e ∷ scenesOctets later
+
+-- "Parameters, 32 octets: .. then eight scene entries of two octets"
+abbrev pub parametersOctets : Params → List Scene → List ℕ
+parametersOctets p k = paramsOctets p ++ scenesOctets k
+
+-- "Header, 20 octets of counts and offsets: 0-1 version (1); 2-3 count of actuators (1); 4-7 offset of parameters (20); 8-11 count n of
+-- inputs (0 to 2,048); 12-15 offset of inputs (52); 16-19 end time (at most 864,000)."
+abbrev pub headerOctets : ℕ → ℕ → List ℕ
+headerOctets n end = octets16 1 ++ (octets16 1 ++ (octets32 20 ++ (octets32 n ++ (octets32 52 ++ octets32 end))))
