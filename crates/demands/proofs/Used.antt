@@ -15,7 +15,7 @@ use Rattle.rules.specs.Calls.{noScenes}
 use Rattle.rules.specs.Lists.{Cue, cue, plays}
 use Rattle.rules.specs.Promises.{turns, upTo, stateAt, ShowsLight, turnAfter}
 use Rattle.rules.specs.Mistakes.{MayBeStruck}
-use Rattle.rules.proofs.Promises.Worked.{paper, on-at, off-at, night-at}
+use Rattle.rules.specs.Worked.{paper, on-at, off-at, night-at}
 use Rattle.rules.proofs.Promises.Dark.{dark}
 use Rattle.rules.proofs.Promises.Light.{strong-light, light}
 use Rattle.rules.proofs.Mistakes.Delays.{an-off-is-heard, asking-again-never-keeps-the-house-lit}

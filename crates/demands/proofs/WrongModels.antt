@@ -28,7 +28,7 @@ use Rattle.rules.specs.Runs.{recordsOctets, over, playFile, accepted, runCall}
 use Rattle.rules.specs.Promises.{turns, upTo, stateAt, Taken, NightRules, DarkDue, LightDue, shownAt, DarkShown, LitRecord, shownBefore, LightStamped}
 use Rattle.demands.specs.Demands.{Model, StaysWithin, Judges, PlaysAll, CountsChanges, recordsOf, Keeps, KeepsDark, KeepsLight}
 use Rattle.base.proofs.Tests.{either-way}
-use Rattle.rules.proofs.Promises.Worked.{on-at, off-at, night-at}
+use Rattle.rules.specs.Worked.{on-at, off-at, night-at}
 use Rattle.rules.proofs.Refusals.Runs.{records-length}
 use Rattle.demands.specs.WrongModels.{playedBy, modelBy, StartRecordOnly, playsNothing, fixedTrace, playsFirst, firstInputOnly, inventedCount}
 use Rattle.demands.proofs.Shown.{at-or-before}

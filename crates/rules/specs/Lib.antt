@@ -17,6 +17,7 @@ pub mod Runs
 pub mod Soundness
 pub mod Refusals
 pub mod Promises
+pub mod Worked
 pub mod Mistakes
 pub mod Said
 pub mod Facts

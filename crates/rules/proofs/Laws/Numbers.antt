@@ -36,7 +36,7 @@ pub the-least-parameters-in-octets : parametersOctets leastParams noScenes ≡
 unfolding leastParams noScenes unused
 the-least-parameters-in-octets = refl
 
--- "Fresh: .. both remembered outputs off." (the rest of it shows in the first record: Promises/Worked.antt)
+-- "Fresh: .. both remembered outputs off." (the rest of it shows in the first record: specs/Worked.antt)
 pub fresh-remembers-off : (p : Params) (k : List Scene) → (fresh p k .atlocking ≡ false) × (fresh p k .atfailure ≡ false)
 unfolding fresh
 fresh-remembers-off p k = (refl, refl)
