@@ -20,6 +20,17 @@ differ "the must-fail edits of PROMISES differ from those of crates/" \
     "$(diff <(ls crates/*/must-fail/*.edit | sed 's|^crates/||; s|/must-fail/|/|; s|\.edit$||' | sort) \
         <(sed -n '/^## Must-fail edits/,/^## Tested/p' docs/PROMISES.md | sed -n 's/^| `\([a-z_]*\/[a-z0-9_]*\)` .*/\1/p' | sort))"
 
+# Every inner public function that asks for something stands in the table of PROMISES, and nothing else does.
+differ "the inner functions with a condition differ from those of PROMISES" \
+    "$(diff <(awk '/^pub fn /{ split($3, word, "("); name = word[1] } /^(pub\(crate\) )?fn /{ name = "" }
+            /^ *requires/{ if (name != "") { file = FILENAME; sub("^crates/", "", file); sub("/src/", "::", file); sub("[.]rt$", "", file); sub("::lib$", "", file); print file "::" name } }' \
+            crates/*/src/*.rt | sort -u) \
+        <(sed -n '/^### Inner functions/,/^## /p' docs/PROMISES.md | grep '^|' | grep -oE '`[a-z]+(::[a-z0-9_]+)+`' | tr -d '`' |
+            grep -vE '^(cues::check|parameters::read::check|house|live)' | sort -u))"
+
+# Contracts cite definitions, never a proof.
+differ "a contract cites a proof" "$(grep -nE '^ghost use .*[.·]proofs' crates/*/src/*.rt)"
+
 # A theorem that is named is declared: names of two or more words with hyphens between.
 declared=$(mktemp)
 grep -rhoE '^ *(pub )?[a-z][a-z0-9]*(-[a-z0-9]+)+ :' crates --include='*.antt' | sed -E 's/^ *(pub )?//; s/ :$//' | sort -u >"$declared"
