@@ -1,11 +1,8 @@
 -- The numbers, blank values and rooms that 01 names, each said once more.
-use Prim.Native.Nat.{ℕ, _+_, _*_, _≤_}
 use mathlib.Core.Bool.{true, false}
 use mathlib.Core.List.{List, [], _∷_, map}
 use mathlib.Core.Logic.{_↔_}
 use mathlib.Core.Path.{_≡_, refl}
-use lib.ListN.{length}
-use borrow.Author.Tests.{leb-true, le-leb}
 use Rattle.octets.specs.BigEndian.{octets32}
 use Rattle.base.specs.declared.refusal.Refusal.the-variants.{WrongLength, WrongVersion, WrongActuators, WrongLayout, BadParameter, BadInput, BadStamp, ShortBuffer, UnsoundState}
 use Rattle.rules.specs.declared.parameters.Params.{Params}
@@ -16,10 +13,9 @@ use Rattle.base.specs.Refusals.{number}
 use Rattle.rules.specs.Barriers.{powerDown, busDown}
 use Rattle.rules.specs.Steps.{fresh}
 use Rattle.rules.specs.Calls.{leastParams, unused, noScenes, blank}
-use Rattle.rules.specs.Files.{inputCount, roomy}
 use Rattle.rules.specs.Runs.{recordOctets}
 use Rattle.rules.specs.Written.{parametersOctets}
-use Rattle.base.proofs.Tests.{no, both}
+use Rattle.base.proofs.Tests.{no}
 
 -- 01, "Refusal numbers": the rows of the table, from the first to the ninth
 pub refusal-numbers : map number (WrongLength ∷ WrongVersion ∷ WrongActuators ∷ WrongLayout ∷ BadParameter ∷ BadInput ∷ BadStamp ∷ ShortBuffer ∷ UnsoundState ∷ []) ≡ 1 ∷ 2 ∷ 3 ∷ 4 ∷ 5 ∷ 6 ∷ 7 ∷ 8 ∷ 9 ∷ []
@@ -51,12 +47,3 @@ pub bus-down-exactly-when : (link : Link) → (busDown link ≡ true) ↔ (link 
 bus-down-exactly-when Up = (λ h. no h, λ e. cc)
 bus-down-exactly-when BusDown = (λ h. refl, λ e. refl)
 bus-down-exactly-when PowerDown = (λ h. no h, λ e. cc)
-
--- "records, at least 8(3n+3) octets, and answers, at least n"
-pub roomy-exactly-when : (file records answers : List ℕ) →
-    (roomy file records answers ≡ true) ↔ ((8 * (3 * inputCount file + 3) ≤ length records) × (inputCount file ≤ length answers))
-unfolding roomy
-roomy-exactly-when file records answers = (
-  λ h. let parts = both _ _ h in (leb-true _ _ (parts .0), leb-true _ _ (parts .1)),
-  λ f. simp (le-leb (8 * (3 * inputCount file + 3)) (length records) (f .0), le-leb (inputCount file) (length answers) (f .1)),
-)

@@ -114,14 +114,13 @@ module _ (file records answers : List ℕ) where
       by (cues list) e = absurd (omega (arith, some-number why, e .0))
       by (bad other q) e = let same : other ≡ why = sym (number-back other) ∙ ap refusalOf (e .0) ∙ number-back why in rw (same, e .1) refl
 
-  -- the buffers' room, as the table has it
-  room-true : roomy file records answers ≡ true → RoomFor (inputCount file) records answers
+  -- "records, at least 8(3n+3) octets, and answers, at least n"
+  pub roomy-exactly-when : (roomy file records answers ≡ true) ↔ RoomFor (inputCount file) records answers
   unfolding roomy
-  room-true h = let e = both (leb (recordsRoom (inputCount file)) (length records)) _ h in record { wide = leb-true _ _ (e .0); long = leb-true _ _ (e .1) }
-
-  room-good : RoomFor (inputCount file) records answers → roomy file records answers ≡ true
-  unfolding roomy
-  room-good r = simp (le-leb (recordsRoom (inputCount file)) (length records) (r .wide), le-leb (inputCount file) (length answers) (r .long))
+  roomy-exactly-when = (
+    λ h. let e = both (leb (recordsRoom (inputCount file)) (length records)) _ h in record { wide = leb-true _ _ (e .0); long = leb-true _ _ (e .1) },
+    λ r. simp (le-leb (recordsRoom (inputCount file)) (length records) (r .wide), le-leb (inputCount file) (length answers) (r .long)),
+  )
 
   -- a call is refused for what its file is refused for, or, with a good file, for its buffers
   call-refused : (why : Refusal) (p : ℕ) → readCall file records answers ≡ bad why p → GivenWhen file why p ⊎ ((number why ≡ 8) × GoodFile file × (RoomFor (inputCount file) records answers → ⊥))
@@ -131,7 +130,7 @@ module _ (file records answers : List ℕ) where
       by : (b : Bool) (x : Reading) → roomy file records answers ≡ b → readFile file ≡ x → ifRoomy b x ≡ bad why p → GivenWhen file why p ⊎ ((number why ≡ 8) × GoodFile file × (RoomFor (inputCount file) records answers → ⊥))
       by true x room read e = inl (refused-exactly-when file why p .0 (read ∙ e))
       by false (bad other q) room read e = inl (refused-exactly-when file why p .0 (read ∙ e))
-      by false (cues list) room read e = inr (cc, good-file file list read, λ wide. no (sym room ∙ room-good wide))
+      by false (cues list) room read e = inr (cc, good-file file list read, λ wide. no (sym room ∙ roomy-exactly-when .1 wide))
 
   -- each row but the eighth is the file's
   row : (why : Refusal) (p : ℕ) → (number why ≡ 8 → ⊥) → ((code ≡ number why) × (place ≡ p)) ↔ GivenWhen file why p
@@ -143,16 +142,16 @@ module _ (file records answers : List ℕ) where
       by : {w : Whole} → RunFinds file records answers w → w .report .code ≡ 0 → GoodFile file × RoomFor (inputCount file) records answers
       by (at-fault why p read) zero = unfold refused in absurd (omega (arith, some-number why, zero))
       by (no-room list read room) zero = unfold refused in absurd (omega (arith, zero))
-      by (played list read room) zero = (good-file file list read, room-true room)
+      by (played list read room) zero = (good-file file list read, roomy-exactly-when .0 room)
 
   zero-given : GoodFile file × RoomFor (inputCount file) records answers → code ≡ 0
-  zero-given g = let read = accepted-exactly-when file .1 (g .0) in rw (code, a-good-file-is-played file records answers (read .0) (read .1) (room-good (g .1))) (unfold accepted in refl)
+  zero-given g = let read = accepted-exactly-when file .1 (g .0) in rw (code, a-good-file-is-played file records answers (read .0) (read .1) (roomy-exactly-when .1 (g .1))) (unfold accepted in refl)
 
   eight-given : GoodFile file × (RoomFor (inputCount file) records answers → ⊥) → code ≡ 8
   eight-given g = by (roomy file records answers) refl
     where
       by : (b : Bool) → roomy file records answers ≡ b → code ≡ 8
-      by true room = absurd (g .1 (room-true room))
+      by true room = absurd (g .1 (roomy-exactly-when .0 room))
       by false room = let read = accepted-exactly-when file .1 (g .0) in rw (code, a-short-buffer-is-refused file records answers (read .0) (read .1) room) (unfold refused in refl)
 
   no-place : (code ≡ 5 → ⊥) → (code ≡ 6 → ⊥) → (code ≡ 7 → ⊥) → place ≡ 0
