@@ -16,6 +16,7 @@ pub mod Files
 pub mod Runs
 pub mod Soundness
 pub mod Promises
+-- said a second time, from another side
 pub mod Said
 pub mod Facts
 pub mod Written
