@@ -11,10 +11,10 @@ pub mod Scenes
 pub mod Barriers
 pub mod Fitting
 pub mod Orders
-pub mod Modes
+pub mod Said
 pub mod Steps
 pub mod Soundness
-pub mod Said
+pub mod Facts
 pub mod Timers
 pub mod Status
 pub mod Records

@@ -1,5 +1,6 @@
--- Ranges and soundness said a second time, as facts, where Parameters.antt, Scenes.antt and Soundness.antt have tests. That both say the same is
--- proved (proofs/Laws/Deadlines.antt, Scenes.antt, BadOctets.antt, Said.antt), so that a slip in one of them does not pass.
+-- What the definitions test or compute, said a second time as facts: ranges, the scene table, which octet is out of range, a sound state, the
+-- status octets, the inputs of the promises. That both say the same is proved (proofs/Laws/Deadlines.antt, Scenes.antt, BadOctets.antt,
+-- Facts.antt, Status.antt, proofs/Promises/Inputs.antt), so that a slip in one of them does not pass.
 use Prim.Native.Nat.{ℕ, _+_, _*_, _/_, _%_, _≤_, _<_}
 use mathlib.Core.Bool.{Bool, true, false}
 use mathlib.Core.Path.{_≡_}

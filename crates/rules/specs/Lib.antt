@@ -15,10 +15,12 @@ pub mod Calls
 pub mod Files
 pub mod Runs
 pub mod Soundness
+-- what is claimed of them
 pub mod Refusals
 pub mod Promises
-pub mod Worked
 pub mod Mistakes
+pub mod Worked
+-- the rules said a second time, from another side
 pub mod Said
 pub mod Facts
 pub mod Written

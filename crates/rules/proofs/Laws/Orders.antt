@@ -115,7 +115,7 @@ power-leaves s BusDown Return = same
 power-leaves s PowerDown Failure = same
 power-leaves s PowerDown Return = settle-leaves (withLink s Up) _
 
--- each order changes what 01 says that it changes, and nothing else; what it makes of the phase: Phases.antt and Said.antt
+-- each order changes what 01 says that it changes, and nothing else; what it makes of the phase: Said.antt
 pub order-leaves : (s : State) (i : Input) → Leaves s i (order s i)
 unfolding order scene
 order-leaves s (SwitchOnOff value) = switch-leaves s value

@@ -1,162 +1,145 @@
--- A state is sound exactly when it is as 01 says, clause by clause.
-use Prim.Native.Nat.{ℕ, _+_, _≤_}
-use mathlib.Core.Bool.{Bool, true, false, cond, not, _&&_, _||_}
-use mathlib.Core.Logic.{_↔_, _⊎_, inl, inr, ⊎-elim}
-use mathlib.Core.Path.{_≡_, refl, sym}
+-- What each mode sets, and what timed orders and nightfall make of a phase, in 01's words.
+use Prim.Native.Nat.{ℕ, zero, suc, _+_, _≤_}
+use mathlib.Core.Bool.{Bool, true, false, cond, _&&_}
+use mathlib.Core.List.{[], _∷_}
+use mathlib.Core.Logic.{_⊎_, inl, inr}
+use mathlib.Core.Path.{_≡_, refl, _∙_, ap}
 use native.Mathlib.Omega.{arith}
+use lib.Dec.{eqb}
+use borrow.Author.Tests.{eq-eqb, ne-eqb}
+use Rattle.rules.specs.declared.parameters.Params.{Params}
 use Rattle.rules.specs.declared.phase.Phase.{Phase}
 use Rattle.rules.specs.declared.phase.Phase.the-variants.{Dark, Lit, Starting, Timed, Warning, Ending}
-use Rattle.rules.specs.declared.phase.Deadline.{Deadline}
-use Rattle.rules.specs.declared.phase.Deadline.the-variants.{Never, At}
 use Rattle.rules.specs.declared.input.Force.{Force}
 use Rattle.rules.specs.declared.input.Force.the-variants.{Free, Off, On}
+use Rattle.rules.specs.declared.input.Event.{Event}
+use Rattle.rules.specs.declared.input.Event.the-variants.{Failure, Return}
 use Rattle.rules.specs.declared.state.Link.{Link}
 use Rattle.rules.specs.declared.state.Link.the-variants.{Up, BusDown, PowerDown}
 use Rattle.rules.specs.declared.state.State.{State}
-use Rattle.rules.specs.Phases.{deadline}
-use Rattle.rules.specs.Orders.{standing}
-use Rattle.rules.specs.Soundness.{soon, isDark, isLit, agrees, heldIsSteady, forceDecides, nightEnds, powerDownIsClear, sound}
-use Rattle.rules.specs.Facts.{SoundState}
-use Rattle.base.proofs.Tests.{no, both, either}
-use Rattle.rules.proofs.Laws.Deadlines.{params-exactly-when, Within, soon-within, within-soon}
-use Rattle.rules.proofs.Laws.Scenes.{scenes-exactly-when}
-use Rattle.rules.proofs.Laws.Holding.{fits-view, fits-consistent}
-use Rattle.rules.proofs.Laws.Soundness.{sound-view, sound-whole}
+use Rattle.rules.specs.Phases.{output, litAt, setOn}
+use Rattle.rules.specs.Orders.{timedStart, off, timedStop, nightFalls, withLock, withLink, held, settle, plain, byMode, locked, unlockingOutput, unlocked, lockDevice, busMode, bus, powerReturns, power, order}
+use Rattle.rules.specs.Said.{chosen, setTo, NothingHolds, ModesSet, runsTimed, TimedOrders, NightFalls}
+use Rattle.rules.specs.Facts.{ParamsFit}
+use Rattle.base.specs.Time.{earlier}
+use Rattle.base.proofs.Tests.{no, by-order}
+use Rattle.rules.proofs.Laws.Facts.{held-exactly-when}
 
--- ---- the tests, one by one
+-- ---- modes
 
-dark-exactly-when : (phase : Phase) → (isDark phase ≡ true) ↔ (phase ≡ Dark)
-dark-exactly-when phase = (by phase, λ e. rw e)
+-- "0 keep, 1 off, 2 on"
+by-mode : (mode : ℕ) (kept : Bool) → mode ≤ 2 → byMode mode kept ≡ chosen (kept ∷ false ∷ true ∷ []) false mode
+unfolding byMode
+by-mode zero kept few = refl
+by-mode (suc zero) kept few = refl
+by-mode (suc (suc zero)) kept few = refl
+by-mode (suc (suc (suc mode))) kept few = absurd (omega arith)
+
+settle-sets : (s : State) (on : Bool) → NothingHolds s → settle s on .phase ≡ setTo s on
+unfolding settle setOn litAt held
+settle-sets s true l = rw (l .unlocked, l .unforced) (by (s .night))
   where
-    by : (x : Phase) → isDark x ≡ true → x ≡ Dark
-    by Dark h = refl
-    by Lit h = no h
-    by (Starting timed d) h = no h
-    by (Timed d) h = no h
-    by (Warning d) h = no h
-    by (Ending d) h = no h
+    by : (night : Bool) → cond (night && true) (Timed (s .clock + s .params .timedon)) Lit ≡ cond night (Timed (s .clock + s .params .timedon)) Lit
+    by true = refl
+    by false = refl
+settle-sets s false l = refl
 
-lit-exactly-when : (phase : Phase) → (isLit phase ≡ true) ↔ (phase ≡ Lit)
-lit-exactly-when phase = (by phase, λ e. rw e)
-  where
-    by : (x : Phase) → isLit x ≡ true → x ≡ Lit
-    by Dark h = no h
-    by Lit h = refl
-    by (Starting timed d) h = no h
-    by (Timed d) h = no h
-    by (Warning d) h = no h
-    by (Ending d) h = no h
+plain-is : (on : Bool) → plain on ≡ cond on Lit Dark
+plain-is true = refl
+plain-is false = refl
 
--- lock or force stands
-abbrev pub Held : Bool → Force → Type 0
-Held lock force = (lock ≡ true) ⊎ (force ≡ Free → ⊥)
+unlocking-sets : (mode : ℕ) (kept before : Bool) → mode ≤ 3 → cond (eqb mode 3) before (byMode mode kept) ≡ chosen (kept ∷ false ∷ true ∷ before ∷ []) false mode
+unfolding byMode
+unlocking-sets zero kept before few = refl
+unlocking-sets (suc zero) kept before few = refl
+unlocking-sets (suc (suc zero)) kept before few = refl
+unlocking-sets (suc (suc (suc zero))) kept before few = refl
+unlocking-sets (suc (suc (suc (suc mode)))) kept before few = absurd (omega arith)
 
-pub held-exactly-when : (lock : Bool) (force : Force) → ((lock || standing force) ≡ true) ↔ Held lock force
-held-exactly-when true force = (λ h. inl refl, λ h. refl)
-held-exactly-when false Free = (λ h. no h, ⊎-elim (λ e. no e) (λ stands. absurd (stands refl)))
-held-exactly-when false Off = (λ h. inr (λ e. no cc), λ h. refl)
-held-exactly-when false On = (λ h. inr (λ e. no cc), λ h. refl)
+unlock-sets : (s : State) (lock : Bool) (force : Force) → s .params .unlocking ≤ 3 → s .force ≡ force → lock ≡ true → force ≡ Free →
+    cond lock (unlocked s force) s .phase ≡ setTo s (chosen (output (s .phase) ∷ false ∷ true ∷ s .atlocking ∷ []) false (s .params .unlocking))
+unfolding unlocked unlockingOutput
+unlock-sets s false force few same stood free = no stood
+unlock-sets s true Off few same stood free = no cc
+unlock-sets s true On few same stood free = no cc
+unlock-sets s true Free few same stood free =
+    settle-sets (withLock s false (s .atlocking)) _ (record { unlocked = refl; unforced = same }) ∙
+    ap (setTo s) (unlocking-sets (s .params .unlocking) (output (s .phase)) (s .atlocking) few)
 
--- what a guard asks for holds exactly when it holds where the guard stands
-guarded : (guard rule : Bool) → (cond guard rule true ≡ true) ↔ (guard ≡ true → rule ≡ true)
-guarded true rule = (λ h e. h, λ f. f refl)
-guarded false rule = (λ h e. no e, λ f. refl)
+nothing-is-unheld : (s : State) → NothingHolds s → held s ≡ false
+unfolding held
+nothing-is-unheld s l = rw (l .unlocked, l .unforced)
 
-soon-exactly-when : (t : ℕ) (x : Deadline) → (soon t x ≡ true) ↔ ((d : ℕ) → x ≡ At d → (t + 1 ≤ d) × (d ≤ t + 655_350))
-soon-exactly-when t Never = (λ h d e. no cc, λ f. unfold soon in refl)
-soon-exactly-when t (At x) = (λ h d e. near d (sym e) (soon-within t x h), λ f. within-soon t x (omega (arith, f x refl)))
-  where
-    near : (d : ℕ) → At d ≡ At x → Within t x → (t + 1 ≤ d) × (d ≤ t + 655_350)
-    near d e w =
-        let same : d ≡ x = cc in
-        (omega (arith, w .after), omega (arith, w .near))
+bus-sets : (s : State) (mode : ℕ) → mode ≤ 2 → NothingHolds s → busMode s mode .phase ≡ chosen (s .phase ∷ Dark ∷ setTo s true ∷ []) Dark mode
+unfolding busMode
+bus-sets s zero few l = rw (nothing-is-unheld s l)
+bus-sets s (suc zero) few l = rw (nothing-is-unheld s l) (settle-sets s false l)
+bus-sets s (suc (suc zero)) few l = rw (nothing-is-unheld s l) (settle-sets s true l)
+bus-sets s (suc (suc (suc mode))) few l = absurd (omega arith)
 
-agrees-exactly-when : (force : Force) (phase : Phase) → (agrees force phase ≡ true) ↔ ((force ≡ Off → phase ≡ Dark) × (force ≡ On → phase ≡ Lit))
-agrees-exactly-when Free phase = (λ h. (λ e. no cc, λ e. no cc), λ f. refl)
-agrees-exactly-when Off phase = (λ h. (λ e. dark-exactly-when phase .0 h, λ e. no cc), λ f. dark-exactly-when phase .1 (f .0 refl))
-agrees-exactly-when On phase = (λ h. (λ e. no cc, λ e. lit-exactly-when phase .0 h), λ f. lit-exactly-when phase .1 (f .1 refl))
+held-bus : (s : State) (link : Link) (event : Event) → (s .lock ≡ true) ⊎ (s .force ≡ Free → ⊥) → bus s link event .phase ≡ s .phase
+unfolding bus busMode held
+held-bus s Up Failure h = rw (held-exactly-when (s .lock) (s .force) .1 h)
+held-bus s Up Return h = refl
+held-bus s BusDown Failure h = refl
+held-bus s BusDown Return h = rw (held-exactly-when (s .lock) (s .force) .1 h)
+held-bus s PowerDown event h = refl
 
--- ---- the four rules on flags and phase
+pub modes-set : (s : State) → ParamsFit (s .params) → ModesSet s
+unfolding order lockDevice locked bus power powerReturns
+modes-set s f =
+    record {
+      locking = λ free. rw (free, by-mode (s .params .locking) (output (s .phase)) (f .locking)) (plain-is (chosen (output (s .phase) ∷ false ∷ true ∷ []) false (s .params .locking)));
+      unlocking = λ stood free. unlock-sets s (s .lock) (s .force) (f .unlocking) refl stood free;
+      busfailure = λ up l. rw up (bus-sets (withLink s BusDown) (s .params .busfailure) (f .busfailure) (record { unlocked = l .unlocked; unforced = l .unforced }));
+      busreturn = λ down l. rw down (bus-sets (withLink s Up) (s .params .busreturn) (f .busreturn) (record { unlocked = l .unlocked; unforced = l .unforced }));
+      busheld = λ event h. held-bus s (s .link) event h;
+      powerreturn = λ down l. rw down (settle-sets (withLink s Up) _ (record { unlocked = l .unlocked; unforced = l .unforced }) ∙ ap (setTo s) (by-mode (s .params .powerreturn) (s .atfailure) (f .powerreturn)));
+    }
 
-module _ (lock : Bool) (force : Force) (phase : Phase) where
-  steady-exactly-when : (heldIsSteady lock force phase ≡ true) ↔ (Held lock force → (phase ≡ Dark) ⊎ (phase ≡ Lit))
-  unfolding heldIsSteady
-  steady-exactly-when =
-      let test = guarded (lock || standing force) (isDark phase || isLit phase) in (
-        λ h holds. ⊎-elim (λ dark. inl (dark-exactly-when phase .0 dark)) (λ lit. inr (lit-exactly-when phase .0 lit)) (either _ _ (test .0 h (held-exactly-when lock force .1 holds))),
-        λ f. test .1 (λ holds. ⊎-elim
-            (λ dark. rw dark)
-            (λ lit. rw lit)
-            (f (held-exactly-when lock force .0 holds))),
-      )
+-- ---- timed orders and nightfall
 
-  decides-exactly-when : (forceDecides lock force phase ≡ true) ↔ (lock ≡ false → (force ≡ Off → phase ≡ Dark) × (force ≡ On → phase ≡ Lit))
-  unfolding forceDecides
-  decides-exactly-when = by lock
-    where
-      by : (b : Bool) → (cond b true (agrees force phase) ≡ true) ↔ (b ≡ false → (force ≡ Off → phase ≡ Dark) × (force ≡ On → phase ≡ Lit))
-      by true = (λ h e. no (sym e), λ f. refl)
-      by false = (λ h e. agrees-exactly-when force phase .0 h, λ f. agrees-exactly-when force phase .1 (f refl))
+lit-is-timed : (p : Params) (t : ℕ) (phase : Phase) → output phase ≡ true → timedStart p t phase ≡ Timed (t + p .timedon)
+unfolding timedStart
+lit-is-timed p t Dark h = no h
+lit-is-timed p t Lit h = refl
+lit-is-timed p t (Starting timed d) h = no h
+lit-is-timed p t (Timed d) h = refl
+lit-is-timed p t (Warning d) h = refl
+lit-is-timed p t (Ending d) h = refl
 
-  ends-exactly-when : (night : Bool) → (nightEnds night lock force phase ≡ true) ↔ (night ≡ true → phase ≡ Lit → Held lock force)
-  unfolding nightEnds
-  ends-exactly-when night =
-      let test = guarded (night && isLit phase) (lock || standing force) in (
-        λ h dark lit. held-exactly-when lock force .0 (test .0 h (rw (dark, lit))),
-        λ f. test .1 (λ so. let parts = both night (isLit phase) so in held-exactly-when lock force .1 (f (parts .0) (lit-exactly-when phase .0 (parts .1)))),
-      )
+stop-is-off : (p : Params) (t : ℕ) (phase : Phase) → timedStop p t phase ≡ cond (runsTimed phase) (off p t phase) phase
+unfolding timedStop
+stop-is-off p t Dark = refl
+stop-is-off p t Lit = refl
+stop-is-off p t (Starting timed d) = refl
+stop-is-off p t (Timed d) = refl
+stop-is-off p t (Warning d) = refl
+stop-is-off p t (Ending d) = refl
 
-none-stands : (night lock : Bool) (force : Force) → (not (night || lock || standing force) ≡ true) ↔ ((night ≡ false) × (lock ≡ false) × (force ≡ Free))
-none-stands true lock force = (λ h. no h, λ f. no (sym (f .0)))
-none-stands false true force = (λ h. no h, λ f. no (sym (f .1)))
-none-stands false false Free = (λ h. (refl, refl, refl), λ f. refl)
-none-stands false false Off = (λ h. no h, λ f. no cc)
-none-stands false false On = (λ h. no h, λ f. no cc)
+pub timed-orders : (p : Params) (t : ℕ) → TimedOrders p t
+unfolding timedStart
+timed-orders p t =
+    record {
+      at-once = λ none. rw (eq-eqb (p .ondelay) 0 none);
+      after-delay = λ some. rw (ne-eqb (p .ondelay) 0 some);
+      waiting = λ timed d. refl;
+      lit = lit-is-timed p t;
+      stop = λ phase runs. stop-is-off p t phase ∙ rw runs;
+      no-stop = λ phase idle. stop-is-off p t phase ∙ rw idle;
+    }
 
-clear-exactly-when : (link : Link) (night lock : Bool) (force : Force) (phase : Phase) →
-    (powerDownIsClear link night lock force phase ≡ true) ↔ (link ≡ PowerDown → (phase ≡ Dark) × (night ≡ false) × (lock ≡ false) × (force ≡ Free))
-unfolding powerDownIsClear
-clear-exactly-when Up night lock force phase = (λ h e. no cc, λ f. refl)
-clear-exactly-when BusDown night lock force phase = (λ h e. no cc, λ f. refl)
-clear-exactly-when PowerDown night lock force phase = (
-  λ h e. let none = none-stands night lock force .0 (both (isDark phase) _ h .1) in (dark-exactly-when phase .0 (both _ _ h .0), none .0, none .1, none .2),
-  λ f. let c = f refl in simp (dark-exactly-when phase .1 (c .0), none-stands night lock force .1 (c .1, c .2, c .3)),
-)
+earlier-is : (a b until : ℕ) → until ≡ earlier a b → (until ≤ a) × (until ≤ b) × ((until ≡ a) ⊎ (until ≡ b))
+earlier-is a b until e = by-order a b (λ first. (omega arith, omega arith, inl (omega arith))) (λ second. (omega arith, omega arith, inr (omega arith)))
 
--- ---- the whole sentence
-
-pub sound-exactly-when : (s : State) → (sound s ≡ true) ↔ SoundState s
-sound-exactly-when s = (view, whole)
-  where
-    view : sound s ≡ true → SoundState s
-    view h =
-        let v = sound-view s h in
-        let f = fits-view s (v .soon) (v .consistent) in
-        record {
-          params = params-exactly-when _ .0 (v .params);
-          scenes = scenes-exactly-when _ .0 (v .scenes);
-          clock = v .clock;
-          soon = soon-exactly-when _ _ .0 (v .soon);
-          steady = steady-exactly-when _ _ _ .0 (f .steady);
-          decided = decides-exactly-when _ _ _ .0 (f .decided);
-          ends = ends-exactly-when _ _ _ _ .0 (f .ends);
-          clear = clear-exactly-when _ _ _ _ _ .0 (f .clear);
-        }
-
-    whole : SoundState s → sound s ≡ true
-    whole r =
-        let soon = soon-exactly-when (s .clock) (deadline (s .phase)) .1 (r .soon) in
-        sound-whole s
-        record {
-          params = params-exactly-when _ .1 (r .params);
-          scenes = scenes-exactly-when _ .1 (r .scenes);
-          clock = r .clock;
-          soon = soon;
-          consistent = fits-consistent s record {
-            soon = soon;
-            steady = steady-exactly-when _ _ _ .1 (r .steady);
-            decided = decides-exactly-when _ _ _ .1 (r .decided);
-            ends = ends-exactly-when _ _ _ _ .1 (r .ends);
-            clear = clear-exactly-when _ _ _ _ _ .1 (r .clear);
-          };
-        }
+pub night-falls : (p : Params) (t : ℕ) → NightFalls p t
+unfolding nightFalls
+night-falls p t =
+    record {
+      lit = refl;
+      ending = λ d. let e = earlier-is d (t + p .timedon + p .prewarning) _ refl in record { until = _; ending = refl; not-after-a = e .0; not-after-b = e .1; one-of-them = e .2 };
+      dark = refl;
+      starting = λ timed d. refl;
+      timed = λ d. refl;
+      warning = λ d. refl;
+    }
