@@ -15,6 +15,10 @@ be16 s at = 256 * octet s at + octet s (at + 1)
 abbrev pub be32 : List ℕ → ℕ → ℕ
 be32 s at = 65536 * be16 s at + be16 s (at + 2)
 
+-- the two octets of a number (of 16 bits: what does not fit is in the first)
+abbrev pub octets16 : ℕ → List ℕ
+octets16 n = n / 256 ∷ n % 256 ∷ []
+
 -- the four octets of a number (of 32 bits: what does not fit is in the first)
 unfoldable pub octets32 : ℕ → List ℕ
 octets32 n = n / 16777216 ∷ n / 65536 % 256 ∷ n / 256 % 256 ∷ n % 256 ∷ []

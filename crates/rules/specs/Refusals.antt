@@ -2,10 +2,11 @@
 -- calls keep to them is proved in proofs/Laws/Parameters.antt and proofs/Refusals/.
 use Prim.Native.Nat.{ℕ, zero, suc, _+_, _*_, _/_, _%_, _^_, _≤_, _<_}
 use mathlib.Core.Bool.{true, false}
-use mathlib.Core.List.{List, [], _∷_}
+use mathlib.Core.List.{List}
 use mathlib.Core.Logic.{_↔_, _⊎_}
+use mathlib.Core.Option.{some}
 use mathlib.Core.Path.{_≡_}
-use lib.ListN.{length}
+use lib.ListN.{length, getElem?}
 use Rattle.rules.specs.declared.input.Input.{Input}
 use Rattle.rules.specs.declared.input.Decoded.the-variants.{Meant, Wrong}
 use Rattle.rules.specs.declared.state.State.{State}
@@ -14,7 +15,6 @@ use Rattle.base.specs.declared.refusal.Refusal.{Refusal}
 use Rattle.base.specs.declared.refusal.Refusal.the-variants.{WrongLength, WrongVersion, WrongActuators, WrongLayout, BadParameter, BadInput, BadStamp, ShortBuffer, UnsoundState}
 use Rattle.base.specs.declared.refusal.Check.{Check}
 use Rattle.base.specs.declared.refusal.Check.the-variants.{Passed, Refused}
-use Rattle.base.specs.Refusals.{stampInRange}
 use Rattle.rules.specs.Layout.{inputPlace}
 use Rattle.rules.specs.Parameters.{badOctet, checkParameters}
 use Rattle.rules.specs.Inputs.{inputAt, stampAt}
@@ -116,38 +116,38 @@ pub record GoodFile (file : List ℕ) : Type 0 where
   pub start : GoodStart file
   pub good : (j : ℕ) → j < inputCount file → GoodInput file j
 
--- the k-th of a list of cues, from 0
-abbrev pub CueAt : List Cue → ℕ → Cue → Type 0
-CueAt [] k c = ⊥
-CueAt (d ∷ later) zero c = d ≡ c
-CueAt (d ∷ later) (suc k) c = CueAt later k c
-
 -- what input j of a file says is the k-th cue
 pub record Says (file : List ℕ) (j : ℕ) (list : List Cue) (k : ℕ) : Type 0 where
   pub input : Input
   pub means : inputAt file (inputPlace j) ≡ Meant input
-  pub listed : CueAt list k (cue (stampAt file (inputPlace j)) input)
+  pub listed : getElem? list k ≡ some (cue (stampAt file (inputPlace j)) input)
 
--- ---- the public calls: each code, exactly when the table gives it, with its place
+-- ---- the public calls: each code with its place, exactly when the table gives it
 
 pub record FreshCodes (octets : List ℕ) (code place : ℕ) : Type 0 where
-  pub one : (code ≡ 1) ↔ (length octets ≡ 32 → ⊥)
-  pub five : (code ≡ 5) ↔ FirstBad octets place
-  pub zero : (code ≡ 0) ↔ GoodParameters octets
-  pub no-place : (code ≡ 5 → ⊥) → place ≡ 0
+  pub one : (p : ℕ) → ((code ≡ 1) × (place ≡ p)) ↔ FoundWhen octets (Refused WrongLength p)
+  pub five : (p : ℕ) → ((code ≡ 5) × (place ≡ p)) ↔ FoundWhen octets (Refused BadParameter p)
+  pub zero : (p : ℕ) → ((code ≡ 0) × (place ≡ p)) ↔ ((p ≡ 0) × GoodParameters octets)
+
+-- "7 | stamp below the one before (or the clock), above the end time (single input or clock move: 864,000)"
+abbrev pub Timely : ℕ → ℕ → Type 0
+Timely clock stamp = (clock ≤ stamp) × (stamp ≤ 864_000)
+
+abbrev pub Untimely : ℕ → ℕ → Type 0
+Untimely clock stamp = (stamp < clock) ⊎ (864_000 < stamp)
 
 -- "For a single input 9, 6, 7, place 0."
 pub record SingleCodes (s : State) (octets : List ℕ) (code : ℕ) : Type 0 where
   pub nine : (code ≡ 9) ↔ (sound s ≡ false)
   pub six : (code ≡ 6) ↔ ((sound s ≡ true) × (inputAt octets 0 ≡ Wrong))
-  pub seven : (code ≡ 7) ↔ ((i : Input) × (sound s ≡ true) × (inputAt octets 0 ≡ Meant i) × (stampInRange (s .clock) (stampAt octets 0) ≡ false))
-  pub zero : (code ≡ 0) ↔ ((i : Input) × (sound s ≡ true) × (inputAt octets 0 ≡ Meant i) × (stampInRange (s .clock) (stampAt octets 0) ≡ true))
+  pub seven : (code ≡ 7) ↔ ((i : Input) × (sound s ≡ true) × (inputAt octets 0 ≡ Meant i) × Untimely (s .clock) (stampAt octets 0))
+  pub zero : (code ≡ 0) ↔ ((i : Input) × (sound s ≡ true) × (inputAt octets 0 ≡ Meant i) × Timely (s .clock) (stampAt octets 0))
 
 -- "A clock move: 9, 7."
 pub record MoveCodes (s : State) (stamp code : ℕ) : Type 0 where
   pub nine : (code ≡ 9) ↔ (sound s ≡ false)
-  pub seven : (code ≡ 7) ↔ ((sound s ≡ true) × (stampInRange (s .clock) stamp ≡ false))
-  pub zero : (code ≡ 0) ↔ ((sound s ≡ true) × (stampInRange (s .clock) stamp ≡ true))
+  pub seven : (code ≡ 7) ↔ ((sound s ≡ true) × Untimely (s .clock) stamp)
+  pub zero : (code ≡ 0) ↔ ((sound s ≡ true) × Timely (s .clock) stamp)
 
 -- "records, at least 8(3n+3) octets, and answers, at least n"
 pub record RoomFor (n : ℕ) (records answers : List ℕ) : Type 0 where
@@ -156,16 +156,15 @@ pub record RoomFor (n : ℕ) (records answers : List ℕ) : Type 0 where
 
 -- "Order 1, 2, 3, 4, 5; then the first bad input, 6 before 7; then 8."
 pub record RunCodes (file records answers : List ℕ) (code place : ℕ) : Type 0 where
-  pub one : (code ≡ 1) ↔ (length file < 52)
-  pub two : (code ≡ 2) ↔ ((52 ≤ length file) × (version file ≡ 1 → ⊥))
-  pub three : (code ≡ 3) ↔ ((52 ≤ length file) × (version file ≡ 1) × (actuators file ≡ 1 → ⊥))
-  pub four : (code ≡ 4) ↔ ((52 ≤ length file) × (version file ≡ 1) × (actuators file ≡ 1) × (GoodLayout file → ⊥))
-  pub five : (p : ℕ) → ((code ≡ 5) × (place ≡ p)) ↔ (GoodHeader file × FirstBad (parametersIn file) p)
-  pub six : (p : ℕ) → ((code ≡ 6) × (place ≡ p)) ↔ FirstWrong file p
-  pub seven : (p : ℕ) → ((code ≡ 7) × (place ≡ p)) ↔ FirstUntimely file p
-  pub eight : (code ≡ 8) ↔ (GoodFile file × (RoomFor (inputCount file) records answers → ⊥))
-  pub zero : (code ≡ 0) ↔ (GoodFile file × RoomFor (inputCount file) records answers)
-  pub no-place : (code ≡ 5 → ⊥) → (code ≡ 6 → ⊥) → (code ≡ 7 → ⊥) → place ≡ 0
+  pub one : (p : ℕ) → ((code ≡ 1) × (place ≡ p)) ↔ GivenWhen file WrongLength p
+  pub two : (p : ℕ) → ((code ≡ 2) × (place ≡ p)) ↔ GivenWhen file WrongVersion p
+  pub three : (p : ℕ) → ((code ≡ 3) × (place ≡ p)) ↔ GivenWhen file WrongActuators p
+  pub four : (p : ℕ) → ((code ≡ 4) × (place ≡ p)) ↔ GivenWhen file WrongLayout p
+  pub five : (p : ℕ) → ((code ≡ 5) × (place ≡ p)) ↔ GivenWhen file BadParameter p
+  pub six : (p : ℕ) → ((code ≡ 6) × (place ≡ p)) ↔ GivenWhen file BadInput p
+  pub seven : (p : ℕ) → ((code ≡ 7) × (place ≡ p)) ↔ GivenWhen file BadStamp p
+  pub eight : (p : ℕ) → ((code ≡ 8) × (place ≡ p)) ↔ ((p ≡ 0) × GoodFile file × (RoomFor (inputCount file) records answers → ⊥))
+  pub zero : (p : ℕ) → ((code ≡ 0) × (place ≡ p)) ↔ ((p ≡ 0) × GoodFile file × RoomFor (inputCount file) records answers)
 
 -- "To C it answers one 64-bit number": what the header's macros take it apart into, by shifts and masks
 pub record TakenApart (number : ℕ) (r : Ran) : Type 0 where

@@ -1,17 +1,19 @@
--- How parameters, a header and a stamp are written (01, "Time and the cue file"): the other way round than Parameters.antt, Inputs.antt and
+-- How parameters, a header and an input are written (01, "Time and the cue file"): the other way round than Parameters.antt, Inputs.antt and
 -- Files.antt read them. proofs/Laws/Written.antt proves that what is written so is accepted and read back as itself, and that accepted
--- parameters are written in no other way.
-use Prim.Native.Nat.{ℕ, _+_, _/_, _%_}
+-- parameters and inputs are written in no other way.
+use Prim.Native.Nat.{ℕ, _+_, _/_, _≤_}
 use mathlib.Core.Bool.{cond}
 use mathlib.Core.List.{List, [], _∷_, _++_}
-use Rattle.octets.specs.BigEndian.{octets32}
+use mathlib.Core.Logic.{_⊎_}
+use mathlib.Core.Path.{_≡_}
+use Rattle.octets.specs.BigEndian.{octet, octets16, octets32}
 use Rattle.rules.specs.declared.parameters.Params.{Params}
 use Rattle.rules.specs.declared.parameters.Scene.{Scene}
+use Rattle.rules.specs.declared.input.Force.the-variants.{Free}
+use Rattle.rules.specs.declared.input.Input.{Input}
+use Rattle.rules.specs.declared.input.Input.the-variants.{SwitchOnOffForced}
+use Rattle.rules.specs.Inputs.{kind, sceneNumber, inputValue}
 use Rattle.rules.specs.Status.{bit}
-
--- "Numbers are most significant octet first."
-abbrev pub octets16 : ℕ → List ℕ
-octets16 n = n / 256 ∷ n % 256 ∷ []
 
 -- "Delays are U16 seconds; a delay of s lasts 10*s tenths."
 abbrev pub delayOctets : ℕ → List ℕ
@@ -41,3 +43,14 @@ parametersOctets p k = paramsOctets p ++ scenesOctets k
 -- inputs (0 to 2,048); 12-15 offset of inputs (52); 16-19 end time (at most 864,000)."
 abbrev pub headerOctets : ℕ → ℕ → List ℕ
 headerOctets n end = octets16 1 ++ (octets16 1 ++ (octets32 20 ++ (octets32 n ++ (octets32 52 ++ octets32 end))))
+
+-- "each with its own value": a value octet of an input ("4 forced: 0 and 1 no control")
+abbrev pub ValueOf : Input → ℕ → Type 0
+ValueOf i v = (v ≡ inputValue i) ⊎ ((i ≡ SwitchOnOffForced Free) × (v ≡ 1))
+
+-- "Input, 8 octets: 0-3 stamp; 4 kind; 5 value; 6-7 zero."; "3 scene: .. low six bits the number"
+pub record InputStands (octets : List ℕ) (at : ℕ) (i : Input) : Type 0 where
+  pub kind : octet octets (at + 4) ≡ kind i
+  pub value : ValueOf i (octet octets (at + 5))
+  pub zeros : (octet octets (at + 6) ≡ 0) × (octet octets (at + 7) ≡ 0)
+  pub six-bits : sceneNumber i ≤ 63

@@ -2,7 +2,7 @@
 use Prim.Native.Nat.{ℕ, zero, suc, _+_, _/_, _%_, _≤_, _<_}
 use mathlib.Core.Bool.{Bool, true, false, cond, _&&_}
 use mathlib.Core.List.{List}
-use mathlib.Core.Logic.{_⊎_, inl, inr}
+use mathlib.Core.Logic.{_↔_, inl, inr, ⊎-elim}
 use mathlib.Core.Path.{_≡_, refl, sym, _∙_}
 use native.Mathlib.Omega.{arith}
 use lib.Dec.{eqb, leb}
@@ -15,19 +15,20 @@ use Rattle.rules.specs.declared.input.Input.the-variants.{SwitchOnOff, T
 use Rattle.rules.specs.declared.input.Decoded.{Decoded}
 use Rattle.rules.specs.declared.input.Decoded.the-variants.{Meant, Wrong}
 use Rattle.rules.specs.Inputs.{kind, sceneNumber, inputValue, zeroOrOne, sceneMeant, forceMeant, decoded, inputAt}
-use Rattle.base.proofs.Tests.{cond-case}
+use Rattle.rules.specs.Written.{ValueOf, InputStands}
+use Rattle.base.proofs.Tests.{both, cond-case}
 
--- an input of the kind k, if it means one at all, written with that value (of a force, 1 is no control as well as 0)
+-- an input of the kind k, if it means one at all, with this value
 abbrev OfKind : ℕ → ℕ → Decoded → Type 0
 OfKind k v Wrong = Unit {0}
-OfKind k v (Meant i) = (kind i ≡ k) × (sceneNumber i ≤ 63) × (v ≤ 255 → (inputValue i ≡ v) ⊎ ((k ≡ 4) × (v ≡ 1) × (inputValue i ≡ 0)))
+OfKind k v (Meant i) = (kind i ≡ k) × (sceneNumber i ≤ 63) × (v ≤ 255 → ValueOf i v)
 
 zero-or-one-means : (k v : ℕ) (none one : Input) → (kind none ≡ k) × (sceneNumber none ≤ 63) × (inputValue none ≡ 0) → (kind one ≡ k) × (sceneNumber one ≤ 63) × (inputValue one ≡ 1)
     → OfKind k v (zeroOrOne v none one)
 unfolding zeroOrOne
 zero-or-one-means k v none one f g =
-    cond-case (OfKind k v) (eqb v 0) _ _ (λ e. (f .0, f .1, λ octet. inl (f .2 ∙ sym (eqb-true v 0 e))))
-    (λ e. cond-case (OfKind k v) (eqb v 1) (Meant one) Wrong (λ e. (g .0, g .1, λ octet. inl (g .2 ∙ sym (eqb-true v 1 e)))) (λ e. tt))
+    cond-case (OfKind k v) (eqb v 0) _ _ (λ e. (f .0, f .1, λ octet. inl (eqb-true v 0 e ∙ sym (f .2))))
+    (λ e. cond-case (OfKind k v) (eqb v 1) (Meant one) Wrong (λ e. (g .0, g .1, λ octet. inl (eqb-true v 1 e ∙ sym (g .2)))) (λ e. tt))
 
 -- bit 7 and six bits below it
 scene-value : (v : ℕ) (b : Bool) → eqb (v / 128) 1 ≡ b → v / 64 % 2 ≡ 0 → v ≤ 255 → cond b 128 0 + v % 64 ≡ v
@@ -39,19 +40,19 @@ scene-means : (v : ℕ) → OfKind 3 v (sceneMeant v)
 unfolding sceneMeant
 scene-means v =
     cond-case (OfKind 3 v) (eqb (v / 64 % 2) 0) (Meant (NumberedSceneControl (eqb (v / 128) 1) (v % 64))) Wrong
-    (λ e. (refl, omega arith, λ octet. inl (scene-value v _ refl (eqb-true _ _ e) octet)))
+    (λ e. (refl, omega arith, λ octet. inl (sym (scene-value v _ refl (eqb-true _ _ e) octet))))
     (λ e. tt)
 
 force-means : (v : ℕ) → OfKind 4 v (forceMeant v)
 unfolding forceMeant
 force-means v =
     cond-case (OfKind 4 v) (leb v 1) (Meant (SwitchOnOffForced Free)) _ (λ e. (refl, omega arith, λ octet. free v (leb-true v 1 e)))
-    (λ e. cond-case (OfKind 4 v) (eqb v 2) (Meant (SwitchOnOffForced Off)) _ (λ e. (refl, omega arith, λ octet. inl (sym (eqb-true v 2 e))))
-    (λ e. cond-case (OfKind 4 v) (eqb v 3) (Meant (SwitchOnOffForced On)) Wrong (λ e. (refl, omega arith, λ octet. inl (sym (eqb-true v 3 e)))) (λ e. tt)))
+    (λ e. cond-case (OfKind 4 v) (eqb v 2) (Meant (SwitchOnOffForced Off)) _ (λ e. (refl, omega arith, λ octet. inl (eqb-true v 2 e)))
+    (λ e. cond-case (OfKind 4 v) (eqb v 3) (Meant (SwitchOnOffForced On)) Wrong (λ e. (refl, omega arith, λ octet. inl (eqb-true v 3 e))) (λ e. tt)))
   where
-    free : (n : ℕ) → n ≤ 1 → (inputValue (SwitchOnOffForced Free) ≡ n) ⊎ ((kind (SwitchOnOffForced Free) ≡ 4) × (n ≡ 1) × (inputValue (SwitchOnOffForced Free) ≡ 0))
+    free : (n : ℕ) → n ≤ 1 → ValueOf (SwitchOnOffForced Free) n
     free zero few = inl refl
-    free (suc n) few = inr (refl, omega arith, refl)
+    free (suc n) few = inr (refl, omega arith)
 
 -- the choice of a kind
 if-kind : (k v j : ℕ) (x y : Decoded) → OfKind j v x → OfKind k v y → OfKind k v (cond (eqb k j) x y)
@@ -70,15 +71,11 @@ decoded-means k v =
     (if-kind k v 8 _ _ (zero-or-one-means 8 v (Power Failure) (Power Return) (omega arith) (omega arith))
     tt)))))))
 
--- what is read is what was written: an octet of value that means an input is that input's value, but that a force of 1 is written as 0
-pub read-as-written : (k v : ℕ) (i : Input) → v ≤ 255 → decoded k v ≡ Meant i → (kind i ≡ k) × ((inputValue i ≡ v) ⊎ ((k ≡ 4) × (v ≡ 1) × (inputValue i ≡ 0)))
-read-as-written k v i octet e = let means = rw e at (decoded-means k v) in (means .0, means .2 octet)
-
 scene-back : (v : ℕ) (learn : Bool) (number : ℕ) → v / 64 % 2 ≡ 0 → eqb (v / 128) 1 ≡ learn → v % 64 ≡ number → sceneMeant v ≡ Meant (NumberedSceneControl learn number)
 unfolding sceneMeant
 scene-back v learn number six seven low = rw (six, seven, low) refl
 
--- and what is written is read back: an input, by its kind and value, is that input (a scene's number has six bits)
+-- an input, by its kind and value, is that input (a scene's number has six bits)
 pub an-input-is-what-its-octets-mean : (i : Input) → sceneNumber i ≤ 63 → decoded (kind i) (inputValue i) ≡ Meant i
 unfolding decoded zeroOrOne forceMeant
 an-input-is-what-its-octets-mean (SwitchOnOff true) small = refl
@@ -113,19 +110,43 @@ kind-range (Power event) = omega arith
 pub meant-kind : (k value : ℕ) (i : Input) → decoded k value ≡ Meant i → kind i ≡ k
 meant-kind k value i e = (rw e at (decoded-means k value)) .0
 
--- the input at a place is what its kind and value mean, or wrong
-input-means : (octets : List ℕ) (at : ℕ) → OfKind (octet octets (at + 4)) (octet octets (at + 5)) (inputAt octets at)
-unfolding inputAt
-input-means octets at =
-    cond-case (OfKind (octet octets (at + 4)) (octet octets (at + 5))) (eqb (octet octets (at + 6)) 0 && eqb (octet octets (at + 7)) 0) (decoded (octet octets (at + 4)) (octet octets (at + 5))) Wrong
-    (λ zeros. decoded-means (octet octets (at + 4)) (octet octets (at + 5)))
-    (λ others. tt)
+-- ---- an input at a place
 
-pub input-kind : (octets : List ℕ) (at : ℕ) (i : Input) → inputAt octets at ≡ Meant i → kind i ≡ octet octets (at + 4)
-input-kind octets at i e = (rw e at (input-means octets at)) .0
+pub not-meant : {A : Type 0} {i : Input} → Wrong ≡ Meant i → A
+not-meant e = absurd (let z : _≡_ {A = ℕ} 0 1 = cc in omega arith)
 
-pub input-number : (octets : List ℕ) (at : ℕ) (i : Input) → inputAt octets at ≡ Meant i → sceneNumber i ≤ 63
-input-number octets at i e = (rw e at (input-means octets at)) .1
+module _ (octets : List ℕ) (at : ℕ) where
+  -- its kind and value mean it, and the last two octets are zero
+  input-means : (i : Input) → inputAt octets at ≡ Meant i → OfKind (octet octets (at + 4)) (octet octets (at + 5)) (Meant i) × ((octet octets (at + 6) ≡ 0) × (octet octets (at + 7) ≡ 0))
+  unfolding inputAt
+  input-means i = by (eqb (octet octets (at + 6)) 0 && eqb (octet octets (at + 7)) 0) refl
+    where
+      by : (b : Bool) → (eqb (octet octets (at + 6)) 0 && eqb (octet octets (at + 7)) 0) ≡ b → cond b (decoded (octet octets (at + 4)) (octet octets (at + 5))) Wrong ≡ Meant i
+          → OfKind (octet octets (at + 4)) (octet octets (at + 5)) (Meant i) × ((octet octets (at + 6) ≡ 0) × (octet octets (at + 7) ≡ 0))
+      by true zeros e = let z = both (eqb (octet octets (at + 6)) 0) _ zeros in (rw e at (decoded-means (octet octets (at + 4)) (octet octets (at + 5))), (eqb-true _ _ (z .0), eqb-true _ _ (z .1)))
+      by false others e = not-meant e
+
+  pub input-kind : (i : Input) → inputAt octets at ≡ Meant i → kind i ≡ octet octets (at + 4)
+  input-kind i e = input-means i e .0 .0
+
+  pub input-number : (i : Input) → inputAt octets at ≡ Meant i → sceneNumber i ≤ 63
+  input-number i e = input-means i e .0 .1
+
+  -- octets mean an input exactly when they are written as it is
+  pub input-exactly-when : octet octets (at + 5) ≤ 255 → (i : Input) → (inputAt octets at ≡ Meant i) ↔ InputStands octets at i
+  unfolding inputAt
+  input-exactly-when small i = (
+    λ e. let m = input-means i e in record { kind = sym (m .0 .0); value = m .0 .2 small; zeros = m .1; six-bits = m .0 .1 },
+    λ g. rw (g .zeros .0, g .zeros .1, g .kind) (⊎-elim (λ e. rw e (an-input-is-what-its-octets-mean i (g .six-bits))) (λ e. rw (e .0, e .1) (unfold decoded forceMeant in refl)) (g .value)),
+  )
+
+  -- and nothing where there is no such input: "6 | kind, value or zero octet wrong"
+  pub wrong-exactly-when : octet octets (at + 5) ≤ 255 → (inputAt octets at ≡ Wrong) ↔ ((i : Input) → InputStands octets at i → ⊥)
+  wrong-exactly-when small = (λ wrong i g. not-meant (sym wrong ∙ input-exactly-when small i .1 g), λ none. by (inputAt octets at) refl none)
+    where
+      by : (d : Decoded) → inputAt octets at ≡ d → ((i : Input) → InputStands octets at i → ⊥) → d ≡ Wrong
+      by Wrong e none = refl
+      by (Meant i) e none = absurd (none i (input-exactly-when small i .0 e))
 
 -- a kind that is none of the eight means nothing
 pub no-other-kind : (k value : ℕ) → (1 ≤ k → 8 < k) → decoded k value ≡ Wrong

@@ -48,7 +48,7 @@ clash : {A : Type 0} (octets : List ℕ) (at : ℕ) → badOctet octets at ≡ t
 clash octets at bad good = no (sym good ∙ bad)
 
 -- neither of two first bad octets comes before the other
-same-place : (octets : List ℕ) (a b : ℕ) → FirstBad octets a → FirstBad octets b → a ≡ b
+pub same-place : (octets : List ℕ) (a b : ℕ) → FirstBad octets a → FirstBad octets b → a ≡ b
 same-place octets a b f g =
     let not-less : a < b → ⊥ = λ less. clash octets a (f .bad) (g .good a less) in
     let not-more : b < a → ⊥ = λ more. clash octets b (g .bad) (f .good b more) in

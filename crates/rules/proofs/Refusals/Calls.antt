@@ -2,11 +2,12 @@
 use Prim.Native.Nat.{ℕ, _-_, _≤_, _<_}
 use mathlib.Core.Bool.{Bool, true, false, cond}
 use mathlib.Core.List.{List, [], _++_}
+use mathlib.Core.Logic.{_↔_}
 use mathlib.Core.Path.{_≡_, refl, sym, _∙_}
 use lib.ListN.{length}
 use native.Mathlib.Omega.{arith}
 use lib.Dec.{leb}
-use borrow.Author.Tests.{leb-true}
+use borrow.Author.Tests.{leb-true, le-leb}
 use Rattle.octets.specs.BigEndian.{octet}
 use Rattle.rules.specs.declared.input.Input.{Input}
 use Rattle.rules.specs.declared.input.Decoded.{Decoded}
@@ -24,15 +25,25 @@ use Rattle.rules.specs.Soundness.{sound}
 use Rattle.base.specs.Refusals.{stampInRange}
 use Rattle.rules.specs.Parameters.{checkParameters}
 use Rattle.rules.specs.Calls.{freshBy, freshCall, places, singleDone, singleRefused, singleMeant, singleCall, moveDone, moveRefused, moveCall}
-use Rattle.rules.specs.Refusals.{GoodParameters, FirstBad, FoundWhen, FreshCodes, SingleCodes, MoveCodes}
+use Rattle.rules.specs.Refusals.{GoodParameters, FirstBad, FoundWhen, FreshCodes, Timely, Untimely, SingleCodes, MoveCodes}
 use Rattle.base.proofs.Tests.{both, no}
 use Rattle.rules.proofs.Laws.Soundness.{own-state-is-sound, move-is-sound, step-is-sound}
-use Rattle.rules.proofs.Laws.Inputs.{input-number}
-use Rattle.rules.proofs.Laws.Parameters.{lowest-bad-octet, passed-is-sound}
+use Rattle.rules.proofs.Laws.Inputs.{not-meant, input-number}
+use Rattle.rules.proofs.Laws.Parameters.{same-place, lowest-bad-octet, passed-is-sound}
+use Rattle.rules.proofs.Refusals.Files.{out-of-range, not-in-range}
 use Rattle.rules.proofs.Laws.Records.{a-move-writes-at-most-two, an-input-writes-at-most-three, places-hold-all}
 
-not-meant : {A : Type 0} {i : Input} → Wrong ≡ Meant i → A
-not-meant e = absurd (let z : _≡_ {A = ℕ} 0 1 = cc in omega arith)
+-- "7 | stamp below .. (or the clock), above .. 864,000": exactly when the test of a stamp fails
+pub timely-exactly-when : (clock stamp : ℕ) → (stampInRange clock stamp ≡ true) ↔ Timely clock stamp
+unfolding stampInRange
+timely-exactly-when clock stamp = (
+  λ h. let e = both (leb clock stamp) _ h in (leb-true _ _ (e .0), leb-true _ _ (e .1)),
+  λ t. simp (le-leb clock stamp (t .0), le-leb stamp 864_000 (t .1)),
+)
+
+untimely-exactly-when : (clock stamp : ℕ) → (stampInRange clock stamp ≡ false) ↔ Untimely clock stamp
+unfolding stampInRange
+untimely-exactly-when clock stamp = (out-of-range clock stamp 864_000, not-in-range clock stamp 864_000)
 
 -- ---- a single input
 
@@ -91,16 +102,16 @@ single-refused-exactly-when s octets = by (single-finds s octets)
         record {
           nine = (λ e. absurd (omega arith), λ e. no (sym e ∙ h));
           six = (λ e. absurd (omega arith), λ e. not-meant (sym (e .1) ∙ m));
-          seven = (λ e. (i, h, m, t), λ e. refl);
-          zero = (λ e. absurd (omega arith), λ e. no (sym t ∙ e .3));
+          seven = (λ e. (i, h, m, untimely-exactly-when _ _ .0 t), λ e. refl);
+          zero = (λ e. absurd (omega arith), λ e. no (sym t ∙ timely-exactly-when _ _ .1 (e .3)));
         }
     by (plays i h m t) =
         unfold singleDone in
         record {
           nine = (λ e. absurd (omega arith), λ e. no (sym e ∙ h));
           six = (λ e. absurd (omega arith), λ e. not-meant (sym (e .1) ∙ m));
-          seven = (λ e. absurd (omega arith), λ e. no (sym (e .3) ∙ t));
-          zero = (λ e. (i, h, m, t), λ e. refl);
+          seven = (λ e. absurd (omega arith), λ e. no (sym (untimely-exactly-when _ _ .1 (e .3)) ∙ t));
+          zero = (λ e. (i, h, m, timely-exactly-when _ _ .0 t), λ e. refl);
         }
 
 -- "A refused call .. hands back the state it was given"; answer, count and records are 0, and so is the place
@@ -152,15 +163,15 @@ move-refused-exactly-when s stamp = by (move-finds s stamp)
         unfold moveRefused in
         record {
           nine = (λ e. absurd (omega arith), λ e. no (sym e ∙ h));
-          seven = (λ e. (h, t), λ e. refl);
-          zero = (λ e. absurd (omega arith), λ e. no (sym t ∙ e .1));
+          seven = (λ e. (h, untimely-exactly-when _ _ .0 t), λ e. refl);
+          zero = (λ e. absurd (omega arith), λ e. no (sym t ∙ timely-exactly-when _ _ .1 (e .1)));
         }
     by (moves h t) =
         unfold moveDone in
         record {
           nine = (λ e. absurd (omega arith), λ e. no (sym e ∙ h));
-          seven = (λ e. absurd (omega arith), λ e. no (sym (e .1) ∙ t));
-          zero = (λ e. (h, t), λ e. refl);
+          seven = (λ e. absurd (omega arith), λ e. no (sym (untimely-exactly-when _ _ .1 (e .1)) ∙ t));
+          zero = (λ e. (h, timely-exactly-when _ _ .0 t), λ e. refl);
         }
 
 pub move-refusal-changes-nothing : (s : State) (stamp : ℕ) → (moveCall s stamp .code ≡ 0 → ⊥) →
@@ -177,18 +188,13 @@ pub move-records-are-all : (s : State) (t : ℕ) →
 unfolding moveDone
 move-records-are-all s t = (refl, places-hold-all 2 (clockMove s t .records) (a-move-writes-at-most-two s t))
 
--- a stamp in range is from the clock to the last stamp
-pub timely : (clock stamp : ℕ) → stampInRange clock stamp ≡ true → (clock ≤ stamp) × (stamp ≤ lastStamp)
-unfolding stampInRange
-timely clock stamp h = let e = both (leb clock stamp) (leb stamp lastStamp) h in (leb-true clock stamp (e .0), leb-true stamp lastStamp (e .1))
-
 pub move-call-keeps-sound : (s : State) (stamp : ℕ) → sound s ≡ true → sound (moveCall s stamp .state) ≡ true
 move-call-keeps-sound s stamp safe = by (move-finds s stamp)
   where
     by : {r : Move} → MoveFinds s stamp r → sound (r .state) ≡ true
     by (MoveFinds.not-sound h) = unfold moveRefused in safe
     by (MoveFinds.untimely h t) = unfold moveRefused in safe
-    by (moves h t) = let e = timely (s .clock) stamp t in unfold moveDone in move-is-sound s stamp safe (e .0) (e .1)
+    by (moves h t) = let e = timely-exactly-when (s .clock) stamp .0 t in unfold moveDone in move-is-sound s stamp safe (e .0) (e .1)
 
 pub single-call-keeps-sound : (s : State) (octets : List ℕ) → sound s ≡ true → sound (singleCall s octets .state) ≡ true
 single-call-keeps-sound s octets safe = by (single-finds s octets)
@@ -198,7 +204,7 @@ single-call-keeps-sound s octets safe = by (single-finds s octets)
     by (wrong h m) = unfold singleRefused in safe
     by (SingleFinds.untimely i h m t) = unfold singleRefused in safe
     by (plays i h m t) =
-        let e = timely (s .clock) (stampAt octets 0) t in
+        let e = timely-exactly-when (s .clock) (stampAt octets 0) .0 t in
         unfold singleDone in
         step-is-sound s i (stampAt octets 0) (input-number octets 0 i m) safe (e .0) (e .1)
 
@@ -224,26 +230,23 @@ fresh-refused-exactly-when octets = by (checkParameters octets) (lowest-bad-octe
     by Passed a =
         unfold freshBy in
         record {
-          one = (λ e. absurd (omega arith), λ short. absurd (short (a .whole)));
-          five = (λ e. absurd (omega arith), λ f. absurd (good-is-not-bad _ a f));
-          zero = (λ e. a, λ e. refl);
-          no-place = λ e. refl;
+          one = λ p. (λ e. absurd (omega (arith, e .0)), λ g. absurd (g .1 (a .whole)));
+          five = λ p. (λ e. absurd (omega (arith, e .0)), λ f. absurd (good-is-not-bad p a f));
+          zero = λ p. (λ e. (sym (e .1), a), λ e. (refl, sym (e .0)));
         }
     by (Refused WrongLength place) g =
         unfold freshBy in
         record {
-          one = (λ e. g .1, λ e. refl);
-          five = (λ e. absurd (omega arith), λ f. absurd (g .1 (f .whole)));
-          zero = (λ e. absurd (omega arith), λ a. absurd (g .1 (a .whole)));
-          no-place = λ e. g .0;
+          one = λ p. (λ e. (sym (e .1) ∙ g .0, g .1), λ f. (refl, g .0 ∙ sym (f .0)));
+          five = λ p. (λ e. absurd (omega (arith, e .0)), λ f. absurd (g .1 (f .whole)));
+          zero = λ p. (λ e. absurd (omega (arith, e .0)), λ a. absurd (g .1 (a .1 .whole)));
         }
     by (Refused BadParameter place) f =
         unfold freshBy in
         record {
-          one = (λ e. absurd (omega arith), λ short. absurd (short (f .whole)));
-          five = (λ e. f, λ e. refl);
-          zero = (λ e. absurd (omega arith), λ a. absurd (good-is-not-bad place a f));
-          no-place = λ e. absurd (e refl);
+          one = λ p. (λ e. absurd (omega (arith, e .0)), λ g. absurd (g .1 (f .whole)));
+          five = λ p. (λ e. rw (e .1) at f, λ g. (refl, same-place octets place p f g));
+          zero = λ p. (λ e. absurd (omega (arith, e .0)), λ a. absurd (good-is-not-bad place (a .1) f));
         }
 
 -- "place 0", accepted or refused

@@ -106,7 +106,7 @@ before-given file c (cues list) g = g
 before-given file c (bad why place) g = g
 
 -- a stamp that fails one of two tests is below or above
-out-of-range : (low stamp high : ℕ) → (leb low stamp && leb stamp high) ≡ false → (stamp < low) ⊎ (high < stamp)
+pub out-of-range : (low stamp high : ℕ) → (leb low stamp && leb stamp high) ≡ false → (stamp < low) ⊎ (high < stamp)
 out-of-range low stamp high h = by (leb low stamp) refl h
   where
     by : (b : Bool) → leb low stamp ≡ b → (b && leb stamp high) ≡ false → (stamp < low) ⊎ (high < stamp)
@@ -198,7 +198,7 @@ wrong-ends : (file : List ℕ) (i : ℕ) (later : Reading) → inputAt file (inp
 unfolding readOne
 wrong-ends file i later wrong = rw wrong
 
-not-in-range : (low stamp high : ℕ) → (stamp < low) ⊎ (high < stamp) → (leb low stamp && leb stamp high) ≡ false
+pub not-in-range : (low stamp high : ℕ) → (stamp < low) ⊎ (high < stamp) → (leb low stamp && leb stamp high) ≡ false
 not-in-range low stamp high (inl below) = simp (lt-leb low stamp below)
 not-in-range low stamp high (inr above) = simp (lt-leb stamp high above, and-false)
 
@@ -269,11 +269,15 @@ cues-are-the-octets file list e =
     let s = rw same at (r .2) in
     (s .count, λ j within. let e : 0 + j ≡ j = omega arith in rw e at (s .each j within))
 
--- an octet of the parameters is one of the file
+-- "offset of parameters (20)": they are the octets from there on
+pub parameters-stand-at-20 : (file : List ℕ) (j : ℕ) → j < 32 → octet (parametersIn file) j ≡ octet file (20 + j)
+unfolding parametersIn
+parameters-stand-at-20 file j within = getD-take 32 (drop 20 file) j 0 within ∙ getD-drop 20 file j 0
+
 pub parameters-small : (file : List ℕ) → ((i : ℕ) → octet file i < 256) → (i : ℕ) → octet (parametersIn file) i < 256
 unfolding parametersIn
 parameters-small file small i = by (leb 32 i) refl
   where
     by : (b : Bool) → leb 32 i ≡ b → octet (take 32 (drop 20 file)) i < 256
     by true past = rw (List·getD-eq-default (take 32 (drop 20 file)) 0 {n = i} (omega (arith, length-take 32 (drop 20 file), leb-true 32 i past))) (omega arith)
-    by false within = rw (getD-take 32 (drop 20 file) i 0 (leb-false 32 i within), getD-drop 20 file i 0) (small (20 + i))
+    by false within = rw (parameters-stand-at-20 file i (leb-false 32 i within)) (small (20 + i))

@@ -123,68 +123,54 @@ module _ (file records answers : List ℕ) where
   )
 
   -- a call is refused for what its file is refused for, or, with a good file, for its buffers
-  call-refused : (why : Refusal) (p : ℕ) → readCall file records answers ≡ bad why p → GivenWhen file why p ⊎ ((number why ≡ 8) × GoodFile file × (RoomFor (inputCount file) records answers → ⊥))
+  call-refused : (why : Refusal) (p : ℕ) → readCall file records answers ≡ bad why p → GivenWhen file why p ⊎ ((number why ≡ 8) × ((p ≡ 0) × GoodFile file × (RoomFor (inputCount file) records answers → ⊥)))
   unfolding readCall
   call-refused why p = by (roomy file records answers) (readFile file) refl refl
     where
-      by : (b : Bool) (x : Reading) → roomy file records answers ≡ b → readFile file ≡ x → ifRoomy b x ≡ bad why p → GivenWhen file why p ⊎ ((number why ≡ 8) × GoodFile file × (RoomFor (inputCount file) records answers → ⊥))
+      by : (b : Bool) (x : Reading) → roomy file records answers ≡ b → readFile file ≡ x → ifRoomy b x ≡ bad why p → GivenWhen file why p ⊎ ((number why ≡ 8) × ((p ≡ 0) × GoodFile file × (RoomFor (inputCount file) records answers → ⊥)))
       by true x room read e = inl (refused-exactly-when file why p .0 (read ∙ e))
       by false (bad other q) room read e = inl (refused-exactly-when file why p .0 (read ∙ e))
-      by false (cues list) room read e = inr (cc, good-file file list read, λ wide. no (sym room ∙ roomy-exactly-when .1 wide))
+      by false (cues list) room read e = inr (cc, (cc, good-file file list read, λ wide. no (sym room ∙ roomy-exactly-when .1 wide)))
 
   -- each row but the eighth is the file's
   row : (why : Refusal) (p : ℕ) → (number why ≡ 8 → ⊥) → ((code ≡ number why) × (place ≡ p)) ↔ GivenWhen file why p
   row why p other = (λ e. ⊎-elim (λ g. g) (λ short. absurd (other (short .0))) (call-refused why p (told why p e)), λ g. rw (code, place, a-bad-file-is-refused file records answers why p (refused-exactly-when file why p .1 g)) (unfold refused in (refl, refl)))
 
-  zero-means : code ≡ 0 → GoodFile file × RoomFor (inputCount file) records answers
-  zero-means = by (run-finds file records answers)
+  zero-means : (p : ℕ) → (code ≡ 0) × (place ≡ p) → (p ≡ 0) × GoodFile file × RoomFor (inputCount file) records answers
+  zero-means p = by (run-finds file records answers)
     where
-      by : {w : Whole} → RunFinds file records answers w → w .report .code ≡ 0 → GoodFile file × RoomFor (inputCount file) records answers
-      by (at-fault why p read) zero = unfold refused in absurd (omega (arith, some-number why, zero))
-      by (no-room list read room) zero = unfold refused in absurd (omega (arith, zero))
-      by (played list read room) zero = (good-file file list read, roomy-exactly-when .0 room)
+      by : {w : Whole} → RunFinds file records answers w → (w .report .code ≡ 0) × (w .report .place ≡ p) → (p ≡ 0) × GoodFile file × RoomFor (inputCount file) records answers
+      by (at-fault why q read) e = unfold refused in absurd (omega (arith, some-number why, e .0))
+      by (no-room list read room) e = unfold refused in absurd (omega (arith, e .0))
+      by (played list read room) e = unfold accepted in (sym (e .1), good-file file list read, roomy-exactly-when .0 room)
 
-  zero-given : GoodFile file × RoomFor (inputCount file) records answers → code ≡ 0
-  zero-given g = let read = accepted-exactly-when file .1 (g .0) in rw (code, a-good-file-is-played file records answers (read .0) (read .1) (roomy-exactly-when .1 (g .1))) (unfold accepted in refl)
+  zero-given : (p : ℕ) → (p ≡ 0) × GoodFile file × RoomFor (inputCount file) records answers → (code ≡ 0) × (place ≡ p)
+  zero-given p g =
+      let read = accepted-exactly-when file .1 (g .1) in
+      rw (code, place, a-good-file-is-played file records answers (read .0) (read .1) (roomy-exactly-when .1 (g .2)), g .0) (unfold accepted in (refl, refl))
 
-  eight-given : GoodFile file × (RoomFor (inputCount file) records answers → ⊥) → code ≡ 8
-  eight-given g = by (roomy file records answers) refl
+  eight-given : (p : ℕ) → (p ≡ 0) × GoodFile file × (RoomFor (inputCount file) records answers → ⊥) → (code ≡ 8) × (place ≡ p)
+  eight-given p g = by (roomy file records answers) refl
     where
-      by : (b : Bool) → roomy file records answers ≡ b → code ≡ 8
-      by true room = absurd (g .1 (roomy-exactly-when .0 room))
-      by false room = let read = accepted-exactly-when file .1 (g .0) in rw (code, a-short-buffer-is-refused file records answers (read .0) (read .1) room) (unfold refused in refl)
-
-  no-place : (code ≡ 5 → ⊥) → (code ≡ 6 → ⊥) → (code ≡ 7 → ⊥) → place ≡ 0
-  no-place = by (run-finds file records answers)
-    where
-      rows : (why : Refusal) (p : ℕ) → GivenWhen file why p → (number why ≡ 5 → ⊥) → (number why ≡ 6 → ⊥) → (number why ≡ 7 → ⊥) → p ≡ 0
-      rows WrongLength p g a b c = g .0
-      rows WrongVersion p g a b c = g .0
-      rows WrongActuators p g a b c = g .0
-      rows WrongLayout p g a b c = g .0
-      rows BadParameter p g a b c = absurd (a refl)
-      rows BadInput p g a b c = absurd (b refl)
-      rows BadStamp p g a b c = absurd (c refl)
-
-      by : {w : Whole} → RunFinds file records answers w → (w .report .code ≡ 5 → ⊥) → (w .report .code ≡ 6 → ⊥) → (w .report .code ≡ 7 → ⊥) → w .report .place ≡ 0
-      by (at-fault why p read) = unfold refused in rows why p (refused-exactly-when file why p .0 read)
-      by (no-room list read room) = unfold refused in λ a b c. refl
-      by (played list read room) = unfold accepted in λ a b c. refl
+      by : (b : Bool) → roomy file records answers ≡ b → (code ≡ 8) × (place ≡ p)
+      by true room = absurd (g .2 (roomy-exactly-when .0 room))
+      by false room =
+          let read = accepted-exactly-when file .1 (g .1) in
+          rw (code, place, a-short-buffer-is-refused file records answers (read .0) (read .1) room, g .0) (unfold refused in (refl, refl))
 
   -- "Given exactly when", of the run
   pub run-refused-exactly-when : RunCodes file records answers code place
   run-refused-exactly-when =
       record {
-        one = (λ e. row WrongLength place (λ o. omega arith) .0 (e, refl) .1, λ short. row WrongLength 0 (λ o. omega arith) .1 (refl, short) .0);
-        two = (λ e. let g = row WrongVersion place (λ o. omega arith) .0 (e, refl) in (g .1, g .2), λ g. row WrongVersion 0 (λ o. omega arith) .1 (refl, g .0, g .1) .0);
-        three = (λ e. let g = row WrongActuators place (λ o. omega arith) .0 (e, refl) in (g .1, g .2, g .3), λ g. row WrongActuators 0 (λ o. omega arith) .1 (refl, g .0, g .1, g .2) .0);
-        four = (λ e. let g = row WrongLayout place (λ o. omega arith) .0 (e, refl) in (g .1, g .2, g .3, g .4), λ g. row WrongLayout 0 (λ o. omega arith) .1 (refl, g .0, g .1, g .2, g .3) .0);
+        one = λ p. row WrongLength p (λ o. omega arith);
+        two = λ p. row WrongVersion p (λ o. omega arith);
+        three = λ p. row WrongActuators p (λ o. omega arith);
+        four = λ p. row WrongLayout p (λ o. omega arith);
         five = λ p. row BadParameter p (λ o. omega arith);
         six = λ p. row BadInput p (λ o. omega arith);
         seven = λ p. row BadStamp p (λ o. omega arith);
-        eight = (λ e. ⊎-elim (λ g. absurd g) (λ short. (short .1, short .2)) (call-refused ShortBuffer place (told ShortBuffer place (e, refl))), eight-given);
-        zero = (zero-means, zero-given);
-        no-place = no-place;
+        eight = λ p. (λ e. ⊎-elim (λ g. absurd g) (λ short. short .1) (call-refused ShortBuffer p (told ShortBuffer p e)), eight-given p);
+        zero = λ p. (zero-means p, zero-given p);
       }
 
 -- "A refused call writes nothing to the lent memory", its count is 0, and its state is the fresh one of the table

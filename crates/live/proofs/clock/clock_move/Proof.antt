@@ -1,6 +1,6 @@
 use mathlib.Core.Path.{sym, _∙_}
 use Rattle.rules.specs.Steps.{clockMove}
-use Rattle.rules.proofs.Refusals.Calls.{timely}
+use Rattle.rules.proofs.Refusals.Calls.{timely-exactly-when}
 use Rattle.phases.proofs.Rooms.{sound-room}
 use Rattle.live.proofs.ByValue.{clocked-is-done}
 use Rattle.rules.specs.Calls.{moveCall}
@@ -11,7 +11,7 @@ use Rattle.live.proofs.clock.clock_move.Tie as tie
 move-clock-requires : tie.Need-move-clock-requires
 move-clock-requires c κs =
     let a = c .before .before .before .before .args in
-    sound-room (a .s) (a .stamp) (sym (c .before .before .before .is-sound .ensures) ∙ c .before .before .if1 .taken) (timely (a .s .clock) (a .stamp) (sym (c .before .stamp-in-range .ensures) ∙ c .if2 .taken) .1)
+    sound-room (a .s) (a .stamp) (sym (c .before .before .before .is-sound .ensures) ∙ c .before .before .if1 .taken) (timely-exactly-when (a .s .clock) (a .stamp) .0 (sym (c .before .stamp-in-range .ensures) ∙ c .if2 .taken) .1)
 
 returns : tie.Need-returns
 unfolding moveCall

@@ -1,6 +1,6 @@
 use mathlib.Core.Path.{sym, _∙_}
 use Rattle.rules.specs.Steps.{step}
-use Rattle.rules.proofs.Refusals.Calls.{timely}
+use Rattle.rules.proofs.Refusals.Calls.{timely-exactly-when}
 use Rattle.live.proofs.ByValue.{acted-is-done}
 use borrow.Author.Needs.{needs}
 use Rattle.live.proofs.single.stamped.Statement.{statement}
@@ -9,7 +9,7 @@ use Rattle.live.proofs.single.stamped.Tie as tie
 step-input-requires : tie.Need-step-input-requires
 step-input-requires c κs =
     let a = c .before .before in
-    let e = timely (a .args .s .clock) (a .args .stamp) (sym (c .before .stamp-in-range .ensures) ∙ c .if1 .taken) in
+    let e = timely-exactly-when (a .args .s .clock) (a .args .stamp) .0 (sym (c .before .stamp-in-range .ensures) ∙ c .if1 .taken) in
     (a .pre, e .0, e .1)
 
 returns : tie.Need-returns
