@@ -29,6 +29,6 @@ abbrev pub placeOf : Check → ℕ
 placeOf Passed = 0
 placeOf (Refused why place) = place
 
--- single inputs "9, 6, 7", clock moves "9, 7" (in this order: rules, Calls.antt): "7 stamp below .. the clock, above .. (single input or clock move: 864,000)"
+-- "7 | stamp below .. (or the clock), above .. (single input or clock move: 864,000)"
 unfoldable pub stampInRange : ℕ → ℕ → Bool
 stampInRange clock stamp = leb clock stamp && leb stamp lastStamp

@@ -12,18 +12,18 @@ use Rattle.lamps.specs.declared.lamp.Lamp.{Lamp}
 use Rattle.lamps.specs.Lamps.{alone}
 use Rattle.inputs.specs.Values.{switchIn, teaches}
 use Rattle.switching.specs.declared.wish.Wish.{Wish}
-use Rattle.switching.specs.declared.wish.Wish.the-variants.{Nothing}
 use Rattle.switching.specs.Wishes.{switchAsks, timedAsks, sceneAsks, granted}
 
 -- kinds 1 to 3: switch, timed and scene
 abbrev pub isLight : Input → Bool
 isLight i = leb (kind i) 3
 
+-- what they ask of the light, by the number of the kind
 unfoldable pub asks : List Scene → Phase → Input → Wish
 asks k phase i =
     cond (eqb (kind i) 1) (switchAsks (switchIn i))
     (cond (eqb (kind i) 2) (timedAsks phase (switchIn i))
-    (cond (eqb (kind i) 3) (sceneAsks k (teaches i) (sceneNumber i)) Nothing))
+    (sceneAsks k (teaches i) (sceneNumber i)))
 
 -- the phase that it leaves
 unfoldable pub lightPhase : Params → List Scene → Lamp → Input → Phase

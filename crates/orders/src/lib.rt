@@ -1,7 +1,7 @@
 // What an input does, where nothing stops it: to the light, to what outranks the light, and to the scene table. The order is chosen by
 // the number of its kind; what it does to the phase is told by a small function for each order (phases::order).
 ghost use mathlib.Core.Path.{_≡_};
-ghost use mathlib.Core.Bool.{false};
+ghost use mathlib.Core.Bool.{true, false};
 ghost use mathlib.Core.List.{List};
 ghost use Rattle.rules.specs.declared.parameters.Scene.{Scene};
 ghost use Rattle.rules.specs.Orders.{order};
@@ -22,8 +22,9 @@ use switching::scene;
 use switching::wish;
 use switching::wish::Wish;
 
-// What an input asks of the light in this phase.
+// What an order to the light asks of it in this phase. There is no other such kind.
 fn asked(k: [Scene; 8], ph: Phase, i: Input) -> Wish
+    requires { ⌜ isLight i ≡ true ⌝ }
     ensures { λ r. ⌜ r ≡ asks k ph i ⌝ }
 {
     match value::kind_of(i) {
@@ -36,14 +37,14 @@ fn asked(k: [Scene; 8], ph: Phase, i: Input) -> Wish
 
 // The phase after an order to the light.
 pub fn light_order(p: Params, k: [Scene; 8], l: Lamp, i: Input) -> Phase
-    requires { ⌜ Roomy p (l .clock) (l .phase) ⌝ }
+    requires { ⌜ Roomy p (l .clock) (l .phase) × (isLight i ≡ true) ⌝ }
     ensures { λ r. ⌜ r ≡ lightPhase p k l i ⌝ }
 {
     let ph = l.phase;
     light::grant(p, l, asked(k, ph, i))
 }
 
-// The lamp after any other order. There is no other kind than these.
+// The lamp after any other order. There is no other kind left.
 pub fn other_order(p: Params, l: Lamp, i: Input) -> Lamp
     requires { ⌜ Room p (l .clock) × (isLight i ≡ false) ⌝ }
     ensures { λ r. ⌜ ((k : List Scene) → r ≡ lampOf (order (stateOf p k l) i)) ⌝ }

@@ -1,16 +1,17 @@
 -- The loops over the octets of the parameters, one turn at a time.
-use Prim.Native.Nat.{ℕ, zero, suc, _+_, _-_, _*_, _/_, _%_, _≤_, _<_}
+use Prim.Native.Nat.{ℕ, zero, suc, _+_, _-_, _*_, _≤_, _<_}
 use mathlib.Core.Bool.{Bool, true, false, cond, not, _||_}
 use mathlib.Core.List.{List}
 use mathlib.Core.Path.{_≡_, refl, sym, ap, _∙_}
 use native.Mathlib.Omega.{arith}
 use lib.ListN.{getD}
 use lib.Dec.{eqb, leb, ltb}
-use borrow.Author.Tests.{eq-eqb, ne-eqb, lt-ltb, le-ltb, leb-true, not-false}
+use borrow.Author.Tests.{ne-eqb, lt-ltb, le-ltb, leb-true, not-false}
 use Rattle.octets.specs.BigEndian.{octet, be16}
 use Rattle.base.specs.declared.refusal.Refusal.the-variants.{BadParameter}
 use Rattle.base.specs.declared.refusal.Check.the-variants.{Passed, Refused}
 use Rattle.rules.specs.Parameters.{greatest, numberAbove, badNumber, badFlags, badOctet, lowestBad}
+use Rattle.rules.proofs.Laws.Parameters.{number-octet, flags-octet}
 
 -- from the last of the first entries up
 pub above-step : (octets : List ℕ) (number left : ℕ) → 0 < left → numberAbove octets number left ≡ (eqb (octet octets (16 + 2 * (left - 1))) number || numberAbove octets number (left - 1))
@@ -58,18 +59,6 @@ mode-step octets at from to =
     rw (left, mode-octet octets at from to)
 
 -- a scene entry: its number, then its flags
-number-octet : (octets : List ℕ) (entry : ℕ) → badOctet octets (16 + 2 * entry) ≡ badNumber octets entry
-unfolding badOctet
-number-octet octets entry =
-    let half : (16 + 2 * entry - 16) / 2 ≡ entry = omega arith in
-    simp (le-ltb (16 + 2 * entry) 8 (omega arith), le-ltb (16 + 2 * entry) 16 (omega arith), eq-eqb ((16 + 2 * entry) % 2) 0 (omega arith), half)
-
-flags-octet : (octets : List ℕ) (entry : ℕ) → badOctet octets (17 + 2 * entry) ≡ badFlags octets entry
-unfolding badOctet
-flags-octet octets entry =
-    let half : (17 + 2 * entry - 16) / 2 ≡ entry = omega arith in
-    simp (le-ltb (17 + 2 * entry) 8 (omega arith), le-ltb (17 + 2 * entry) 16 (omega arith), ne-eqb ((17 + 2 * entry) % 2) 0 (λ e. omega arith), half)
-
 pub entry-step : (octets : List ℕ) (entry : ℕ) → entry < 8 → lowestBad octets (16 - 2 * entry) (16 + 2 * entry) ≡ cond (badNumber octets entry) (Refused BadParameter (16 + 2 * entry)) (cond (badFlags octets entry) (Refused BadParameter (17 + 2 * entry)) (lowestBad octets (16 - 2 * (entry + 1)) (16 + 2 * (entry + 1))))
 unfolding lowestBad
 entry-step octets entry within =

@@ -11,7 +11,7 @@ use Rattle.octets.specs.BigEndian.{octet}
 use Rattle.rules.specs.declared.parameters.Params.{Params}
 use Rattle.rules.specs.declared.parameters.Scene.{Scene}
 use Rattle.rules.specs.declared.parameters.Recalled.the-variants.{Nothing, Output}
-use Rattle.rules.specs.declared.phase.Phase.the-variants.{Dark, Lit}
+use Rattle.rules.specs.declared.phase.Phase.the-variants.{Dark, Lit, Timed, Warning}
 use Rattle.rules.specs.declared.phase.Deadline.the-variants.{At}
 use Rattle.rules.specs.declared.input.Force.the-variants.{Free, Off, On}
 use Rattle.rules.specs.declared.input.Event.the-variants.{Failure, Return}
@@ -21,6 +21,7 @@ use Rattle.rules.specs.declared.state.Link.the-variants.{Up, BusDown, Po
 use Rattle.rules.specs.declared.state.State.{State}
 use Rattle.rules.specs.Inputs.{kind}
 use Rattle.rules.specs.Parameters.{badOctet}
+use Rattle.rules.specs.Said.{Held}
 use Rattle.rules.specs.Scenes.{recalled, learnt}
 use Rattle.rules.specs.Phases.{output, deadline}
 use Rattle.rules.specs.Status.{value, staircase, attributes}
@@ -84,11 +85,12 @@ pub record Above (octets : List ℕ) (number n : ℕ) : Type 0 where
   pub before : earlier < n
   pub same : octet octets (16 + 2 * earlier) ≡ number
 
--- neither used and new nor unused; used flags above 3, unused ones above 0
+-- a number that is neither 0 to 63 nor 255, or that an earlier entry has
 abbrev pub BadNumber : List ℕ → ℕ → Type 0
 BadNumber octets n =
     ((63 < octet octets (16 + 2 * n)) × (octet octets (16 + 2 * n) ≡ 255 → ⊥)) ⊎ ((octet octets (16 + 2 * n) ≤ 63) × Above octets (octet octets (16 + 2 * n)) n)
 
+-- flags of an unused entry that are not 0, or of a used one with more than two bits
 abbrev pub BadFlags : List ℕ → ℕ → Type 0
 BadFlags octets n =
     ((octet octets (16 + 2 * n) ≡ 255) × (0 < octet octets (17 + 2 * n))) ⊎ ((octet octets (16 + 2 * n) ≡ 255 → ⊥) × (3 < octet octets (17 + 2 * n)))
@@ -117,9 +119,9 @@ pub record SoundState (s : State) : Type 0 where
   pub scenes : ScenesFit (s .scenes)
   pub clock : s .clock ≤ 864_000
   pub soon : (d : ℕ) → deadline (s .phase) ≡ At d → (s .clock + 1 ≤ d) × (d ≤ s .clock + 655_350)
-  pub steady : (s .lock ≡ true) ⊎ (s .force ≡ Free → ⊥) → (s .phase ≡ Dark) ⊎ (s .phase ≡ Lit)
+  pub steady : Held (s .lock) (s .force) → (s .phase ≡ Dark) ⊎ (s .phase ≡ Lit)
   pub decided : s .lock ≡ false → (s .force ≡ Off → s .phase ≡ Dark) × (s .force ≡ On → s .phase ≡ Lit)
-  pub ends : s .night ≡ true → s .phase ≡ Lit → (s .lock ≡ true) ⊎ (s .force ≡ Free → ⊥)
+  pub ends : s .night ≡ true → s .phase ≡ Lit → Held (s .lock) (s .force)
   pub clear : s .link ≡ PowerDown → (s .phase ≡ Dark) × (s .night ≡ false) × (s .lock ≡ false) × (s .force ≡ Free)
 
 -- ---- the status (01, "Records and the printout")
@@ -133,7 +135,7 @@ pub record StatusShows (s : State) : Type 0 where
   pub locked : (attributes s / 2 % 2 ≡ 1) ↔ (s .lock ≡ true)
   pub forced : (attributes s / 4 % 2 ≡ 0) ↔ (s .force ≡ Free)
   pub night : (attributes s / 8 % 2 ≡ 1) ↔ (s .night ≡ true)
-  pub staircase : (attributes s / 16 % 2 ≡ 1) ↔ (staircase (s .phase) ≡ true)
+  pub staircase : (attributes s / 16 % 2 ≡ 1) ↔ ((d : ℕ) × ((s .phase ≡ Timed d) ⊎ (s .phase ≡ Warning d)))
   pub five-bits : attributes s < 32
 
 -- ---- the inputs that the promises speak of (00, demand 3), by the scene table and the link that they meet

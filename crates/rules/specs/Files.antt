@@ -43,7 +43,7 @@ endTime file = be32 file 16
 unfoldable pub parametersIn : List ℕ → List ℕ
 parametersIn file = take parametersSize (drop parametersAt file)
 
--- "4 an offset, n, the length or the end time is not as above" ("The file is exactly 52+8n octets.")
+-- "4 | an offset, n, the length or the end time is not as above" ("The file is exactly 52+8n octets.")
 unfoldable pub layoutRight : List ℕ → Bool
 layoutRight file =
     (eqb (parametersOffset file) parametersAt && leb (inputCount file) mostInputs) &&
@@ -66,7 +66,7 @@ abbrev pub before : Cue → Reading → Reading
 before c (cues later) = cues (c ∷ later)
 before c (bad why place) = bad why place
 
--- "6 kind, value or zero octet wrong: input index"; "7 stamp below the one before .., above the end time: input index"
+-- "6 | kind, value or zero octet wrong | input index"; "7 | stamp below the one before .., above the end time .. | input index"
 unfoldable pub readOne : Decoded → ℕ → ℕ → ℕ → ℕ → Reading → Reading
 readOne Wrong stamp last end i later = bad BadInput i
 readOne (Meant x) stamp last end i later = cond (leb last stamp && leb stamp end) (before (cue stamp x) later) (bad BadStamp i)

@@ -1,4 +1,4 @@
--- "Take this as a list of what the other two got wrong": the customer's three mistakes, ties, delays and rank, each as what holds
+-- "take this as a list of what the other two got wrong": the customer's three mistakes, ties, delays and rank, each as what holds
 -- instead, of any list of cues that is played to an end time. It is proved of every list that rises in proofs/Mistakes/, and of every
 -- accepted cue file in the crate demands (ThreeMistakes).
 use Prim.Native.Nat.{ℕ, _+_, _≤_}
@@ -90,7 +90,7 @@ overrides (NightMode value) = false
 overrides (Bus event) = fails event
 overrides (Power event) = fails event
 
--- an input that "lights, forces, locks, or changes bus or power". Night orders, lessons, Offs, scene-offs and timed stops do not.
+-- an input that lights, forces, locks, or changes bus or power. Night orders, lessons, Offs, scene-offs and timed stops do not.
 abbrev pub stirs : State → Input → Bool
 stirs s i = overrides i || lights s i
 

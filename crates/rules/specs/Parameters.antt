@@ -95,7 +95,7 @@ unfoldable pub lowestBad : List ℕ → ℕ → ℕ → Check
 lowestBad octets zero at = Passed
 lowestBad octets (suc left) at = cond (badOctet octets at) (Refused BadParameter at) (lowestBad octets left (at + 1))
 
--- "1 .. parameters offered alone not 32"; "5 parameter out of range: lowest bad octet in 0-31"
+-- "1 | .. parameters offered alone not 32 | 0"; "5 | parameter out of range | lowest bad octet in 0-31"
 unfoldable pub checkParameters : List ℕ → Check
 checkParameters octets = cond (eqb (length octets) parametersSize) (lowestBad octets parametersSize 0) (Refused WrongLength 0)
 

@@ -86,7 +86,7 @@ scenesAfter s (Bus event) = s .scenes
 scenesAfter s (Power event) = s .scenes
 
 -- a state with these parameters, this clock, these scenes and flags
-pub record Holds (p : Params) (t : ℕ) (k : List Scene) (f : Flags) (u : State) : Type 0 where
+pub record StateOf (p : Params) (t : ℕ) (k : List Scene) (f : Flags) (u : State) : Type 0 where
   pub params : u .params ≡ p
   pub clock : u .clock ≡ t
   pub scenes : u .scenes ≡ k
@@ -94,19 +94,19 @@ pub record Holds (p : Params) (t : ℕ) (k : List Scene) (f : Flags) (u : State)
 
 -- no order changes the parameters or the clock
 abbrev pub Leaves : State → Input → State → Type 0
-Leaves s i u = Holds (s .params) (s .clock) (scenesAfter s i) (flagsAfter s i) u
+Leaves s i u = StateOf (s .params) (s .clock) (scenesAfter s i) (flagsAfter s i) u
 
--- ---- what the modes set (01, "Time and the cue file": "0 keep, 1 off, 2 on", "3 as before locking", "0 as before the failure, 1 off, 2 on")
-
--- what stands in a mode's place of its row (no other mode is in range)
-abbrev pub chosen : {A : Type 0} → List A → A → ℕ → A
-chosen row other mode = getD row mode other
+-- ---- what the modes set: what stands in a mode's place of its row, from 0 on; no other mode is in range (01, "Time and the cue file": "0 keep, 1 off, 2 on", "3 as before locking", "0 as before the failure, 1 off, 2 on")
 
 -- "set on" or "set off" where neither lock nor force stands
 abbrev pub setTo : State → Bool → Phase
 setTo s on = cond on (cond (s .night) (Timed (s .clock + s .params .timedon)) Lit) Dark
 
--- lock and force do not stand
+-- lock or force stands
+abbrev pub Held : Bool → Force → Type 0
+Held lock force = (lock ≡ true) ⊎ (force ≡ Free → ⊥)
+
+-- neither does
 pub record NothingHolds (s : State) : Type 0 where
   pub unlocked : s .lock ≡ false
   pub unforced : s .force ≡ Free
@@ -114,18 +114,18 @@ pub record NothingHolds (s : State) : Type 0 where
 -- the phase that each order with a mode leaves
 pub record ModesSet (s : State) : Type 0 where
   -- "Lock, when unlocked: .. the phase becomes Dark or Lit by BehaviourAtLocking (keep: by the present output)"
-  pub locking : s .lock ≡ false → order s (LockDevice true) .phase ≡ cond (chosen (output (s .phase) ∷ false ∷ true ∷ []) false (s .params .locking)) Lit Dark
+  pub locking : s .lock ≡ false → order s (LockDevice true) .phase ≡ cond (getD (output (s .phase) ∷ false ∷ true ∷ []) (s .params .locking) false) Lit Dark
   -- "Unlock, when locked: a standing force decides the phase; otherwise BehaviourAtUnlocking, by set on or set off ("keep" sets the present
   -- output)"
   pub unlocking : s .lock ≡ true → s .force ≡ Free →
-      order s (LockDevice false) .phase ≡ setTo s (chosen (output (s .phase) ∷ false ∷ true ∷ s .atlocking ∷ []) false (s .params .unlocking))
+      order s (LockDevice false) .phase ≡ setTo s (getD (output (s .phase) ∷ false ∷ true ∷ s .atlocking ∷ []) (s .params .unlocking) false)
   -- "Bus failure from up, return from bus down: the link changes; then the mode, unless lock or force stands. Keep leaves phase and timers
   -- running."
-  pub busfailure : s .link ≡ Up → NothingHolds s → order s (Bus Failure) .phase ≡ chosen (s .phase ∷ Dark ∷ setTo s true ∷ []) Dark (s .params .busfailure)
-  pub busreturn : s .link ≡ BusDown → NothingHolds s → order s (Bus Return) .phase ≡ chosen (s .phase ∷ Dark ∷ setTo s true ∷ []) Dark (s .params .busreturn)
-  pub busheld : (event : Event) → (s .lock ≡ true) ⊎ (s .force ≡ Free → ⊥) → order s (Bus event) .phase ≡ s .phase
+  pub busfailure : s .link ≡ Up → NothingHolds s → order s (Bus Failure) .phase ≡ getD (s .phase ∷ Dark ∷ setTo s true ∷ []) (s .params .busfailure) Dark
+  pub busreturn : s .link ≡ BusDown → NothingHolds s → order s (Bus Return) .phase ≡ getD (s .phase ∷ Dark ∷ setTo s true ∷ []) (s .params .busreturn) Dark
+  pub busheld : (event : Event) → Held (s .lock) (s .force) → order s (Bus event) .phase ≡ s .phase
   -- "Power return from power down: link up, set on or set off by mode."
-  pub powerreturn : s .link ≡ PowerDown → NothingHolds s → order s (Power Return) .phase ≡ setTo s (chosen (s .atfailure ∷ false ∷ true ∷ []) false (s .params .powerreturn))
+  pub powerreturn : s .link ≡ PowerDown → NothingHolds s → order s (Power Return) .phase ≡ setTo s (getD (s .atfailure ∷ false ∷ true ∷ []) (s .params .powerreturn) false)
 
 -- ---- what the other orders make of the phase
 

@@ -1,4 +1,9 @@
-use borrow.Author.Tests.{ne-eqb}
+use Prim.Native.Nat.{_≤_}
+use mathlib.Core.Path.{_≡_}
+use native.Mathlib.Omega.{arith}
+use borrow.Author.Tests.{leb-true}
+use Rattle.rules.specs.Inputs.{kind}
+use Rattle.rules.proofs.Laws.Inputs.{kind-range}
 use Rattle.orders.specs.Lights.{asks}
 use borrow.Author.Needs.{needs}
 use Rattle.orders.proofs.asked.Statement.{statement}
@@ -16,9 +21,13 @@ returns-3 : tie.Need-returns-3
 unfolding asks
 returns-3 c = simp (c .scene-asks .ensures, c .before .scene-in .ensures, c .before .before .is-lesson .ensures, c .before .before .before .match .keys3, ← c .before .before .before .before .kind-of .ensures)
 
+-- there is no other kind of order to the light
 returns-4 : tie.Need-returns-4
-unfolding asks
-returns-4 c = simp (← c .before .kind-of .ensures, ne-eqb _ _ (c .match .rest .1), ne-eqb _ _ (c .match .rest .0 .1), ne-eqb _ _ (c .match .rest .0 .0 .1))
+returns-4 c =
+    let i = c .before .before .args .i in
+    let same : c .before .kind-of .result ≡ kind i = c .before .kind-of .ensures in
+    let few : c .before .kind-of .result ≤ 3 = rw same (leb-true (kind i) 3 (c .before .before .pre)) in
+    absurd (omega (arith, few, same, kind-range i .0, c .match .rest .1, c .match .rest .0 .1, c .match .rest .0 .0 .1))
 
 pub asked-spec : {M : Type 1} → statement M
 asked-spec =

@@ -17,6 +17,7 @@ use Rattle.rules.specs.Phases.{deadline}
 use Rattle.rules.specs.Orders.{standing}
 use Rattle.rules.specs.Soundness.{soon, isDark, isLit, agrees, heldIsSteady, forceDecides, nightEnds, powerDownIsClear, sound}
 use Rattle.rules.specs.Facts.{SoundState}
+use Rattle.rules.specs.Said.{Held}
 use Rattle.base.proofs.Tests.{no, both, either}
 use Rattle.rules.proofs.Laws.Deadlines.{params-exactly-when, Within, soon-within, within-soon}
 use Rattle.rules.proofs.Laws.Scenes.{scenes-exactly-when}
@@ -48,9 +49,6 @@ lit-exactly-when phase = (by phase, λ e. rw e)
     by (Ending d) h = no h
 
 -- lock or force stands
-abbrev pub Held : Bool → Force → Type 0
-Held lock force = (lock ≡ true) ⊎ (force ≡ Free → ⊥)
-
 pub held-exactly-when : (lock : Bool) (force : Force) → ((lock || standing force) ≡ true) ↔ Held lock force
 held-exactly-when true force = (λ h. inl refl, λ h. refl)
 held-exactly-when false Free = (λ h. no h, ⊎-elim (λ e. no e) (λ stands. absurd (stands refl)))

@@ -1,4 +1,4 @@
--- The numbers, blank values and rooms that 01 names, each said once more.
+-- The numbers, blank values and the fresh state that 01 names, each said once more.
 use mathlib.Core.Bool.{true, false}
 use mathlib.Core.List.{List, [], _∷_, map}
 use mathlib.Core.Logic.{_↔_}
@@ -7,6 +7,9 @@ use Rattle.octets.specs.BigEndian.{octets32}
 use Rattle.base.specs.declared.refusal.Refusal.the-variants.{WrongLength, WrongVersion, WrongActuators, WrongLayout, BadParameter, BadInput, BadStamp, ShortBuffer, UnsoundState}
 use Rattle.rules.specs.declared.parameters.Params.{Params}
 use Rattle.rules.specs.declared.parameters.Scene.{Scene}
+use Rattle.rules.specs.declared.phase.Phase.the-variants.{Dark}
+use Rattle.rules.specs.declared.input.Force.the-variants.{Free}
+use Rattle.rules.specs.declared.state.State.{State}
 use Rattle.rules.specs.declared.state.Link.{Link}
 use Rattle.rules.specs.declared.state.Link.the-variants.{Up, BusDown, PowerDown}
 use Rattle.base.specs.Refusals.{number}
@@ -32,10 +35,11 @@ pub the-least-parameters-in-octets : parametersOctets leastParams noScenes ≡
 unfolding leastParams noScenes unused
 the-least-parameters-in-octets = refl
 
--- "Fresh: .. both remembered outputs off." (the rest of it shows in the first record: specs/Worked.antt)
-pub fresh-remembers-off : (p : Params) (k : List Scene) → (fresh p k .atlocking ≡ false) × (fresh p k .atfailure ≡ false)
+-- "Fresh: clock 0, Dark, link up, night off, no lock, no force, both remembered outputs off."
+pub fresh-in-words : (p : Params) (k : List Scene) → let s : State = fresh p k in
+    (s .clock ≡ 0) × (s .phase ≡ Dark) × (s .link ≡ Up) × (s .night ≡ false) × (s .lock ≡ false) × (s .force ≡ Free) × (s .atlocking ≡ false) × (s .atfailure ≡ false)
 unfolding fresh
-fresh-remembers-off p k = (refl, refl)
+fresh-in-words p k = (refl, refl, refl, refl, refl, refl, refl, refl)
 
 -- "link (up, bus down, power down)": which of the three stops what the rows name
 pub power-down-exactly-when : (link : Link) → (powerDown link ≡ true) ↔ (link ≡ PowerDown)

@@ -5,6 +5,7 @@ use mathlib.Core.List.{[], _∷_}
 use mathlib.Core.Logic.{_⊎_, inl, inr}
 use mathlib.Core.Path.{_≡_, refl, _∙_, ap}
 use native.Mathlib.Omega.{arith}
+use lib.ListN.{getD}
 use lib.Dec.{eqb}
 use borrow.Author.Tests.{eq-eqb, ne-eqb}
 use Rattle.rules.specs.declared.parameters.Params.{Params}
@@ -19,7 +20,7 @@ use Rattle.rules.specs.declared.state.Link.the-variants.{Up, BusDown, Po
 use Rattle.rules.specs.declared.state.State.{State}
 use Rattle.rules.specs.Phases.{output, litAt, setOn}
 use Rattle.rules.specs.Orders.{timedStart, off, timedStop, nightFalls, withLock, withLink, held, settle, plain, byMode, locked, unlockingOutput, unlocked, lockDevice, busMode, bus, powerReturns, power, order}
-use Rattle.rules.specs.Said.{chosen, setTo, NothingHolds, ModesSet, runsTimed, TimedOrders, NightFalls}
+use Rattle.rules.specs.Said.{setTo, NothingHolds, ModesSet, runsTimed, TimedOrders, NightFalls}
 use Rattle.rules.specs.Facts.{ParamsFit}
 use Rattle.base.specs.Time.{earlier}
 use Rattle.base.proofs.Tests.{no, by-order}
@@ -28,7 +29,7 @@ use Rattle.rules.proofs.Laws.Facts.{held-exactly-when}
 -- ---- modes
 
 -- "0 keep, 1 off, 2 on"
-by-mode : (mode : ℕ) (kept : Bool) → mode ≤ 2 → byMode mode kept ≡ chosen (kept ∷ false ∷ true ∷ []) false mode
+by-mode : (mode : ℕ) (kept : Bool) → mode ≤ 2 → byMode mode kept ≡ getD (kept ∷ false ∷ true ∷ []) mode false
 unfolding byMode
 by-mode zero kept few = refl
 by-mode (suc zero) kept few = refl
@@ -48,7 +49,7 @@ plain-is : (on : Bool) → plain on ≡ cond on Lit Dark
 plain-is true = refl
 plain-is false = refl
 
-unlocking-sets : (mode : ℕ) (kept before : Bool) → mode ≤ 3 → cond (eqb mode 3) before (byMode mode kept) ≡ chosen (kept ∷ false ∷ true ∷ before ∷ []) false mode
+unlocking-sets : (mode : ℕ) (kept before : Bool) → mode ≤ 3 → cond (eqb mode 3) before (byMode mode kept) ≡ getD (kept ∷ false ∷ true ∷ before ∷ []) mode false
 unfolding byMode
 unlocking-sets zero kept before few = refl
 unlocking-sets (suc zero) kept before few = refl
@@ -57,7 +58,7 @@ unlocking-sets (suc (suc (suc zero))) kept before few = refl
 unlocking-sets (suc (suc (suc (suc mode)))) kept before few = absurd (omega arith)
 
 unlock-sets : (s : State) (lock : Bool) (force : Force) → s .params .unlocking ≤ 3 → s .force ≡ force → lock ≡ true → force ≡ Free →
-    cond lock (unlocked s force) s .phase ≡ setTo s (chosen (output (s .phase) ∷ false ∷ true ∷ s .atlocking ∷ []) false (s .params .unlocking))
+    cond lock (unlocked s force) s .phase ≡ setTo s (getD (output (s .phase) ∷ false ∷ true ∷ s .atlocking ∷ []) (s .params .unlocking) false)
 unfolding unlocked unlockingOutput
 unlock-sets s false force few same stood free = no stood
 unlock-sets s true Off few same stood free = no cc
@@ -70,7 +71,7 @@ nothing-is-unheld : (s : State) → NothingHolds s → held s ≡ false
 unfolding held
 nothing-is-unheld s l = rw (l .unlocked, l .unforced)
 
-bus-sets : (s : State) (mode : ℕ) → mode ≤ 2 → NothingHolds s → busMode s mode .phase ≡ chosen (s .phase ∷ Dark ∷ setTo s true ∷ []) Dark mode
+bus-sets : (s : State) (mode : ℕ) → mode ≤ 2 → NothingHolds s → busMode s mode .phase ≡ getD (s .phase ∷ Dark ∷ setTo s true ∷ []) mode Dark
 unfolding busMode
 bus-sets s zero few l = rw (nothing-is-unheld s l)
 bus-sets s (suc zero) few l = rw (nothing-is-unheld s l) (settle-sets s false l)
@@ -89,7 +90,7 @@ pub modes-set : (s : State) → ParamsFit (s .params) → ModesSet s
 unfolding order lockDevice locked bus power powerReturns
 modes-set s f =
     record {
-      locking = λ free. rw (free, by-mode (s .params .locking) (output (s .phase)) (f .locking)) (plain-is (chosen (output (s .phase) ∷ false ∷ true ∷ []) false (s .params .locking)));
+      locking = λ free. rw (free, by-mode (s .params .locking) (output (s .phase)) (f .locking)) (plain-is (getD (output (s .phase) ∷ false ∷ true ∷ []) (s .params .locking) false));
       unlocking = λ stood free. unlock-sets s (s .lock) (s .force) (f .unlocking) refl stood free;
       busfailure = λ up l. rw up (bus-sets (withLink s BusDown) (s .params .busfailure) (f .busfailure) (record { unlocked = l .unlocked; unforced = l .unforced }));
       busreturn = λ down l. rw down (bus-sets (withLink s Up) (s .params .busreturn) (f .busreturn) (record { unlocked = l .unlocked; unforced = l .unforced }));

@@ -1,9 +1,11 @@
 -- What the two status octets show, bit by bit.
 use Prim.Native.Nat.{ℕ, _+_, _*_, _/_, _%_, _≤_, _<_}
 use mathlib.Core.Bool.{Bool, true, false, cond, not}
-use mathlib.Core.Logic.{_↔_, Iff·trans}
+use mathlib.Core.Logic.{_↔_, Iff·trans, _⊎_, inl, inr, ⊎-elim}
 use mathlib.Core.Path.{_≡_, refl, sym}
 use native.Mathlib.Omega.{arith}
+use Rattle.rules.specs.declared.phase.Phase.{Phase}
+use Rattle.rules.specs.declared.phase.Phase.the-variants.{Dark, Lit, Starting, Timed, Warning, Ending}
 use Rattle.rules.specs.declared.state.State.{State}
 use Rattle.rules.specs.Phases.{output}
 use Rattle.rules.specs.Orders.{standing}
@@ -47,6 +49,17 @@ not-exactly : (b : Bool) → (not b ≡ false) ↔ (b ≡ true)
 not-exactly true = (λ h. refl, λ h. refl)
 not-exactly false = (λ h. no (sym h), λ h. no h)
 
+staircase-exactly-when : (phase : Phase) → (staircase phase ≡ true) ↔ ((d : ℕ) × ((phase ≡ Timed d) ⊎ (phase ≡ Warning d)))
+staircase-exactly-when phase = (by phase, λ f. ⊎-elim (λ e. rw e) (λ e. rw e) (f .1))
+  where
+    by : (x : Phase) → staircase x ≡ true → (d : ℕ) × ((x ≡ Timed d) ⊎ (x ≡ Warning d))
+    by Dark h = no h
+    by Lit h = no h
+    by (Starting timed d) h = no h
+    by (Timed d) h = (d, inl refl)
+    by (Warning d) h = (d, inr refl)
+    by (Ending d) h = no h
+
 pub status-shows : (s : State) → StatusShows s
 status-shows s =
     let bits = bits-of (not (powerDown (s .link))) (s .lock) (standing (s .force)) (s .night) (staircase (s .phase)) (attributes s) (unfold attributes in refl) in
@@ -58,6 +71,6 @@ status-shows s =
       locked = shows (s .lock) 1 _ (omega arith) (bits .1) .0;
       forced = Iff·trans (shows (standing (s .force)) 1 _ (omega arith) (bits .2) .1) (none-stands-exactly-when (s .force));
       night = shows (s .night) 1 _ (omega arith) (bits .3) .0;
-      staircase = shows (staircase (s .phase)) 1 _ (omega arith) (bits .4) .0;
+      staircase = Iff·trans (shows (staircase (s .phase)) 1 _ (omega arith) (bits .4) .0) (staircase-exactly-when (s .phase));
       five-bits = bits .5;
     }

@@ -1,5 +1,5 @@
 -- The public calls: from a sound state they return a sound one, they refuse exactly when the table says, and a refusal changes nothing.
-use Prim.Native.Nat.{ℕ, _-_, _≤_, _<_}
+use Prim.Native.Nat.{ℕ, _-_, _<_}
 use mathlib.Core.Bool.{Bool, true, false, cond}
 use mathlib.Core.List.{List, [], _++_}
 use mathlib.Core.Logic.{_↔_}
@@ -18,7 +18,6 @@ use Rattle.base.specs.declared.refusal.Check.{Check}
 use Rattle.base.specs.declared.refusal.Check.the-variants.{Passed, Refused}
 use Rattle.rules.specs.declared.call.Single.{Single}
 use Rattle.rules.specs.declared.call.Move.{Move}
-use Rattle.base.specs.Time.{lastStamp}
 use Rattle.rules.specs.Inputs.{stampAt, inputAt}
 use Rattle.rules.specs.Steps.{clockMove, step}
 use Rattle.rules.specs.Soundness.{sound}
