@@ -25,8 +25,7 @@ differ "the inner functions with a condition differ from those of PROMISES" \
     "$(diff <(awk '/^pub fn /{ split($3, word, "("); name = word[1] } /^(pub\(crate\) )?fn /{ name = "" }
             /^ *requires/{ if (name != "") { file = FILENAME; sub("^crates/", "", file); sub("/src/", "::", file); sub("[.]rt$", "", file); sub("::lib$", "", file); print file "::" name } }' \
             crates/*/src/*.rt | sort -u) \
-        <(sed -n '/^### Inner functions/,/^## /p' docs/PROMISES.md | grep '^|' | grep -oE '`[a-z]+(::[a-z0-9_]+)+`' | tr -d '`' |
-            grep -vE '^(cues::check|parameters::read::check|house|live)' | sort -u))"
+        <(sed -n '/^### Inner functions/,/^## /p' docs/PROMISES.md | grep '^|' | cut -d'|' -f3 | grep -oE '`[a-z]+(::[a-z0-9_]+)+`' | tr -d '`' | sort -u))"
 
 # Contracts cite definitions, never a proof.
 differ "a contract cites a proof" "$(grep -nE '^ghost use .*[.·]proofs' crates/*/src/*.rt)"
