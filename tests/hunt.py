@@ -4,18 +4,21 @@
     tests/hunt.py OUT [--specs CRATE ..] [--only TEXT] [--again] [--ask CRATE] [--workers N] [--list]
 
 Not a part of the gate: a check takes seconds, and there are hundreds of sites. A line is added to the file OUT for each site as
-it is decided, and a site that stands there already is not tried again, so the hunt may be stopped and started at will.
+it is decided, and a site that stands there already is not tried again, so the hunt may be stopped and started at will. A whole hunt:
+
+    tests/hunt.py OUT --specs rules base octets
+    tests/hunt.py OUT --again --ask demands        what survived, once more: the theorems of the crate on top may notice
 
     --specs CRATE ..  whose definitions to change: rules (as it stands), base, octets, demands
     --only TEXT       only sites whose line of output has this text in it (a file, a definition, a change)
-    --again           only what survived: those sites are tried anew, for there may be new theorems
+    --again           only what survived: those sites are tried anew
     --ask CRATE       ask about this crate (as it stands: rules, and demands for its own definitions)
     --workers N       that many at once, each in its own copy
     --list            print the sites and ask nothing
 
-Outcomes: `refused` (with the first theorem that fails), `survived`, `ill-formed` (the changed definition has no meaning: not a
-site), `unsure` (no verdict). The code is left out of the copies, since a definition might be changed with its code: what is
-asked is whether the theorems pin it."""
+Outcomes: `refused` (with the first theorem whose proof fails), `survived`, `ill-formed` (the changed definition has no meaning: not
+a site), `unsure` (no verdict). A proof may fail where its theorem still holds, so `survived` is sure and `refused` is a strong hint.
+The code is left out of the copies, since a definition might be changed with its code: what is asked is whether theorems pin it."""
 import argparse, collections, concurrent.futures, hashlib, os, queue, re, shutil, subprocess, sys, tempfile
 
 ROOT = os.path.dirname(os.path.dirname(os.path.abspath(__file__)))
@@ -123,16 +126,11 @@ def changes(body, tokens, i):
             yield a, d, body[c:d] + body[b:c] + body[a:b]
 
 
-def spelt(name):
-    """A name as a `use` line has it."""
-    return name if re.match(r'\w', name) else '_' + name + '_'
-
-
 def imported(text, old, new):
     """The text with `new` added to the `use` line that brings `old`, if no line brings it."""
-    names = {x: re.compile(r'(?m)^(use .*[{ ])(' + re.escape(spelt(x)) + r')(?=[,}])') for x in (old, new)}
-    if names[new].search(text): return text
-    return names[old].sub(lambda m: m.group(1) + spelt(new) + ', ' + m.group(2), text, count=1)
+    old, new = (x if re.match(r'\w', x) else '_%s_' % x for x in (old, new))  # as a `use` line has them
+    brings = lambda x: re.compile(r'(?m)^(use .*[{ ])(' + re.escape(x) + r')(?=[,}])')
+    return text if brings(new).search(text) else brings(old).sub(lambda m: m.group(1) + new + ', ' + m.group(2), text, count=1)
 
 
 def sites(path):
