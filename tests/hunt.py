@@ -1,5 +1,5 @@
 #!/usr/bin/env python3
-"""The hunt: changes one token of a definition at a time and asks the prover whether any theorem notices.
+"""The hunt: changes one token of a definition, or the body of one clause, at a time and asks the prover whether any theorem notices.
 
     tests/hunt.py OUT [--specs CRATE ..] [--only TEXT] [--again] [--ask CRATE] [--workers N] [--list]
 
@@ -133,23 +133,33 @@ def imported(text, old, new):
     return text if brings(new).search(text) else brings(old).sub(lambda m: m.group(1) + new + ', ' + m.group(2), text, count=1)
 
 
+def following(plain, clauses, name, head):
+    """The body of the clause after this one, of the same definition (the first, after the last)."""
+    own = [(h, plain[a:b].rstrip()) for n, h, a, b in clauses if n == name and h.split()[0] == name]
+    heads = [h for h, _ in own]
+    return [own[(heads.index(head) + 1) % len(own)][1]] if head in heads and len(own) > 1 else []
+
+
 def sites(path):
     text = open(os.path.join(ROOT, path)).read()
     plain = uncommented(text)
     seen = set()
-    for name, head, start, end in bodies(plain):
+    clauses = list(bodies(plain))
+    for name, head, start, end in clauses:
         body = plain[start:end]
         tokens = [Token(m.group(), m.start(), m.end()) for m in TOKEN.finditer(body)]
-        for i, token in enumerate(tokens):
-            for a, b, new in changes(body, tokens, i):
-                place = (start + a, start + b, new)
-                if place in seen: continue
-                seen.add(place)
-                changed = text[:start + a] + new + text[start + b:]
-                if new in OTHERS and new[0] != '.': changed = imported(changed, token.text, new)
-                # the same site of the same definition has the same key, wherever it stands in its file
-                key = hashlib.sha1(repr((path, head.split(), body.split(), len(body[:a].split()), i, new)).encode()).hexdigest()[:10]
-                yield Site(path, text.count('\n', 0, start + a) + 1, name, ' '.join(body[a:b].split()), ' '.join(new.split()) or 'nothing', changed, key)
+        found = [(i, change) for i in range(len(tokens)) for change in changes(body, tokens, i)]
+        # and the whole body for that of the definition's next clause
+        found += [(0, (0, len(body.rstrip()), other)) for other in following(plain, clauses, name, head) if other != body.rstrip()]
+        for i, (a, b, new) in found:
+            place = (start + a, start + b, new)
+            if place in seen: continue
+            seen.add(place)
+            changed = text[:start + a] + new + text[start + b:]
+            if new in OTHERS and new[0] != '.': changed = imported(changed, tokens[i].text, new)
+            # the same site of the same definition has the same key, wherever it stands in its file
+            key = hashlib.sha1(repr((path, head.split(), body.split(), len(body[:a].split()), i, new)).encode()).hexdigest()[:10]
+            yield Site(path, text.count('\n', 0, start + a) + 1, name, ' '.join(body[a:b].split()), ' '.join(new.split()) or 'nothing', changed, key)
 
 
 def described(s):
