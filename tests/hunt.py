@@ -1,21 +1,24 @@
 #!/usr/bin/env python3
-"""The hunt: changes one token of a definition at a time and asks the prover whether any theorem notices.
+"""The hunt: changes one token of a definition, or the body of one clause, at a time and asks the prover whether any theorem notices.
 
     tests/hunt.py OUT [--specs CRATE ..] [--only TEXT] [--again] [--ask CRATE] [--workers N] [--list]
 
 Not a part of the gate: a check takes seconds, and there are hundreds of sites. A line is added to the file OUT for each site as
-it is decided, and a site that stands there already is not tried again, so the hunt may be stopped and started at will.
+it is decided, and a site that stands there already is not tried again, so the hunt may be stopped and started at will. A whole hunt:
+
+    tests/hunt.py OUT --specs rules base octets
+    tests/hunt.py OUT --again --ask demands        what survived, once more: the theorems of the crate on top may notice
 
     --specs CRATE ..  whose definitions to change: rules (as it stands), base, octets, demands
     --only TEXT       only sites whose line of output has this text in it (a file, a definition, a change)
-    --again           only what survived: those sites are tried anew, for there may be new theorems
+    --again           only what survived: those sites are tried anew
     --ask CRATE       ask about this crate (as it stands: rules, and demands for its own definitions)
     --workers N       that many at once, each in its own copy
     --list            print the sites and ask nothing
 
-Outcomes: `refused` (with the first theorem that fails), `survived`, `ill-formed` (the changed definition has no meaning: not a
-site), `unsure` (no verdict). The code is left out of the copies, since a definition might be changed with its code: what is
-asked is whether the theorems pin it."""
+Outcomes: `refused` (with the first theorem whose proof fails), `survived`, `ill-formed` (the changed definition has no meaning: not
+a site), `unsure` (no verdict). A proof may fail where its theorem still holds, so `survived` is sure and `refused` is a strong hint.
+The code is left out of the copies, since a definition might be changed with its code: what is asked is whether theorems pin it."""
 import argparse, collections, concurrent.futures, hashlib, os, queue, re, shutil, subprocess, sys, tempfile
 
 ROOT = os.path.dirname(os.path.dirname(os.path.abspath(__file__)))
@@ -123,35 +126,40 @@ def changes(body, tokens, i):
             yield a, d, body[c:d] + body[b:c] + body[a:b]
 
 
-def spelt(name):
-    """A name as a `use` line has it."""
-    return name if re.match(r'\w', name) else '_' + name + '_'
-
-
 def imported(text, old, new):
     """The text with `new` added to the `use` line that brings `old`, if no line brings it."""
-    names = {x: re.compile(r'(?m)^(use .*[{ ])(' + re.escape(spelt(x)) + r')(?=[,}])') for x in (old, new)}
-    if names[new].search(text): return text
-    return names[old].sub(lambda m: m.group(1) + spelt(new) + ', ' + m.group(2), text, count=1)
+    old, new = (x if re.match(r'\w', x) else '_%s_' % x for x in (old, new))  # as a `use` line has them
+    brings = lambda x: re.compile(r'(?m)^(use .*[{ ])(' + re.escape(x) + r')(?=[,}])')
+    return text if brings(new).search(text) else brings(old).sub(lambda m: m.group(1) + new + ', ' + m.group(2), text, count=1)
+
+
+def following(plain, clauses, name, head):
+    """The body of the clause after this one, of the same definition (the first, after the last)."""
+    own = [(h, plain[a:b].rstrip()) for n, h, a, b in clauses if n == name and h.split()[0] == name]
+    heads = [h for h, _ in own]
+    return [own[(heads.index(head) + 1) % len(own)][1]] if head in heads and len(own) > 1 else []
 
 
 def sites(path):
     text = open(os.path.join(ROOT, path)).read()
     plain = uncommented(text)
     seen = set()
-    for name, head, start, end in bodies(plain):
+    clauses = list(bodies(plain))
+    for name, head, start, end in clauses:
         body = plain[start:end]
         tokens = [Token(m.group(), m.start(), m.end()) for m in TOKEN.finditer(body)]
-        for i, token in enumerate(tokens):
-            for a, b, new in changes(body, tokens, i):
-                place = (start + a, start + b, new)
-                if place in seen: continue
-                seen.add(place)
-                changed = text[:start + a] + new + text[start + b:]
-                if new in OTHERS and new[0] != '.': changed = imported(changed, token.text, new)
-                # the same site of the same definition has the same key, wherever it stands in its file
-                key = hashlib.sha1(repr((path, head.split(), body.split(), len(body[:a].split()), i, new)).encode()).hexdigest()[:10]
-                yield Site(path, text.count('\n', 0, start + a) + 1, name, ' '.join(body[a:b].split()), ' '.join(new.split()) or 'nothing', changed, key)
+        found = [(i, change) for i in range(len(tokens)) for change in changes(body, tokens, i)]
+        # and the whole body for that of the definition's next clause
+        found += [(0, (0, len(body.rstrip()), other)) for other in following(plain, clauses, name, head) if other != body.rstrip()]
+        for i, (a, b, new) in found:
+            place = (start + a, start + b, new)
+            if place in seen: continue
+            seen.add(place)
+            changed = text[:start + a] + new + text[start + b:]
+            if new in OTHERS and new[0] != '.': changed = imported(changed, tokens[i].text, new)
+            # the same site of the same definition has the same key, wherever it stands in its file
+            key = hashlib.sha1(repr((path, head.split(), body.split(), len(body[:a].split()), i, new)).encode()).hexdigest()[:10]
+            yield Site(path, text.count('\n', 0, start + a) + 1, name, ' '.join(body[a:b].split()), ' '.join(new.split()) or 'nothing', changed, key)
 
 
 def described(s):

@@ -129,6 +129,25 @@ pub record ModesSet (s : State) : Type 0 where
 
 -- ---- what the other orders make of the phase
 
+-- "Ending until the earlier of .. and .."
+pub record EndsAtEarlier (a b : ℕ) (phase : Phase) : Type 0 where
+  pub until : ℕ
+  pub ending : phase ≡ Ending until
+  pub not-after-a : until ≤ a
+  pub not-after-b : until ≤ b
+  pub one-of-them : (until ≡ a) ⊎ (until ≡ b)
+
+-- "Off: Dark stays; Starting becomes Dark. Lit: Ending until t+OffDelay. Timed with deadline d: Ending until the earlier of t+OffDelay and
+-- d+Prewarning. Warning or Ending: Ending until the earlier of t+OffDelay and d. With OffDelay 0 the result is Dark."
+pub record OffOrders (p : Params) (t : ℕ) : Type 0 where
+  pub at-once : p .offdelay ≡ 0 → (phase : Phase) → off p t phase ≡ Dark
+  pub dark : off p t Dark ≡ Dark
+  pub starting : (timed : Bool) (d : ℕ) → off p t (Starting timed d) ≡ Dark
+  pub lit : (p .offdelay ≡ 0 → ⊥) → off p t Lit ≡ Ending (t + p .offdelay)
+  pub timed : (p .offdelay ≡ 0 → ⊥) → (d : ℕ) → EndsAtEarlier (t + p .offdelay) (d + p .prewarning) (off p t (Timed d))
+  pub warning : (p .offdelay ≡ 0 → ⊥) → (d : ℕ) → EndsAtEarlier (t + p .offdelay) d (off p t (Warning d))
+  pub ending : (p .offdelay ≡ 0 → ⊥) → (d : ℕ) → EndsAtEarlier (t + p .offdelay) d (off p t (Ending d))
+
 -- "Timed, Warning and timed Starting"
 abbrev pub runsTimed : Phase → Bool
 runsTimed Dark = false
@@ -147,14 +166,6 @@ pub record TimedOrders (p : Params) (t : ℕ) : Type 0 where
   pub lit : (phase : Phase) → output phase ≡ true → timedStart p t phase ≡ Timed (t + p .timedon)
   pub stop : (phase : Phase) → runsTimed phase ≡ true → timedStop p t phase ≡ off p t phase
   pub no-stop : (phase : Phase) → runsTimed phase ≡ false → timedStop p t phase ≡ phase
-
--- "Ending until the earlier of .. and .."
-pub record EndsAtEarlier (a b : ℕ) (phase : Phase) : Type 0 where
-  pub until : ℕ
-  pub ending : phase ≡ Ending until
-  pub not-after-a : until ≤ a
-  pub not-after-b : until ≤ b
-  pub one-of-them : (until ≡ a) ⊎ (until ≡ b)
 
 -- "Lit becomes Timed until t+TimedOn; Ending until the earlier of d and t+TimedOn+Prewarning", and nothing else changes
 pub record NightFalls (p : Params) (t : ℕ) : Type 0 where

@@ -1,4 +1,4 @@
--- What each mode sets, and what timed orders and nightfall make of a phase, in 01's words.
+-- What each mode sets, and what Off, timed orders and nightfall make of a phase, in 01's words.
 use Prim.Native.Nat.{ℕ, zero, suc, _+_, _≤_}
 use mathlib.Core.Bool.{Bool, true, false, cond, _&&_}
 use mathlib.Core.List.{[], _∷_}
@@ -19,11 +19,11 @@ use Rattle.rules.specs.declared.state.Link.{Link}
 use Rattle.rules.specs.declared.state.Link.the-variants.{Up, BusDown, PowerDown}
 use Rattle.rules.specs.declared.state.State.{State}
 use Rattle.rules.specs.Phases.{output, litAt, setOn}
-use Rattle.rules.specs.Orders.{timedStart, off, timedStop, nightFalls, withLock, withLink, held, settle, plain, byMode, locked, unlockingOutput, unlocked, lockDevice, busMode, bus, powerReturns, power, order}
-use Rattle.rules.specs.Said.{setTo, NothingHolds, ModesSet, runsTimed, TimedOrders, NightFalls}
+use Rattle.rules.specs.Orders.{timedStart, offAfterDelay, off, timedStop, nightFalls, withLock, withLink, held, settle, plain, byMode, locked, unlockingOutput, unlocked, lockDevice, busMode, bus, powerReturns, power, order}
+use Rattle.rules.specs.Said.{setTo, NothingHolds, ModesSet, runsTimed, EndsAtEarlier, OffOrders, TimedOrders, NightFalls}
 use Rattle.rules.specs.Facts.{ParamsFit}
 use Rattle.base.specs.Time.{earlier}
-use Rattle.base.proofs.Tests.{no, by-order}
+use Rattle.base.proofs.Tests.{no, either-way, by-order}
 use Rattle.rules.proofs.Laws.Facts.{held-exactly-when}
 
 -- ---- modes
@@ -98,7 +98,7 @@ modes-set s f =
       powerreturn = λ down l. rw down (settle-sets (withLink s Up) _ (record { unlocked = l .unlocked; unforced = l .unforced }) ∙ ap (setTo s) (by-mode (s .params .powerreturn) (s .atfailure) (f .powerreturn)));
     }
 
--- ---- timed orders and nightfall
+-- ---- timed orders
 
 lit-is-timed : (p : Params) (t : ℕ) (phase : Phase) → output phase ≡ true → timedStart p t phase ≡ Timed (t + p .timedon)
 unfolding timedStart
@@ -130,15 +130,33 @@ timed-orders p t =
       no-stop = λ phase idle. stop-is-off p t phase ∙ rw idle;
     }
 
-earlier-is : (a b until : ℕ) → until ≡ earlier a b → (until ≤ a) × (until ≤ b) × ((until ≡ a) ⊎ (until ≡ b))
-earlier-is a b until e = by-order a b (λ first. (omega arith, omega arith, inl (omega arith))) (λ second. (omega arith, omega arith, inr (omega arith)))
+-- ---- Off and nightfall: "the earlier of"
+
+ends-at-earlier : (a b : ℕ) → EndsAtEarlier a b (Ending (earlier a b))
+ends-at-earlier a b =
+    by-order a b
+    (λ first. record { until = earlier a b; ending = refl; not-after-a = omega arith; not-after-b = omega arith; one-of-them = inl (omega arith) })
+    (λ second. record { until = earlier a b; ending = refl; not-after-a = omega arith; not-after-b = omega arith; one-of-them = inr (omega arith) })
+
+pub off-orders : (p : Params) (t : ℕ) → OffOrders p t
+unfolding off offAfterDelay
+off-orders p t =
+    record {
+      at-once = λ none phase. rw (eq-eqb (p .offdelay) 0 none);
+      dark = either-way (λ (x : Phase). x ≡ Dark) (eqb (p .offdelay) 0) _ _ refl refl;
+      starting = λ timed d. either-way (λ (x : Phase). x ≡ Dark) (eqb (p .offdelay) 0) _ _ refl refl;
+      lit = λ some. rw (ne-eqb (p .offdelay) 0 some);
+      timed = λ some d. rw (ne-eqb (p .offdelay) 0 some) (ends-at-earlier (t + p .offdelay) (d + p .prewarning));
+      warning = λ some d. rw (ne-eqb (p .offdelay) 0 some) (ends-at-earlier (t + p .offdelay) d);
+      ending = λ some d. rw (ne-eqb (p .offdelay) 0 some) (ends-at-earlier (t + p .offdelay) d);
+    }
 
 pub night-falls : (p : Params) (t : ℕ) → NightFalls p t
 unfolding nightFalls
 night-falls p t =
     record {
       lit = refl;
-      ending = λ d. let e = earlier-is d (t + p .timedon + p .prewarning) _ refl in record { until = _; ending = refl; not-after-a = e .0; not-after-b = e .1; one-of-them = e .2 };
+      ending = λ d. ends-at-earlier d (t + p .timedon + p .prewarning);
       dark = refl;
       starting = λ timed d. refl;
       timed = λ d. refl;
