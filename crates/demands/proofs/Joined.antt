@@ -23,7 +23,7 @@ use Rattle.rules.specs.Lists.{Cue, andThen, moved, stepped, plays, playsTo, pla
 use Rattle.base.specs.Refusals.{stampInRange}
 use Rattle.rules.specs.Calls.{freshBy, freshCall, singleDone, singleCall, moveDone, moveCall}
 use Rattle.rules.specs.Layout.{inputPlace}
-use Rattle.rules.specs.Files.{cues, inputCount, endTime, parametersIn, readInputs, readFile, roomy}
+use Rattle.rules.specs.Files.{cues, inputCount, endTime, parametersIn, readInputs, readFile, lentEnough}
 use Rattle.rules.specs.Runs.{playFile, accepted, runCall}
 use Rattle.rules.proofs.Laws.Inputs.{input-number}
 use Rattle.rules.proofs.Laws.Soundness.{step-is-sound, step-clock}
@@ -128,7 +128,7 @@ file-is-the-calls-joined file list small read =
     }
 
 -- the accepted run, whole: report and both buffers are those of the calls
-pub run-is-the-calls-joined : (file records answers : List ℕ) (list : List Cue) → ((i : ℕ) → octet file i < 256) → readFile file ≡ cues list → roomy file records answers ≡ true →
+pub run-is-the-calls-joined : (file records answers : List ℕ) (list : List Cue) → ((i : ℕ) → octet file i < 256) → readFile file ≡ cues list → lentEnough file records answers ≡ true →
     runCall file records answers ≡ accepted (callsOf file) records answers
 run-is-the-calls-joined file records answers list small read room =
     a-good-file-is-played file records answers list read room ∙ ap (λ p. accepted p records answers) (file-is-the-calls-joined file list small read .joined)

@@ -21,7 +21,7 @@ use Rattle.rules.specs.Steps.{fresh, ticked, clockMove, step}
 use Rattle.rules.specs.Lists.{Cue, cue, Played, plays, playsTo}
 use Rattle.base.specs.Refusals.{number, codeOf, placeOf}
 use Rattle.rules.specs.Calls.{singleDone, singleRefused, singleCall}
-use Rattle.rules.specs.Files.{Reading, cues, bad, inputCount, endTime, parametersIn, readFile, roomy, ifRoomy, readCall, verdict}
+use Rattle.rules.specs.Files.{Reading, cues, bad, inputCount, endTime, parametersIn, readFile, lentEnough, ifLentEnough, readCall, verdict}
 use Rattle.octets.specs.BigEndian.{octets32}
 use Rattle.octets.proofs.BothWays.{what-is-written-is-read}
 use Rattle.rules.specs.Runs.{recordOctets, recordsOctets, over, Whole, playFile, accepted, refused, runBy, runCall}
@@ -109,11 +109,11 @@ our-single-input-meets-demand-1 = record { numbered = our-single-input-is-number
 
 module _ (file records answers : List ℕ) (list : List Cue) (read : readCall file records answers ≡ cues list) where
   -- the file is accepted, and there is room
-  call-accepted : (readFile file ≡ cues list) × (roomy file records answers ≡ true)
+  call-accepted : (readFile file ≡ cues list) × (lentEnough file records answers ≡ true)
   unfolding readCall
-  call-accepted = by (roomy file records answers) (readFile file) read
+  call-accepted = by (lentEnough file records answers) (readFile file) read
     where
-      by : (b : Bool) (x : Reading) → ifRoomy b x ≡ cues list → (x ≡ cues list) × (b ≡ true)
+      by : (b : Bool) (x : Reading) → ifLentEnough b x ≡ cues list → (x ≡ cues list) × (b ≡ true)
       by true x e = (e, refl)
       by false (cues list) e = absurd (let z : _≡_ {A = ℕ} 0 1 = cc in omega arith)
       by false (bad why place) e = absurd (let z : _≡_ {A = ℕ} 0 1 = cc in omega arith)
@@ -127,7 +127,7 @@ module _ (file records answers : List ℕ) (list : List Cue) (read : readCall fi
 
   -- three records for each input and three more fit into the buffer that is asked for, and so does an answer for each
   our-run-fits : (length (recordsOctets (playFile file list .records)) ≤ length records) × (length (playFile file list .answers) ≤ length answers)
-  unfolding roomy accepted
+  unfolding lentEnough accepted
   our-run-fits =
       let e = call-accepted in
       let room = both (leb (8 * (3 * inputCount file + 3)) (length records)) (leb (inputCount file) (length answers)) (e .1) in

@@ -23,7 +23,7 @@ use Rattle.rules.specs.Status.{value, recordOf}
 use Rattle.rules.specs.Steps.{fresh, tickAt, tick, ticked, clockMove, taken, meet, act, step}
 use Rattle.rules.specs.Lists.{Cue, Played, plays, playsTo, playList}
 use Rattle.rules.specs.Calls.{leastParams, unused, noScenes}
-use Rattle.rules.specs.Files.{cues, endTime, parametersIn, layoutRight, readOne, readInputs, readFile, roomy, readCall}
+use Rattle.rules.specs.Files.{cues, endTime, parametersIn, layoutRight, readOne, readInputs, readFile, lentEnough, readCall}
 use Rattle.rules.specs.Runs.{recordsOctets, over, playFile, accepted, runCall}
 use Rattle.rules.specs.Promises.{turns, upTo, stateAt, Taken, NightRules, DarkDue, LightDue, shownAt, DarkShown, LitRecord, shownBefore, LightStamped}
 use Rattle.demands.specs.Demands.{Model, StaysWithin, Judges, PlaysAll, CountsChanges, recordsOf, Keeps, KeepsDark, KeepsLight}
@@ -79,7 +79,7 @@ ends-at-20 n inputs = refl
 
 -- what is opened to read them
 reading : Unit {0}
-unfolding fileOf readCall roomy readFile layoutRight parametersIn checkParameters lowestBad badOctet greatest badNumber badFlags numberAbove readInputs readOne inputAt stampAt decoded zeroOrOne
+unfolding fileOf readCall lentEnough readFile layoutRight parametersIn checkParameters lowestBad badOctet greatest badNumber badFlags numberAbove readInputs readOne inputAt stampAt decoded zeroOrOne
 reading = tt
 
 no-inputs : readCall (fileOf 0 []) room room ≡ cues []

@@ -11,7 +11,7 @@ use Rattle.base.specs.declared.refusal.Refusal.{Refusal}
 use Rattle.base.specs.declared.refusal.Refusal.the-variants.{ShortBuffer}
 use Rattle.base.specs.declared.refusal.Check.the-variants.{Passed, Refused}
 use Rattle.rules.specs.Layout.{recordsRoom}
-use Rattle.rules.specs.Files.{Reading, cues, bad, inputCount, readFile, roomy, verdict}
+use Rattle.rules.specs.Files.{Reading, cues, bad, inputCount, readFile, lentEnough, verdict}
 use Rattle.rules.specs.Runs.{playFile, accepted, refused, runCall}
 use Rattle.base.proofs.Tests.{both}
 use Rattle.rules.proofs.Refusals.Runs.{a-bad-file-is-refused, a-short-buffer-is-refused, a-good-file-is-played}
@@ -44,12 +44,12 @@ module _ (file r a : List ℕ) where
 
   pub run-short : (n : ℕ) → n ≡ inputCount file → readFile file ≡ cues (listIn file) → (leb (recordsRoom n) (length r) && leb n (length a)) ≡ false
       → whole (refusal ShortBuffer 0) r a ≡ runCall file r a
-  unfolding roomy refused refusal
+  unfolding lentEnough refused refusal
   run-short n same read short = sym (a-short-buffer-is-refused file r a (listIn file) read (rw (← same) short))
 
   pub run-accepted : (n : ℕ) → n ≡ inputCount file → readFile file ≡ cues (listIn file) → (leb (recordsRoom n) (length r) && leb n (length a)) ≡ true
       → (e : Ended) (r₁ a₁ : List ℕ) → Filled 0 (playFile file (listIn file)) r a e r₁ a₁ → whole (report e) r₁ a₁ ≡ runCall file r a
-  unfolding roomy accepted report
+  unfolding lentEnough accepted report
   run-accepted n same read room e r₁ a₁ f =
       rw (f .state, f .count, f .records, f .answers, splice-front r, splice-front a, zero-add)
       (sym (a-good-file-is-played file r a (listIn file) read (rw (← same) room)))

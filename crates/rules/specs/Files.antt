@@ -98,14 +98,14 @@ readFile file =
 
 -- ---- the lent buffers: "records, at least 8(3n+3) octets, and answers, at least n"
 
-unfoldable pub roomy : List ℕ → List ℕ → List ℕ → Bool
-roomy file records answers = leb (recordsRoom (inputCount file)) (length records) && leb (inputCount file) (length answers)
+unfoldable pub lentEnough : List ℕ → List ℕ → List ℕ → Bool
+lentEnough file records answers = leb (recordsRoom (inputCount file)) (length records) && leb (inputCount file) (length answers)
 
 -- "then 8": "a lent buffer too short"
-abbrev pub ifRoomy : Bool → Reading → Reading
-ifRoomy true reading = reading
-ifRoomy false (cues list) = bad ShortBuffer 0
-ifRoomy false (bad why place) = bad why place
+abbrev pub ifLentEnough : Bool → Reading → Reading
+ifLentEnough true reading = reading
+ifLentEnough false (cues list) = bad ShortBuffer 0
+ifLentEnough false (bad why place) = bad why place
 
 unfoldable pub readCall : List ℕ → List ℕ → List ℕ → Reading
-readCall file records answers = ifRoomy (roomy file records answers) (readFile file)
+readCall file records answers = ifLentEnough (lentEnough file records answers) (readFile file)

@@ -86,7 +86,7 @@ scenesAfter s (Bus event) = s .scenes
 scenesAfter s (Power event) = s .scenes
 
 -- a state with these parameters, this clock, these scenes and flags
-pub record StateOf (p : Params) (t : ℕ) (k : List Scene) (f : Flags) (u : State) : Type 0 where
+pub record MadeOf (p : Params) (t : ℕ) (k : List Scene) (f : Flags) (u : State) : Type 0 where
   pub params : u .params ≡ p
   pub clock : u .clock ≡ t
   pub scenes : u .scenes ≡ k
@@ -94,7 +94,7 @@ pub record StateOf (p : Params) (t : ℕ) (k : List Scene) (f : Flags) (u : Stat
 
 -- no order changes the parameters or the clock
 abbrev pub Leaves : State → Input → State → Type 0
-Leaves s i u = StateOf (s .params) (s .clock) (scenesAfter s i) (flagsAfter s i) u
+Leaves s i u = MadeOf (s .params) (s .clock) (scenesAfter s i) (flagsAfter s i) u
 
 -- ---- what the modes set: what stands in a mode's place of its row, from 0 on; no other mode is in range (01, "Time and the cue file": "0 keep, 1 off, 2 on", "3 as before locking", "0 as before the failure, 1 off, 2 on")
 

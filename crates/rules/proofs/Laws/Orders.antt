@@ -21,12 +21,12 @@ use Rattle.rules.specs.Scenes.{recalled, learnt}
 use Rattle.rules.specs.Phases.{output}
 use Rattle.rules.specs.declared.phase.Phase.the-variants.{Dark, Lit}
 use Rattle.rules.specs.Orders.{withForce, withLink, withLock, withScenes, standing, held, settle, switch, timed, recall, learn, scene, nightMode, forced, locked, unlocked, lockDevice, busMode, bus, powerFails, powerReturns, power, order}
-use Rattle.rules.specs.Said.{Flags, flagsOf, flagsAfterPower, StateOf, Leaves}
+use Rattle.rules.specs.Said.{Flags, flagsOf, flagsAfterPower, MadeOf, Leaves}
 use Rattle.base.proofs.Tests.{no, cond-case}
 
 -- what s has, u has too, with these flags
 abbrev pub With : State → Flags → State → Type 0
-With s f u = StateOf (s .params) (s .clock) (s .scenes) f u
+With s f u = MadeOf (s .params) (s .clock) (s .scenes) f u
 
 -- nothing but the phase, if that, is changed
 same : {u : State} → With u (flagsOf u) u
@@ -59,7 +59,7 @@ learn-leaves s number = by (s .params .learning)
     taught : List Scene
     taught = learnt (s .scenes) number (output (s .phase))
 
-    by : (b : Bool) → StateOf (s .params) (s .clock) (cond b taught (s .scenes)) (flagsOf s) (cond b (withScenes s taught) s)
+    by : (b : Bool) → MadeOf (s .params) (s .clock) (cond b taught (s .scenes)) (flagsOf s) (cond b (withScenes s taught) s)
     by true = same
     by false = same
 

@@ -18,7 +18,7 @@ use Rattle.rules.specs.Steps.{fresh, step}
 use Rattle.rules.specs.Lists.{Cue, cue, plays, playsTo, playList}
 use Rattle.base.specs.Refusals.{number}
 use Rattle.rules.specs.Calls.{ownState}
-use Rattle.rules.specs.Files.{Reading, cues, bad, inputCount, endTime, parametersIn, readFile, roomy, ifRoomy, readCall}
+use Rattle.rules.specs.Files.{Reading, cues, bad, inputCount, endTime, parametersIn, readFile, lentEnough, ifLentEnough, readCall}
 use Rattle.octets.specs.BigEndian.{octets32}
 use Rattle.rules.specs.Layout.{recordsRoom}
 use Rattle.rules.specs.Refusals.{GivenWhen, GoodFile, RoomFor, RunCodes, TakenApart}
@@ -32,14 +32,14 @@ use Rattle.rules.proofs.Refusals.Files.{good-file, refused-exactly-when
 -- The first that fits: the file is at fault, a buffer is too short, or the file is played.
 pub data RunFinds (file records answers : List ℕ) : Whole → Type 0 where
   at-fault : (why : Refusal) (place : ℕ) → readFile file ≡ bad why place → RunFinds file records answers (refused why place records answers)
-  no-room : (list : List Cue) → readFile file ≡ cues list → roomy file records answers ≡ false → RunFinds file records answers (refused ShortBuffer 0 records answers)
-  played : (list : List Cue) → readFile file ≡ cues list → roomy file records answers ≡ true → RunFinds file records answers (accepted (playFile file list) records answers)
+  no-room : (list : List Cue) → readFile file ≡ cues list → lentEnough file records answers ≡ false → RunFinds file records answers (refused ShortBuffer 0 records answers)
+  played : (list : List Cue) → readFile file ≡ cues list → lentEnough file records answers ≡ true → RunFinds file records answers (accepted (playFile file list) records answers)
 
 pub run-finds : (file records answers : List ℕ) → RunFinds file records answers (runCall file records answers)
 unfolding runCall readCall
-run-finds file records answers = by (roomy file records answers) (readFile file) refl refl
+run-finds file records answers = by (lentEnough file records answers) (readFile file) refl refl
   where
-    by : (b : Bool) (x : Reading) → roomy file records answers ≡ b → readFile file ≡ x → RunFinds file records answers (runBy (ifRoomy b x) file records answers)
+    by : (b : Bool) (x : Reading) → lentEnough file records answers ≡ b → readFile file ≡ x → RunFinds file records answers (runBy (ifLentEnough b x) file records answers)
     by true (cues list) room read = unfold runBy in played list read room
     by false (cues list) room read = unfold runBy in no-room list read room
     by true (bad why place) room read = unfold runBy in at-fault why place read
@@ -49,17 +49,17 @@ run-finds file records answers = by (roomy file records answers) (readFile file)
 module _ (file records answers : List ℕ) where
   pub a-bad-file-is-refused : (why : Refusal) (place : ℕ) → readFile file ≡ bad why place → runCall file records answers ≡ refused why place records answers
   unfolding runCall readCall runBy
-  a-bad-file-is-refused why place read = rw (read, either (roomy file records answers))
+  a-bad-file-is-refused why place read = rw (read, either (lentEnough file records answers))
     where
-      either : (b : Bool) → ifRoomy b (bad why place) ≡ bad why place
+      either : (b : Bool) → ifLentEnough b (bad why place) ≡ bad why place
       either true = refl
       either false = refl
 
-  pub a-short-buffer-is-refused : (list : List Cue) → readFile file ≡ cues list → roomy file records answers ≡ false → runCall file records answers ≡ refused ShortBuffer 0 records answers
+  pub a-short-buffer-is-refused : (list : List Cue) → readFile file ≡ cues list → lentEnough file records answers ≡ false → runCall file records answers ≡ refused ShortBuffer 0 records answers
   unfolding runCall readCall runBy
   a-short-buffer-is-refused list read room = rw (read, room)
 
-  pub a-good-file-is-played : (list : List Cue) → readFile file ≡ cues list → roomy file records answers ≡ true → runCall file records answers ≡ accepted (playFile file list) records answers
+  pub a-good-file-is-played : (list : List Cue) → readFile file ≡ cues list → lentEnough file records answers ≡ true → runCall file records answers ≡ accepted (playFile file list) records answers
   unfolding runCall readCall runBy
   a-good-file-is-played list read room = rw (read, room)
 
@@ -115,9 +115,9 @@ module _ (file records answers : List ℕ) where
       by (bad other q) e = let same : other ≡ why = sym (number-back other) ∙ ap refusalOf (e .0) ∙ number-back why in rw (same, e .1) refl
 
   -- "records, at least 8(3n+3) octets, and answers, at least n"
-  pub roomy-exactly-when : (roomy file records answers ≡ true) ↔ RoomFor (inputCount file) records answers
-  unfolding roomy
-  roomy-exactly-when = (
+  pub lent-enough-exactly-when : (lentEnough file records answers ≡ true) ↔ RoomFor (inputCount file) records answers
+  unfolding lentEnough
+  lent-enough-exactly-when = (
     λ h. let e = both (leb (recordsRoom (inputCount file)) (length records)) _ h in record { wide = leb-true _ _ (e .0); long = leb-true _ _ (e .1) },
     λ r. simp (le-leb (recordsRoom (inputCount file)) (length records) (r .wide), le-leb (inputCount file) (length answers) (r .long)),
   )
@@ -125,12 +125,12 @@ module _ (file records answers : List ℕ) where
   -- a call is refused for what its file is refused for, or, with a good file, for its buffers
   call-refused : (why : Refusal) (p : ℕ) → readCall file records answers ≡ bad why p → GivenWhen file why p ⊎ ((number why ≡ 8) × ((p ≡ 0) × GoodFile file × (RoomFor (inputCount file) records answers → ⊥)))
   unfolding readCall
-  call-refused why p = by (roomy file records answers) (readFile file) refl refl
+  call-refused why p = by (lentEnough file records answers) (readFile file) refl refl
     where
-      by : (b : Bool) (x : Reading) → roomy file records answers ≡ b → readFile file ≡ x → ifRoomy b x ≡ bad why p → GivenWhen file why p ⊎ ((number why ≡ 8) × ((p ≡ 0) × GoodFile file × (RoomFor (inputCount file) records answers → ⊥)))
+      by : (b : Bool) (x : Reading) → lentEnough file records answers ≡ b → readFile file ≡ x → ifLentEnough b x ≡ bad why p → GivenWhen file why p ⊎ ((number why ≡ 8) × ((p ≡ 0) × GoodFile file × (RoomFor (inputCount file) records answers → ⊥)))
       by true x room read e = inl (refused-exactly-when file why p .0 (read ∙ e))
       by false (bad other q) room read e = inl (refused-exactly-when file why p .0 (read ∙ e))
-      by false (cues list) room read e = inr (cc, (cc, good-file file list read, λ wide. no (sym room ∙ roomy-exactly-when .1 wide)))
+      by false (cues list) room read e = inr (cc, (cc, good-file file list read, λ wide. no (sym room ∙ lent-enough-exactly-when .1 wide)))
 
   -- each row but the eighth is the file's
   row : (why : Refusal) (p : ℕ) → (number why ≡ 8 → ⊥) → ((code ≡ number why) × (place ≡ p)) ↔ GivenWhen file why p
@@ -142,18 +142,18 @@ module _ (file records answers : List ℕ) where
       by : {w : Whole} → RunFinds file records answers w → (w .report .code ≡ 0) × (w .report .place ≡ p) → (p ≡ 0) × GoodFile file × RoomFor (inputCount file) records answers
       by (at-fault why q read) e = unfold refused in absurd (omega (arith, some-number why, e .0))
       by (no-room list read room) e = unfold refused in absurd (omega (arith, e .0))
-      by (played list read room) e = unfold accepted in (sym (e .1), good-file file list read, roomy-exactly-when .0 room)
+      by (played list read room) e = unfold accepted in (sym (e .1), good-file file list read, lent-enough-exactly-when .0 room)
 
   zero-given : (p : ℕ) → (p ≡ 0) × GoodFile file × RoomFor (inputCount file) records answers → (code ≡ 0) × (place ≡ p)
   zero-given p g =
       let read = accepted-exactly-when file .1 (g .1) in
-      rw (code, place, a-good-file-is-played file records answers (read .0) (read .1) (roomy-exactly-when .1 (g .2)), g .0) (unfold accepted in (refl, refl))
+      rw (code, place, a-good-file-is-played file records answers (read .0) (read .1) (lent-enough-exactly-when .1 (g .2)), g .0) (unfold accepted in (refl, refl))
 
   eight-given : (p : ℕ) → (p ≡ 0) × GoodFile file × (RoomFor (inputCount file) records answers → ⊥) → (code ≡ 8) × (place ≡ p)
-  eight-given p g = by (roomy file records answers) refl
+  eight-given p g = by (lentEnough file records answers) refl
     where
-      by : (b : Bool) → roomy file records answers ≡ b → (code ≡ 8) × (place ≡ p)
-      by true room = absurd (g .2 (roomy-exactly-when .0 room))
+      by : (b : Bool) → lentEnough file records answers ≡ b → (code ≡ 8) × (place ≡ p)
+      by true room = absurd (g .2 (lent-enough-exactly-when .0 room))
       by false room =
           let read = accepted-exactly-when file .1 (g .1) in
           rw (code, place, a-short-buffer-is-refused file records answers (read .0) (read .1) room, g .0) (unfold refused in (refl, refl))
@@ -216,7 +216,7 @@ records-length [] = refl
 records-length (r ∷ k) = rw length-append (omega (arith, records-length k))
 
 -- of a run that is accepted
-module _ (file records answers : List ℕ) (list : List Cue) (read : readFile file ≡ cues list) (room : roomy file records answers ≡ true) where
+module _ (file records answers : List ℕ) (list : List Cue) (read : readFile file ≡ cues list) (room : lentEnough file records answers ≡ true) where
   -- one for the start, one for each change that playing shows, and never more than the buffer is asked to hold
   pub record-count-is-one-plus-changes :
       (runCall file records answers .report .count ≡ 1 + length (playsTo (endTime file) list (fresh (paramsOf (parametersIn file)) (scenesOf (parametersIn file))) .records))
