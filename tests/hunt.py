@@ -107,7 +107,10 @@ def changes(body, tokens, i):
     t = tokens[i]
     before = tokens[i - 1].text if i else ''
     if i + 1 < len(tokens) and tokens[i + 1].text == '=': return  # the name of a field that is written
-    if re.fullmatch(r'\d[\d_]*', t.text) and before != 'Type': yield t.start, t.end, str(int(t.text.replace('_', '')) + 1)
+    if re.fullmatch(r'\d[\d_]*', t.text) and before != 'Type':
+        n = int(t.text.replace('_', ''))
+        for other in (n + 1, n - 1):
+            if other >= 0: yield t.start, t.end, str(other)
     for other in OTHERS.get(t.text, []): yield t.start, t.end, other
     if t.text in ('&&', '||'):
         for way in (-1, 1):
