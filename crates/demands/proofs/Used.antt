@@ -2,11 +2,12 @@
 -- Prewarning 100 tenths, hence L 720.
 use mathlib.Core.Bool.{true, false}
 use mathlib.Core.Path.{_≡_, refl}
-use mathlib.Core.List.{List, [], _∷_}
+use mathlib.Core.List.{List, [], _∷_, _++_}
 use native.Mathlib.Omega.{arith}
 use Rattle.rules.specs.declared.parameters.Params.{Params}
 use Rattle.rules.specs.declared.input.Event.the-variants.{Failure, Return}
-use Rattle.rules.specs.declared.input.Input.the-variants.{SwitchOnOff, Bus}
+use Rattle.rules.specs.declared.input.Input.the-variants.{SwitchOnOff, TimedStartStop, NumberedSceneControl, SwitchOnOffForced, LockDevice, Bus, Power}
+use Rattle.rules.specs.declared.input.Force.the-variants.{Free}
 use Rattle.rules.specs.Phases.{output, litAt, atDeadline, setOn}
 use Rattle.rules.specs.Orders.{on, offAfterDelay, off, nightFalls, held, switch, nightMode, busMode, bus, order}
 use Rattle.rules.specs.Barriers.{rows, rowOf, firstBarrier, barrier}
@@ -90,20 +91,33 @@ strong-light-used =
     strong-light paper noScenes (on-at 0 ∷ night-at 10 ∷ off-at 20 ∷ []) 1000 (omega arith) (omega arith) [] 0 (SwitchOnOff true) (night-at 10 ∷ off-at 20 ∷ []) refl
     record { taken = refl; lights = refl; reached = omega arith; undimmed = (λ early counts. refl, (λ early counts. absurd (omega arith), tt)) }
 
--- On 0, Off 100, night 120, Off 140: dark from 150 on, as the first Off alone would have it
-abbrev nervous : List Cue
-nervous = on-at 0 ∷ off-at 100 ∷ night-at 120 ∷ off-at 140 ∷ []
+-- On 0, Off 100, then all that is quiet (night, a lesson, a timed stop, a release, an unlock, returns of bus and power), Off 140: dark from
+-- 150 on, as the first Off alone would have it
+abbrev quiet : List Cue
+quiet =
+    night-at 120
+    ∷ cue 122 (NumberedSceneControl true 5)
+    ∷ cue 124 (TimedStartStop false)
+    ∷ cue 126 (SwitchOnOffForced Free)
+    ∷ cue 128 (LockDevice false)
+    ∷ cue 130 (Bus Return)
+    ∷ cue 132 (Power Return)
+    ∷ []
 
-pub off-used : output (stateAt 150 nervous (fresh paper noScenes) .phase) ≡ false
+abbrev asked : List Cue
+asked = on-at 0 ∷ off-at 100 ∷ quiet
+
+pub off-used : output (stateAt 150 (asked ++ (off-at 140 ∷ [])) (fresh paper noScenes) .phase) ≡ false
 unfolding playing
 off-used =
-    an-off-is-heard paper noScenes nervous 1000 (omega arith) (on-at 0 ∷ []) 100 (SwitchOnOff false) (night-at 120 ∷ off-at 140 ∷ []) refl refl refl 150 (omega arith)
-    (λ within. refl, (λ within. refl, tt))
+    an-off-is-heard paper noScenes (asked ++ (off-at 140 ∷ [])) 1000 (omega arith) (on-at 0 ∷ []) 100 (SwitchOnOff false) (quiet ++ (off-at 140 ∷ [])) refl refl refl 150 (omega arith)
+    (λ within. refl, (λ within. refl, (λ within. refl, (λ within. refl, (λ within. refl, (λ within. refl, (λ within. refl, (λ within. refl, tt))))))))
 
-pub asking-again-used : MayBeStruck paper noScenes (on-at 0 ∷ off-at 100 ∷ night-at 120 ∷ []) 140 (SwitchOnOff false) [] 1000
+pub asking-again-used : MayBeStruck paper noScenes asked 140 (SwitchOnOff false) [] 1000
 unfolding playing
 asking-again-used =
-    asking-again-never-keeps-the-house-lit paper noScenes nervous 1000 (omega arith) (on-at 0 ∷ []) 100 (SwitchOnOff false) (night-at 120 ∷ []) 140 (SwitchOnOff false) [] refl refl refl (refl, tt) refl
+    asking-again-never-keeps-the-house-lit paper noScenes (asked ++ (off-at 140 ∷ [])) 1000 (omega arith) (on-at 0 ∷ []) 100 (SwitchOnOff false) quiet 140 (SwitchOnOff false) []
+    refl refl refl (refl, (refl, (refl, (refl, (refl, (refl, (refl, tt))))))) refl
 
 -- On 0, On 15: the second may be struck, and the house is lit no later than without it
 pub idle-on-used : MayBeStruck paper noScenes (on-at 0 ∷ []) 15 (SwitchOnOff true) [] 1000
