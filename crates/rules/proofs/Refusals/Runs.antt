@@ -270,3 +270,9 @@ the-number-is-taken-apart file records answers = by (run-finds file records answ
     by (played list read room) e =
         let few = rw e at (record-count-is-one-plus-changes file records answers list read room .1) in
         unfold accepted in apart _ (omega arith) (omega (arith, few, good-file file list read .start .header .layout .few))
+
+-- the rest of what C is given is the run's own: both buffers
+pub c-is-lent-the-same-buffers : (file records answers : List ℕ) →
+    (houseRun file records answers .records ≡ runCall file records answers .records) × (houseRun file records answers .answers ≡ runCall file records answers .answers)
+unfolding houseRun answeredBy
+c-is-lent-the-same-buffers file records answers = (refl, refl)
