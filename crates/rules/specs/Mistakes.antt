@@ -2,11 +2,13 @@
 -- instead, of any list of cues that is played to an end time. It is proved of every list that rises in proofs/Mistakes/, and of every
 -- accepted cue file in the crate demands (ThreeMistakes).
 use Prim.Native.Nat.{ℕ, _+_, _≤_}
-use mathlib.Core.Bool.{Bool, true, false, not, _||_}
+use mathlib.Core.Bool.{Bool, true, false, _||_}
 use mathlib.Core.Path.{_≡_}
 use mathlib.Core.List.{List, [], _∷_, _++_}
 use Rattle.rules.specs.declared.parameters.Params.{Params}
 use Rattle.rules.specs.declared.parameters.Scene.{Scene}
+use Rattle.rules.specs.declared.parameters.Recalled.{Recalled}
+use Rattle.rules.specs.declared.parameters.Recalled.the-variants.{Nothing, Output}
 use Rattle.rules.specs.declared.phase.Phase.the-variants.{Starting}
 use Rattle.rules.specs.declared.input.Event.{Event}
 use Rattle.rules.specs.declared.input.Event.the-variants.{Failure, Return}
@@ -18,7 +20,7 @@ use Rattle.rules.specs.Phases.{output}
 use Rattle.rules.specs.Orders.{standing}
 use Rattle.rules.specs.Steps.{fresh, clockMove, step}
 use Rattle.rules.specs.Lists.{Cue, cue, Played, andThen, moved, plays, playsTo, start, playList, acts}
-use Rattle.rules.specs.Promises.{Turn, turns, Each, stateAt, Taken, recallsOn, recallsOff, lights, ShowsLight, turnAfter}
+use Rattle.rules.specs.Promises.{Turn, turns, Each, stateAt, Taken, lights, ShowsLight, turnAfter}
 
 -- ---- ties
 
@@ -60,19 +62,21 @@ pub record MayBeStruck (p : Params) (scenes : List Scene) (before : List Cue) (t
       (playList p scenes (before ++ (cue t i ∷ later)) end) (playList p scenes (before ++ later) end)
   pub moments : (v : ℕ) → stateAt v (before ++ (cue t i ∷ later)) (fresh p scenes) ≡ stateAt v (before ++ later) (fresh p scenes)
 
--- ---- delays: Off
+-- ---- delays
 
--- an Off or scene-off, by the scene table that the input meets
-abbrev pub turnsOff : State → Input → Bool
-turnsOff s (SwitchOnOff value) = not value
-turnsOff s (TimedStartStop value) = false
-turnsOff s (NumberedSceneControl true number) = false
-turnsOff s (NumberedSceneControl false number) = recallsOff (recalled (s .scenes) number)
-turnsOff s (SwitchOnOffForced force) = false
-turnsOff s (LockDevice value) = false
-turnsOff s (NightMode value) = false
-turnsOff s (Bus event) = false
-turnsOff s (Power event) = false
+-- the output that an On, Off, scene-on or scene-off asks for, by the scene table that the input meets; no other input asks so
+abbrev pub asksFor : State → Input → Recalled
+asksFor s (SwitchOnOff value) = Output value
+asksFor s (TimedStartStop value) = Nothing
+asksFor s (NumberedSceneControl true number) = Nothing
+asksFor s (NumberedSceneControl false number) = recalled (s .scenes) number
+asksFor s (SwitchOnOffForced force) = Nothing
+asksFor s (LockDevice value) = Nothing
+asksFor s (NightMode value) = Nothing
+asksFor s (Bus event) = Nothing
+asksFor s (Power event) = Nothing
+
+-- ---- Off
 
 abbrev pub fails : Event → Bool
 fails Failure = true
@@ -101,7 +105,7 @@ abbrev pub OffIsHeard : Params → List Scene → List Cue → Type 0
 OffIsHeard p scenes list =
     (before : List Cue) (t : ℕ) (i : Input) (later : List Cue) → before ++ (cue t i ∷ later) ≡ list →
     let first : Turn = turnAfter p scenes before t i in
-    Taken first → turnsOff (first .met) i ≡ true →
+    Taken first → asksFor (first .met) i ≡ Output false →
     (u : ℕ) → t + p .offdelay ≤ u → Each (λ x. x .stamp ≤ u → stirs (x .met) (x .input) ≡ false) (turns later (first .left)) →
     output (stateAt u list (fresh p scenes) .phase) ≡ false
 
@@ -112,23 +116,11 @@ AskingAgainIsIdle p scenes list end =
     let first : Turn = turnAfter p scenes before t i in
     let asked : List Cue = before ++ (cue t i ∷ between) in
     asked ++ (cue u j ∷ later) ≡ list →
-    Taken first → turnsOff (first .met) i ≡ true → Each (λ x. stirs (x .met) (x .input) ≡ false) (turns between (first .left)) →
-    turnsOff (turnAfter p scenes asked u j .met) j ≡ true →
+    Taken first → asksFor (first .met) i ≡ Output false → Each (λ x. stirs (x .met) (x .input) ≡ false) (turns between (first .left)) →
+    asksFor (turnAfter p scenes asked u j .met) j ≡ Output false →
     MayBeStruck p scenes asked u j later end
 
--- ---- delays: On
-
--- an On or scene-on, by the scene table that the input meets
-abbrev pub turnsOn : State → Input → Bool
-turnsOn s (SwitchOnOff value) = value
-turnsOn s (TimedStartStop value) = false
-turnsOn s (NumberedSceneControl true number) = false
-turnsOn s (NumberedSceneControl false number) = recallsOn (recalled (s .scenes) number)
-turnsOn s (SwitchOnOffForced force) = false
-turnsOn s (LockDevice value) = false
-turnsOn s (NightMode value) = false
-turnsOn s (Bus event) = false
-turnsOn s (Power event) = false
+-- ---- On
 
 -- 01, "Slips we have seen": "A repeated On or Off that starts its delay again."
 -- An On or scene-on that meets a wait for steady light may be struck.
@@ -136,7 +128,7 @@ abbrev pub OnIsIdleWhileItWaits : Params → List Scene → List Cue → ℕ →
 OnIsIdleWhileItWaits p scenes list end =
     (before : List Cue) (t : ℕ) (i : Input) (later : List Cue) (d : ℕ) → before ++ (cue t i ∷ later) ≡ list →
     let x : Turn = turnAfter p scenes before t i in
-    x .met .phase ≡ Starting false d → turnsOn (x .met) i ≡ true → MayBeStruck p scenes before t i later end
+    x .met .phase ≡ Starting false d → asksFor (x .met) i ≡ Output true → MayBeStruck p scenes before t i later end
 
 -- And no On, timed start or scene-on makes the light later, whatever it meets and whatever follows: where one is taken at t, and the
 -- output is on at u without it, there with it the house shows light at some moment from t to u. (Only for a timed start, no timed stop

@@ -30,8 +30,8 @@ use Rattle.rules.specs.Orders.{offAfterDelay, off, timedStop, nightFalls
 use Rattle.rules.specs.Barriers.{row, rows, rowOf, firstBarrier, barrier}
 use Rattle.rules.specs.Steps.{fresh, atMoment, tickAt, tick, ticked, clockMove, step, Quiet}
 use Rattle.rules.specs.Lists.{Cue, cue, Played, plays}
-use Rattle.rules.specs.Promises.{Rises, turn, turns, Each, stateAt, Taken, recallsOn, recallsOff}
-use Rattle.rules.specs.Mistakes.{LeavesNoTrace, turnsOff, stirs, OffIsHeard, AskingAgainIsIdle}
+use Rattle.rules.specs.Promises.{Rises, turn, turns, Each, stateAt, Taken, recallsOn}
+use Rattle.rules.specs.Mistakes.{LeavesNoTrace, asksFor, stirs, OffIsHeard, AskingAgainIsIdle}
 use Rattle.base.proofs.Tests.{no, cond-case, either-way}
 use Rattle.rules.proofs.Laws.Steps.{tick-case, three-are-enough}
 use Rattle.rules.proofs.Laws.Soundness.{move-clock, move-params, step-case, taken-is-the-order, step-params}
@@ -211,24 +211,18 @@ step-heard s i t m h calm =
 
 -- ---- an Off or scene-off
 
-recalling-off : (s : State) (found : Recalled) → recallsOff found ≡ true → recall s found ≡ switch s false
-unfolding recall
-recalling-off s Nothing off = no off
-recalling-off s (Output true) off = no off
-recalling-off s (Output false) off = refl
-
-turning-off : (s : State) (i : Input) → turnsOff s i ≡ true → order s i ≡ switch s false
-unfolding order scene
-turning-off s (SwitchOnOff true) off = no off
-turning-off s (SwitchOnOff false) off = refl
-turning-off s (TimedStartStop value) off = no off
-turning-off s (NumberedSceneControl true number) off = no off
-turning-off s (NumberedSceneControl false number) off = recalling-off s (recalled (s .scenes) number) off
-turning-off s (SwitchOnOffForced force) off = no off
-turning-off s (LockDevice value) off = no off
-turning-off s (NightMode value) off = no off
-turning-off s (Bus event) off = no off
-turning-off s (Power event) off = no off
+-- what asks for an output switches, On or Off
+pub asking-switches : (s : State) (i : Input) (value : Bool) → asksFor s i ≡ Output value → order s i ≡ switch s value
+unfolding order scene recall
+asking-switches s (SwitchOnOff on) value asks = let same : on ≡ value = cc in rw same
+asking-switches s (TimedStartStop start) value asks = cc
+asking-switches s (NumberedSceneControl true number) value asks = cc
+asking-switches s (NumberedSceneControl false number) value asks = rw asks
+asking-switches s (SwitchOnOffForced force) value asks = cc
+asking-switches s (LockDevice lock) value asks = cc
+asking-switches s (NightMode night) value asks = cc
+asking-switches s (Bus event) value asks = cc
+asking-switches s (Power event) value asks = cc
 
 -- where one is taken no lock and no force stands, and the link is up
 nothing-stands : (link : Link) (lock : Bool) (force : Force) → firstBarrier (row true true true true) link lock force ≡ Open → (lock ≡ false) × (force ≡ Free) × (link ≡ Up)
@@ -240,35 +234,35 @@ nothing-stands Up true force way = (cc, cc, cc)
 nothing-stands BusDown lock force way = (cc, cc, cc)
 nothing-stands PowerDown lock force way = (cc, cc, cc)
 
-taken-finds-nothing : (s : State) (i : Input) → turnsOff s i ≡ true → barrier s i ≡ Open → (s .lock ≡ false) × (s .force ≡ Free) × (s .link ≡ Up)
+taken-finds-nothing : (s : State) (i : Input) → asksFor s i ≡ Output false → barrier s i ≡ Open → (s .lock ≡ false) × (s .force ≡ Free) × (s .link ≡ Up)
 unfolding barrier rowOf rows
 taken-finds-nothing s (SwitchOnOff value) off way = nothing-stands (s .link) (s .lock) (s .force) way
-taken-finds-nothing s (TimedStartStop value) off way = no off
+taken-finds-nothing s (TimedStartStop value) off way = (cc, cc, cc)
 taken-finds-nothing s (NumberedSceneControl learns number) off way = nothing-stands (s .link) (s .lock) (s .force) way
-taken-finds-nothing s (SwitchOnOffForced force) off way = no off
-taken-finds-nothing s (LockDevice value) off way = no off
-taken-finds-nothing s (NightMode value) off way = no off
-taken-finds-nothing s (Bus event) off way = no off
-taken-finds-nothing s (Power event) off way = no off
+taken-finds-nothing s (SwitchOnOffForced force) off way = (cc, cc, cc)
+taken-finds-nothing s (LockDevice value) off way = (cc, cc, cc)
+taken-finds-nothing s (NightMode value) off way = (cc, cc, cc)
+taken-finds-nothing s (Bus event) off way = (cc, cc, cc)
+taken-finds-nothing s (Power event) off way = (cc, cc, cc)
 
 -- it is heard
 off-heard : (s : State) → (s .lock ≡ false) × (s .force ≡ Free) × (s .link ≡ Up) → Heard (s .clock + s .params .offdelay) (switch s false)
 unfolding switch
 off-heard s free = record { fades = off-within-its-delay (s .params) (s .clock) (s .phase); unlocked = free .0; unforced = free .1; linked = free .2 }
 
-taken-is-heard : (s : State) (i : Input) (t : ℕ) → Taken (turn s t i) → turnsOff (clockMove s t .state) i ≡ true → Heard (t + s .params .offdelay) (step s i t .state)
+taken-is-heard : (s : State) (i : Input) (t : ℕ) → Taken (turn s t i) → asksFor (clockMove s t .state) i ≡ Output false → Heard (t + s .params .offdelay) (step s i t .state)
 taken-is-heard s i t way off =
     let met : State = clockMove s t .state in
-    rw (taken-is-the-order s i t way ∙ turning-off met i off) (rw (move-clock s t, move-params s t) at (off-heard met (taken-finds-nothing met i off way)))
+    rw (taken-is-the-order s i t way ∙ asking-switches met i false off) (rw (move-clock s t, move-params s t) at (off-heard met (taken-finds-nothing met i off way)))
 
 -- and a later one, taken or not, leaves what the clock move alone leaves
-asking-again-leaves-no-trace : (s : State) (i : Input) (m u : ℕ) → Heard m s → m ≤ u + s .params .offdelay → turnsOff (clockMove s u .state) i ≡ true → LeavesNoTrace s i u
+asking-again-leaves-no-trace : (s : State) (i : Input) (m u : ℕ) → Heard m s → m ≤ u + s .params .offdelay → asksFor (clockMove s u .state) i ≡ Output false → LeavesNoTrace s i u
 unfolding switch
 asking-again-leaves-no-trace s i m u h later off =
     let met : State = clockMove s u .state in
     let quiet : Quiet u (deadline (met .phase)) = unfold clockMove ticked in three-are-enough s u in
     let same = repeated-off-changes-nothing (met .params) m (met .clock) (met .phase) (rw (move-params s u, move-clock s u) later) (move-heard s u m h .fades) (rw (move-clock s u) quiet) in
-    unchanged-leaves-no-trace s i u (λ _. turning-off met i off ∙ ap (withPhase met) same)
+    unchanged-leaves-no-trace s i u (λ _. asking-switches met i false off ∙ ap (withPhase met) same)
 
 -- ---- the inputs that follow
 

@@ -32,45 +32,27 @@ use Rattle.rules.specs.Barriers.{barrier}
 use Rattle.rules.specs.Steps.{fresh, atMoment, Moved, clockMove, step, Quiet}
 use Rattle.rules.specs.Lists.{Cue, cue, plays}
 use Rattle.rules.specs.Promises.{Rises, Turn, turn, turns, Each, stateAt, Taken, recallsOn, lights, NotBefore, ShowsLight}
-use Rattle.rules.specs.Mistakes.{LeavesNoTrace, turnsOn, OnIsIdleWhileItWaits, OnIsNeverLater}
+use Rattle.rules.specs.Mistakes.{LeavesNoTrace, asksFor, OnIsIdleWhileItWaits, OnIsNeverLater}
 use Rattle.base.proofs.Tests.{no, cond-case, either-way, by-order}
 use Rattle.rules.proofs.Laws.Soundness.{taken-is-the-order, step-clock, step-params}
 use Rattle.rules.proofs.Laws.Timers.{no-timer-due-no-move}
 use Rattle.rules.proofs.Laws.Moments.{at-case, at-the-end, next-is-later, rises-from, at-past}
 use Rattle.rules.proofs.Promises.Light.{lit-now, Waits, comes-on, Shines, taken-shines, shows-here, shows-later, reached}
+use Rattle.rules.proofs.Mistakes.Delays.{asking-switches}
 use Rattle.rules.proofs.Mistakes.Rank.{unchanged-leaves-no-trace, dropped-leaves-no-trace, at-by-way-of, no-trace-may-be-struck}
 
 -- ---- an On or scene-on that meets a steady wait
-
-recalling-on : (s : State) (found : Recalled) → recallsOn found ≡ true → recall s found ≡ switch s true
-unfolding recall
-recalling-on s Nothing lit = no lit
-recalling-on s (Output true) lit = refl
-recalling-on s (Output false) lit = no lit
-
-turning-on : (s : State) (i : Input) → turnsOn s i ≡ true → order s i ≡ switch s true
-unfolding order scene
-turning-on s (SwitchOnOff true) lit = refl
-turning-on s (SwitchOnOff false) lit = no lit
-turning-on s (TimedStartStop value) lit = no lit
-turning-on s (NumberedSceneControl true number) lit = no lit
-turning-on s (NumberedSceneControl false number) lit = recalling-on s (recalled (s .scenes) number) lit
-turning-on s (SwitchOnOffForced force) lit = no lit
-turning-on s (LockDevice value) lit = no lit
-turning-on s (NightMode value) lit = no lit
-turning-on s (Bus event) lit = no lit
-turning-on s (Power event) lit = no lit
 
 -- "Starting keeps its deadline and becomes steady": it is so already
 waiting-is-kept : (p : Params) (night held : Bool) (t d : ℕ) (phase : Phase) → phase ≡ Starting false d → on p night held t phase ≡ phase
 unfolding on
 waiting-is-kept p night held t d phase e = rw e refl
 
-repeated-on-leaves-no-trace : (s : State) (i : Input) (u d : ℕ) → clockMove s u .state .phase ≡ Starting false d → turnsOn (clockMove s u .state) i ≡ true → LeavesNoTrace s i u
+repeated-on-leaves-no-trace : (s : State) (i : Input) (u d : ℕ) → clockMove s u .state .phase ≡ Starting false d → asksFor (clockMove s u .state) i ≡ Output true → LeavesNoTrace s i u
 unfolding switch
 repeated-on-leaves-no-trace s i u d e lit =
     let met : State = clockMove s u .state in
-    unchanged-leaves-no-trace s i u (λ _. turning-on met i lit ∙ ap (withPhase met) (waiting-is-kept _ _ _ _ d _ e))
+    unchanged-leaves-no-trace s i u (λ _. asking-switches met i true lit ∙ ap (withPhase met) (waiting-is-kept _ _ _ _ d _ e))
 
 pub an-on-is-idle-while-it-waits : (p : Params) (scenes : List Scene) (list : List Cue) (end : ℕ) → Rises 0 list end → OnIsIdleWhileItWaits p scenes list end
 an-on-is-idle-while-it-waits p scenes list end r before t i later d e waits lit =
