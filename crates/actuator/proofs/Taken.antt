@@ -18,7 +18,7 @@ use Rattle.rules.specs.Orders.{withPhase, order}
 use Rattle.rules.specs.Barriers.{barrier}
 use Rattle.rules.specs.Status.{value, attributes, sameStatus, recordOf}
 use Rattle.rules.specs.Answers.{answer, samePhase, sameFlags, sameScenes, sameButClock}
-use Rattle.rules.specs.Steps.{Stepped, atMoment, clockMove, taken, meet, act, step}
+use Rattle.rules.specs.Steps.{Stepped, clockMove, taken, meet, act, step}
 use Rattle.rules.specs.Lists.{Played, still}
 use Rattle.base.proofs.Tests.{eqb-same, beq-same}
 use Rattle.rules.proofs.Laws.Orders.{order-leaves}
@@ -30,13 +30,14 @@ use Rattle.lamps.specs.declared.lamp.Lamp.{Lamp}
 use Rattle.lamps.specs.Lamps.{lampOf, stateOf, alone}
 use Rattle.orders.specs.Lights.{isLight, lightPhase}
 use Rattle.orders.proofs.Lights.{light-is-granted, other-orders-keep-the-table}
-use Rattle.timers.specs.declared.clock.Ticked.{Ticked}
+use Rattle.timers.specs.declared.clock.Clocked.{Clocked}
+use Rattle.actuator.specs.declared.step.Acting.{Acting}
 use Rattle.actuator.specs.declared.step.Done.{Done}
 use Rattle.records.specs.declared.notes.Note.the-variants.{Silent}
-use Rattle.records.specs.Notes.{noteOf, added, notes, firstOf}
-use Rattle.timers.specs.Ticks.{timersOf}
-use Rattle.actuator.specs.Acts.{done, doneBy, stoppedBy, acted}
-use Rattle.timers.proofs.Moves.{joined, moved-lamp}
+use Rattle.records.specs.Notes.{noteOf, added}
+use Rattle.timers.specs.Ticks.{clocked}
+use Rattle.actuator.specs.Acts.{acting, done, doneBy, stoppedBy, acted}
+use Rattle.timers.proofs.Moves.{joined}
 use Rattle.records.proofs.Written.{first-written, added-first}
 
 -- ---- taken
@@ -126,6 +127,12 @@ module _ (s : State) (i : Input) where
       go Open = unfold meet taken in (order-leaves s i .params, one-record-at-most (kind i) s (order s i))
       go (Stopped why) = unfold meet in (refl, omega arith)
 
+  -- by value: its lamp and its table
+  pub acting-by-parts : (d : Done) (table : List Scene) → d ≡ done (act (still s) i) → table ≡ act (still s) i .state .scenes →
+      record { state = stateOf (s .params) table (d .lamp); answer = d .answer; note = d .note } ≡ acting (act (still s) i)
+  unfolding done acting
+  acting-by-parts d table e f = rw (e, f) (rw (joined (act (still s) i .state) (s .params) (act (still s) i .state .scenes) (acting-keeps .0) refl) refl)
+
 -- ---- the whole step
 
 module _ (s : State) (i : Input) (t : ℕ) where
@@ -149,17 +156,10 @@ module _ (s : State) (i : Input) (t : ℕ) where
       let k = acting-keeps (clockMove s t .state) i in
       joined (later .state) (s .params) (later .state .scenes) (k .0 ∙ ap (λ (u : State). u .params) (move-keeps s t)) refl
 
-  whole : record { state = stateOf (s .params) (later .state .scenes) (lampOf (later .state)); answer = later .answer; notes = added (notes (clockMove s t .records)) (firstOf (later .records)) } ≡ acted (step s i t)
-  unfolding acted
-  whole =
-      let e = step-splits in
+  -- by value: the move, and then what acted
+  pub step-is-the-move-and-the-act : (m : Clocked) (d : Acting) → m ≡ clocked (clockMove s t) → d ≡ acting later → record { state = d .state; answer = d .answer; notes = added (m .notes) (d .note) } ≡ acted (step s i t)
+  unfolding clocked acting acted
+  step-is-the-move-and-the-act m d e f =
+      let x = step-splits in
       let k = acting-keeps (clockMove s t .state) i in
-      rw (e .0, e .1, e .2, added-first (clockMove s t .records) (later .records) (a-move-writes-at-most-two s t) (k .1), later-joined) refl
-
-  pub step-by-parts : (moved : Lamp) (m : Ticked) (d : Done) (table : List Scene) → m ≡ timersOf (clockMove s t) → moved ≡ lampOf (atMoment (alone (lampOf s)) t (m .phase))
-      → d ≡ done (act (still (stateOf (s .params) (s .scenes) moved)) i) → table ≡ act (still (stateOf (s .params) (s .scenes) moved)) i .state .scenes
-      → record { state = stateOf (s .params) table (d .lamp); answer = d .answer; notes = added (m .notes) (d .note) } ≡ acted (step s i t)
-  unfolding timersOf done
-  step-by-parts moved m d table e f g h =
-      let there : stateOf (s .params) (s .scenes) moved ≡ clockMove s t .state = rw (f, e) (moved-lamp (s .params) (s .scenes) (lampOf s) t) in
-      rw (rw there at h, rw there at g, e) whole
+      rw (e, f, x .0, x .1, x .2, added-first (clockMove s t .records) (later .records) (a-move-writes-at-most-two s t) (k .1)) refl

@@ -9,6 +9,7 @@ use Rattle.rules.specs.Steps.{Stepped}
 use Rattle.records.specs.declared.notes.Note.the-variants.{Silent}
 use Rattle.lamps.specs.Lamps.{lampOf}
 use Rattle.actuator.specs.declared.step.Acted.{Acted}
+use Rattle.actuator.specs.declared.step.Acting.{Acting}
 use Rattle.actuator.specs.declared.step.Done.{Done}
 use Rattle.records.specs.Notes.{notes, noteOf, firstOf}
 
@@ -16,7 +17,11 @@ use Rattle.records.specs.Notes.{notes, noteOf, firstOf}
 unfoldable pub acted : Stepped → Acted
 acted d = record { state = d .state; answer = d .answer; notes = notes (d .records) }
 
--- an input at the moved clock, but for the scene table: it writes at most one record
+-- an input while the clock stands: it writes at most one record
+unfoldable pub acting : Stepped → Acting
+acting d = record { state = d .state; answer = d .answer; note = firstOf (d .records) }
+
+-- the same at the moved clock, but for the scene table
 unfoldable pub done : Stepped → Done
 done d = record { lamp = lampOf (d .state); answer = d .answer; note = firstOf (d .records) }
 

@@ -7,12 +7,13 @@ ghost use Rattle.base.specs.Time.{lastStamp};
 ghost use Rattle.rules.specs.declared.parameters.Scene.{Scene};
 ghost use Rattle.rules.specs.Answers.{stoppedNumber, answer, sameScenes};
 ghost use Rattle.rules.specs.Orders.{order};
-ghost use Rattle.rules.specs.Steps.{step};
+ghost use Rattle.rules.specs.Steps.{act, step};
+ghost use Rattle.rules.specs.Lists.{still};
 ghost use Rattle.rules.specs.Soundness.{sound};
 ghost use Rattle.phases.specs.Room.{Room, Roomy};
 ghost use Rattle.lamps.specs.Lamps.{stateOf};
 ghost use Rattle.orders.specs.Lights.{isLight};
-ghost use Rattle.actuator.specs.Acts.{doneBy, acted};
+ghost use Rattle.actuator.specs.Acts.{doneBy, acting, acted};
 use barriers::barrier::barrier_to;
 use inputs::value::is_lesson;
 use inputs::value::kind_of;
@@ -33,11 +34,18 @@ use rules::state::State;
 use scenes::same::same_scenes;
 use states::same::same_lamp;
 use states::same::same_phase;
-use timers::clock::run_timers;
+use timers::clock::move_clock;
 
 // What an input does that is taken, but for the scene table.
 pub struct Done {
     pub lamp: Lamp,
+    pub answer: u8,
+    pub note: Note,
+}
+
+// What an input came to while the clock stood.
+pub struct Acting {
+    pub state: State,
     pub answer: u8,
     pub note: Note,
 }
@@ -145,34 +153,48 @@ pub fn take(p: Params, k: [Scene; 8], l: Lamp, i: Input) -> Done
     }
 }
 
-// An input to a whole state, by value: a stopped one leaves what the clock move left.
-pub fn step_input(s: State, i: Input, t: u32) -> Acted
-    requires { ⌜ (sound s ≡ true) × (s .clock ≤ t) × (t ≤ lastStamp) ⌝ }
-    ensures { λ r. ⌜ r ≡ acted (step s i t) ⌝ }
+// An input to a whole state while the clock stands: a stopped one leaves the state as it is.
+pub fn act_input(s: State, i: Input) -> Acting
+    requires { ⌜ Roomy (s .params) (s .clock) (s .phase) ⌝ }
+    ensures { λ r. ⌜ r ≡ acting (act (still s) i) ⌝ }
 {
     let p = s.params;
     let k = s.scenes;
     let l = lamp::lamp_of(s);
-    let m = run_timers(p, l, t);
-    let ph = m.phase;
-    let timers = m.notes;
-    let moved = lamp::at_moment(l, t, ph);
-    let b = barrier_to(moved, kind_of(i));
+    let b = barrier_to(l, kind_of(i));
     match b {
         Barrier::Open => {
-            let d = take(p, k, moved, i);
+            let d = take(p, k, l, i);
             let after = d.lamp;
             let note = d.note;
-            Acted {
-                state: lamp::state_of(p, scenes_after(p, k, moved, i), after),
+            Acting {
+                state: lamp::state_of(p, scenes_after(p, k, l, i), after),
                 answer: d.answer,
-                notes: notes::add(timers, note),
+                note,
             }
         }
-        Barrier::Stopped(why) => Acted {
-            state: lamp::state_of(p, k, moved),
+        Barrier::Stopped(why) => Acting {
+            state: s,
             answer: stopped_number(why),
-            notes: timers,
+            note: Note::Silent,
         },
+    }
+}
+
+// An input at t: the clock moves, then it acts.
+pub fn step_input(s: State, i: Input, t: u32) -> Acted
+    requires { ⌜ (sound s ≡ true) × (s .clock ≤ t) × (t ≤ lastStamp) ⌝ }
+    ensures { λ r. ⌜ r ≡ acted (step s i t) ⌝ }
+{
+    let m = move_clock(s, t);
+    let moved = m.state;
+    let timers = m.notes;
+    let d = act_input(moved, i);
+    let state = d.state;
+    let note = d.note;
+    Acted {
+        state,
+        answer: d.answer,
+        notes: notes::add(timers, note),
     }
 }

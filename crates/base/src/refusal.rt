@@ -2,7 +2,7 @@
 ghost use mathlib.Core.Path.{_≡_};
 ghost use Rattle.base.specs.Refusals.{number};
 
-// The nine rows of the table of refusal numbers, in its order.
+// The rows of the table of refusal numbers, in its order: nine of document 01, then those that its requests add.
 pub enum Refusal {
     WrongLength,
     WrongVersion,
@@ -13,6 +13,7 @@ pub enum Refusal {
     BadStamp,
     ShortBuffer,
     UnsoundState,
+    BadAction,
 }
 
 // What a check finds: nothing wrong, or the first thing that is wrong and where.
@@ -35,5 +36,6 @@ pub fn number_of(why: Refusal) -> u8
         Refusal::BadStamp => 7,
         Refusal::ShortBuffer => 8,
         Refusal::UnsoundState => 9,
+        Refusal::BadAction => 11,
     }
 }

@@ -1,50 +1,75 @@
--- One input of a file at a time: what the check's loop needs.
-use Prim.Native.Nat.{ℕ, suc, _+_, _-_, _≤_, _<_}
+-- One input of a file at a time: what the check's loop needs, and that it finds what reading the list finds.
+use Prim.Native.Nat.{ℕ, zero, suc, _+_, _-_, _≤_, _<_}
 use mathlib.Core.Bool.{Bool, true, false, cond, _&&_}
 use mathlib.Core.List.{List}
-use mathlib.Core.Path.{_≡_, refl}
+use mathlib.Core.Option.{Option, some, none}
+use mathlib.Core.Path.{_≡_, refl, sym, ap, _∙_}
 use native.Mathlib.Omega.{arith}
 use lib.Dec.{leb}
+use Rattle.octets.specs.Groups.{stampAt}
 use Rattle.rules.specs.declared.input.Decoded.{Decoded}
 use Rattle.rules.specs.declared.input.Decoded.the-variants.{Meant, Wrong}
 use Rattle.base.specs.declared.refusal.Refusal.{Refusal}
 use Rattle.base.specs.declared.refusal.Refusal.the-variants.{BadStamp}
 use Rattle.base.specs.declared.refusal.Check.{Check}
 use Rattle.base.specs.declared.refusal.Check.the-variants.{Passed, Refused}
-use Rattle.rules.specs.Inputs.{inputAt, stampAt}
-use Rattle.rules.specs.Lists.{cue}
+use Rattle.base.specs.Refusals.{orElse}
+use Rattle.rules.specs.Inputs.{inputAt}
 use Rattle.rules.specs.Layout.{inputPlace}
-use Rattle.rules.specs.Files.{Reading, cues, bad, before, readOne, readInputs, verdict}
+use Rattle.rules.specs.Readings.{Reading, cues, bad, verdict, before, readOne, readInputs}
+use Rattle.rules.specs.Files.{stamped, cueAt}
 use Rattle.inputs.specs.Meaning.{isMeant}
-use Rattle.cues.specs.Checks.{checkOne}
+use Rattle.cues.specs.Checks.{checkOne, checkInputs, knownAt}
 
--- the first of two refusals
-abbrev orElse : Check → Check → Check
-orElse Passed later = later
-orElse (Refused why place) later = Refused why place
+-- ---- reading and checking
+
+-- whether an input says anything
+abbrev pub says : {A : Type 0} → Option A → Bool
+says (some x) = true
+says none = false
 
 -- an input decides by itself, or leaves it to those after it
-one-decides : (meant : Decoded) (stamp last end i : ℕ) (later : Reading) → verdict (readOne meant stamp last end i later) ≡ orElse (checkOne (isMeant meant) stamp last end i) (verdict later)
+one-decides : {A : Type 0} (said : Option A) (stamp last end i : ℕ) (later : Reading A) → verdict (readOne said stamp last end i later) ≡ orElse (checkOne (says said) stamp last end i) (verdict later)
 unfolding checkOne readOne
-one-decides Wrong stamp last end i later = refl
-one-decides (Meant x) stamp last end i later = by (leb last stamp && leb stamp end) later
+one-decides none stamp last end i later = refl
+one-decides (some x) stamp last end i later = by (leb last stamp && leb stamp end) later
   where
-    by : (b : Bool) (later : Reading) → verdict (cond b (before (cue stamp x) later) (bad BadStamp i)) ≡ orElse (cond b Passed (Refused BadStamp i)) (verdict later)
+    by : (b : Bool) (later : Reading _) → verdict (cond b (before x later) (bad BadStamp i)) ≡ orElse (cond b Passed (Refused BadStamp i)) (verdict later)
     by true (cues list) = refl
     by true (bad why place) = refl
     by false later = refl
 
-pub none-left : (file : List ℕ) (n i last end : ℕ) → n ≤ i → verdict (readInputs file (n - i) i last end) ≡ Passed
-unfolding readInputs
-none-left file n i last end h = let e : n - i ≡ 0 = omega arith in rw e
+-- so the check finds what reading finds, where it knows what says something
+pub checked-as-read : {A : Type 0} (at : ℕ → Option A) (known : ℕ → Bool) → ((i : ℕ) → known i ≡ says (at i)) → (file : List ℕ) (left i last end : ℕ) →
+    checkInputs known file left i last end ≡ verdict (readInputs at file left i last end)
+unfolding checkInputs readInputs
+checked-as-read at known same file zero i last end = refl
+checked-as-read at known same file (suc left) i last end =
+    ap (λ (b : Bool). orElse (checkOne b (stampAt file (inputPlace i)) last end i) (checkInputs known file left (i + 1) (stampAt file (inputPlace i)) end)) (same i)
+    ∙ ap (orElse (checkOne (says (at i)) (stampAt file (inputPlace i)) last end i)) (checked-as-read at known same file left (i + 1) (stampAt file (inputPlace i)) end)
+    ∙ sym (one-decides (at i) (stampAt file (inputPlace i)) last end i (readInputs at file left (i + 1) (stampAt file (inputPlace i)) end))
 
-module _ (file : List ℕ) (n i last end : ℕ) (more : i < n) where
-  one-left : verdict (readInputs file (n - i) i last end) ≡ orElse (checkOne (isMeant (inputAt file (inputPlace i))) (stampAt file (inputPlace i)) last end i) (verdict (readInputs file (n - (i + 1)) (i + 1) (stampAt file (inputPlace i)) end))
-  unfolding readInputs
-  one-left = let e : n - i ≡ suc (n - (i + 1)) = omega arith in rw e (one-decides _ _ _ _ _ _)
+pub known-says : (file : List ℕ) (i : ℕ) → knownAt file i ≡ says (cueAt file i)
+unfolding cueAt
+known-says file i = by (inputAt file (inputPlace i))
+  where
+    by : (d : Decoded) → isMeant d ≡ says (stamped (stampAt file (inputPlace i)) d)
+    by (Meant x) = refl
+    by Wrong = refl
 
-  pub good-goes-on : checkOne (isMeant (inputAt file (inputPlace i))) (stampAt file (inputPlace i)) last end i ≡ Passed → verdict (readInputs file (n - i) i last end) ≡ verdict (readInputs file (n - (i + 1)) (i + 1) (stampAt file (inputPlace i)) end)
+-- ---- the loop
+
+pub none-left : (known : ℕ → Bool) (file : List ℕ) (n i last end : ℕ) → n ≤ i → checkInputs known file (n - i) i last end ≡ Passed
+unfolding checkInputs
+none-left known file n i last end h = let e : n - i ≡ 0 = omega arith in rw e
+
+module _ (known : ℕ → Bool) (file : List ℕ) (n i last end : ℕ) (more : i < n) where
+  one-left : checkInputs known file (n - i) i last end ≡ orElse (checkOne (known i) (stampAt file (inputPlace i)) last end i) (checkInputs known file (n - (i + 1)) (i + 1) (stampAt file (inputPlace i)) end)
+  unfolding checkInputs
+  one-left = let e : n - i ≡ suc (n - (i + 1)) = omega arith in rw e
+
+  pub good-goes-on : checkOne (known i) (stampAt file (inputPlace i)) last end i ≡ Passed → checkInputs known file (n - i) i last end ≡ checkInputs known file (n - (i + 1)) (i + 1) (stampAt file (inputPlace i)) end
   good-goes-on h = simp h at one-left
 
-  pub bad-ends : (why : Refusal) (place : ℕ) → checkOne (isMeant (inputAt file (inputPlace i))) (stampAt file (inputPlace i)) last end i ≡ Refused why place → verdict (readInputs file (n - i) i last end) ≡ Refused why place
+  pub bad-ends : (why : Refusal) (place : ℕ) → checkOne (known i) (stampAt file (inputPlace i)) last end i ≡ Refused why place → checkInputs known file (n - i) i last end ≡ Refused why place
   bad-ends why place h = simp h at one-left

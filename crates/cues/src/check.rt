@@ -1,12 +1,12 @@
 // The check of a whole file: the first thing that is wrong, in the order of the refusal numbers.
 ghost use mathlib.Core.Path.{_≡_};
-ghost use mathlib.Core.Bool.{true};
 ghost use Prim.Native.Nat.{_≤_};
 ghost use lib.ListN.{length};
 ghost use Rattle.rules.specs.Parameters.{checkParameters};
 ghost use Rattle.rules.specs.Layout.{inputsAt, mostInputs, inputPlace};
-ghost use Rattle.rules.specs.Files.{inputCount, endTime, parametersIn, layoutRight, readInputs, afterCheck, readFile, verdict};
-ghost use Rattle.cues.specs.Checks.{checkOne};
+ghost use Rattle.rules.specs.Readings.{verdict};
+ghost use Rattle.rules.specs.Files.{parametersIn, checkStart, readFile};
+ghost use Rattle.cues.specs.Checks.{checkOne, checkInputs, knownAt};
 use crate::header::actuators_of;
 use crate::header::end_time;
 use crate::header::input_count;
@@ -16,10 +16,10 @@ use base::logic::both;
 use base::refusal::Check;
 use base::refusal::Refusal;
 use inputs::is_input_at;
-use inputs::stamp_at;
 use layout::INPUTS_AT;
 use layout::input_place;
 use layout::parameters_in;
+use octets::group::stamp_at;
 use parameters::read::check_parameters;
 
 // The parameters of a file.
@@ -55,9 +55,9 @@ fn check_one(known: bool, stamp: u32, last: u32, end: u32, i: u32) -> Check
 }
 
 // The first bad input of n, from the first on.
-fn check_inputs(file: &[u8], n: u32, end: u32) -> Check
+pub fn check_inputs(file: &[u8], n: u32, end: u32) -> Check
     requires { ⌜ (n ≤ mostInputs) × (inputPlace n ≤ length (now file)) ⌝ }
-    ensures { λ r. ⌜ r ≡ verdict (readInputs (now (file .entry)) n 0 0 end) ⌝ }
+    ensures { λ r. ⌜ r ≡ checkInputs (knownAt (now (file .entry))) (now (file .entry)) n 0 0 end ⌝ }
 {
     let mut i: u32 = 0;
     let mut last: u32 = 0;
@@ -78,21 +78,9 @@ fn check_inputs(file: &[u8], n: u32, end: u32) -> Check
     Check::Passed
 }
 
-// What stands after a good header: the parameters, then the inputs.
-fn check_contents(file: &[u8]) -> Check
-    requires { ⌜ (inputsAt ≤ length (now file)) × (layoutRight (now file) ≡ true) ⌝ }
-    ensures { λ r. ⌜ r ≡ verdict (afterCheck (checkParameters (parametersIn (now (file .entry)))) (readInputs (now (file .entry)) (inputCount (now (file .entry))) 0 0 (endTime (now (file .entry))))) ⌝ }
-{
-    let parameters = check_parameters_in(file);
-    match parameters {
-        Check::Passed => check_inputs(file, input_count(file), end_time(file)),
-        Check::Refused { why, place } => Check::Refused { why, place },
-    }
-}
-
-// A whole file: accepted, or refused for the first row of the table that holds.
-pub fn check_file(file: &[u8]) -> Check
-    ensures { λ r. ⌜ r ≡ verdict (readFile (now (file .entry))) ⌝ }
+// What stands before the inputs: the header, then the parameters.
+pub fn check_start(file: &[u8]) -> Check
+    ensures { λ r. ⌜ r ≡ checkStart (now (file .entry)) ⌝ }
 {
     if file.len() < INPUTS_AT {
         return Check::Refused {
@@ -113,11 +101,22 @@ pub fn check_file(file: &[u8]) -> Check
         };
     }
     if layout_is_right(file) {
-        check_contents(file)
+        check_parameters_in(file)
     } else {
         Check::Refused {
             why: Refusal::WrongLayout,
             place: 0,
         }
+    }
+}
+
+// A whole file: accepted, or refused for the first row of the table that holds.
+pub fn check_file(file: &[u8]) -> Check
+    ensures { λ r. ⌜ r ≡ verdict (readFile (now (file .entry))) ⌝ }
+{
+    let start = check_start(file);
+    match start {
+        Check::Passed => check_inputs(file, input_count(file), end_time(file)),
+        Check::Refused { why, place } => Check::Refused { why, place },
     }
 }

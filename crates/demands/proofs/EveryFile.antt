@@ -4,22 +4,22 @@ use mathlib.Core.List.{List, []}
 use mathlib.Core.Path.{_≡_, sym, _∙_}
 use native.Mathlib.Omega.{arith}
 use Rattle.rules.specs.Parameters.{paramsOf, scenesOf}
-use Rattle.rules.specs.Inputs.{stampAt}
+use Rattle.octets.specs.Groups.{stampAt}
 use Rattle.rules.specs.Lists.{Cue}
 use Rattle.rules.specs.Layout.{inputPlace}
-use Rattle.rules.specs.Files.{cues, inputCount, endTime, parametersIn, readInputs, readFile}
+use Rattle.rules.specs.Readings.{cues, readInputs}
+use Rattle.rules.specs.Files.{inputCount, endTime, parametersIn, cueAt, readFile}
 use Rattle.rules.specs.Promises.{Rises, DarkPromise, LightPromise, StrongLightPromise}
 use Rattle.rules.proofs.Laws.Parameters.{passed-has-some-time}
-use Rattle.rules.proofs.Refusals.Files.{good-file, good-start}
-use Rattle.rules.proofs.Refusals.Readings.{first-read}
+use Rattle.rules.proofs.Refusals.Files.{good-file, good-start, first-cue}
 use Rattle.rules.proofs.Promises.Dark.{dark}
 use Rattle.rules.proofs.Promises.Light.{strong-light, light}
 
 -- inputs that are read without fault rise
-inputs-rise : (file : List ℕ) (left i last end : ℕ) (list : List Cue) → last ≤ end → readInputs file left i last end ≡ cues list → Rises last list end
+inputs-rise : (file : List ℕ) (left i last end : ℕ) (list : List Cue) → last ≤ end → readInputs (cueAt file) file left i last end ≡ cues list → Rises last list end
 inputs-rise file zero i last end list early read = let none : list ≡ [] = unfold readInputs in cc in rw none early
 inputs-rise file (suc left) i last end list early read =
-    let f = first-read file left i last end list read in
+    let f = first-cue file left i last end list read in
     rw (f .starts) (f .risen, inputs-rise file left (i + 1) (stampAt file (inputPlace i)) end (f .later) (f .timely) (f .reads))
 
 module _ (file : List ℕ) (list : List Cue) (read : readFile file ≡ cues list) where

@@ -15,7 +15,8 @@ use Rattle.base.specs.declared.refusal.Check.the-variants.{Passed}
 use Rattle.rules.specs.declared.call.Fresh.{Fresh}
 use Rattle.base.specs.Time.{lastStamp}
 use Rattle.rules.specs.Parameters.{paramsOf, scenesOf, checkParameters}
-use Rattle.rules.specs.Inputs.{stampAt, inputAt}
+use Rattle.rules.specs.Inputs.{inputAt}
+use Rattle.octets.specs.Groups.{stampAt}
 use Rattle.rules.specs.Status.{recordOf, byItself}
 use Rattle.rules.specs.Steps.{fresh, clockMove, step}
 use Rattle.rules.specs.Soundness.{sound}
@@ -23,7 +24,8 @@ use Rattle.rules.specs.Lists.{Cue, andThen, moved, stepped, plays, playsTo, pla
 use Rattle.base.specs.Refusals.{stampInRange}
 use Rattle.rules.specs.Calls.{freshBy, freshCall, singleDone, singleCall, moveDone, moveCall}
 use Rattle.rules.specs.Layout.{inputPlace}
-use Rattle.rules.specs.Files.{cues, inputCount, endTime, parametersIn, readInputs, readFile, lentEnough}
+use Rattle.rules.specs.Readings.{cues, readInputs}
+use Rattle.rules.specs.Files.{inputCount, endTime, parametersIn, cueAt, readFile, lentEnough}
 use Rattle.rules.specs.Runs.{playFile, accepted, runCall}
 use Rattle.rules.proofs.Laws.Inputs.{input-number}
 use Rattle.rules.proofs.Laws.Soundness.{step-is-sound, step-clock}
@@ -31,8 +33,7 @@ use Rattle.rules.proofs.Laws.Records.{a-move-writes-at-most-two, an-input-write
 use Rattle.rules.proofs.Laws.Lists.{andThen-from, plays-to-next}
 use Rattle.rules.proofs.Laws.Parameters.{passed-is-sound}
 use Rattle.rules.proofs.Refusals.Calls.{good-is-played}
-use Rattle.rules.proofs.Refusals.Files.{good-file, good-start, parameters-small}
-use Rattle.rules.proofs.Refusals.Readings.{First, first-read}
+use Rattle.rules.proofs.Refusals.Files.{good-file, good-start, parameters-small, FirstCue, first-cue}
 use Rattle.rules.proofs.Refusals.Runs.{a-good-file-is-played}
 use Rattle.demands.specs.Joined.{inputIn, inputsIn, singlePlayed, movePlayed, calls, NoneRefused, startOf, callsOf, Joined}
 
@@ -56,7 +57,7 @@ same-input file i =
     rw (input-octet file i 4 (omega arith), input-octet file i 5 (omega arith), input-octet file i 6 (omega arith), input-octet file i 7 (omega arith))
 
 -- an input that is read without fault is a single input that is not refused
-first-call : (file : List ℕ) (left i end : ℕ) (s : State) (list : List Cue) (f : First file left i (s .clock) end list) → sound s ≡ true → end ≤ lastStamp →
+first-call : (file : List ℕ) (left i end : ℕ) (s : State) (list : List Cue) (f : FirstCue file left i (s .clock) end list) → sound s ≡ true → end ≤ lastStamp →
     singleCall s (inputIn file i) ≡ singleDone (step s (f .input) (stampAt file (inputPlace i)))
 unfolding stampInRange
 first-call file left i end s list f safe timely =
@@ -80,7 +81,7 @@ move-played s end safe later timely =
 
 -- ---- all of them
 
-joins : (file : List ℕ) (left i : ℕ) (s : State) (list : List Cue) → endTime file ≤ lastStamp → sound s ≡ true → s .clock ≤ endTime file → readInputs file left i (s .clock) (endTime file) ≡ cues list →
+joins : (file : List ℕ) (left i : ℕ) (s : State) (list : List Cue) → endTime file ≤ lastStamp → sound s ≡ true → s .clock ≤ endTime file → readInputs (cueAt file) file left i (s .clock) (endTime file) ≡ cues list →
     (playsTo (endTime file) list s ≡ calls (endTime file) (inputsIn file left i) s) × NoneRefused (endTime file) (inputsIn file left i) s
 unfolding calls inputsIn singleDone
 joins file zero i s list timely safe early read =
@@ -88,7 +89,7 @@ joins file zero i s list timely safe early read =
     let m = move-played s (endTime file) safe early timely in
     (rw (none, m .0) (unfold playsTo plays in refl), m .1)
 joins file (suc left) i s list timely safe early read =
-    let f = first-read file left i (s .clock) (endTime file) list read in
+    let f = first-cue file left i (s .clock) (endTime file) list read in
     let t : ℕ = stampAt file (inputPlace i) in
     let d = step s (f .input) t in
     let call = first-call file left i (endTime file) s list f safe timely in

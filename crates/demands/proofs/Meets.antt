@@ -21,17 +21,19 @@ use Rattle.rules.specs.Steps.{fresh, ticked, clockMove, step}
 use Rattle.rules.specs.Lists.{Cue, cue, Played, plays, playsTo}
 use Rattle.base.specs.Refusals.{number, codeOf, placeOf}
 use Rattle.rules.specs.Calls.{singleDone, singleRefused, singleCall}
-use Rattle.rules.specs.Files.{Reading, cues, bad, inputCount, endTime, parametersIn, readFile, lentEnough, ifLentEnough, readCall, verdict}
+use Rattle.rules.specs.Readings.{Reading, cues, bad, ifLentEnough, verdict}
+use Rattle.rules.specs.Files.{inputCount, endTime, parametersIn, cueAt, readFile, lentEnough, readCall}
 use Rattle.octets.specs.BigEndian.{octets32}
 use Rattle.octets.proofs.BothWays.{what-is-written-is-read}
 use Rattle.rules.specs.Runs.{recordOctets, recordsOctets, over, Whole, playFile, accepted, refused, runBy, runCall}
 use Rattle.rules.specs.Promises.{DarkShown, LightStamped}
 use Rattle.demands.specs.Demands.{Model, AnswersAll, RefusesCleanly, StaysWithin, HandedBack, SingleAnswers, Judges, PlaysAll, changed, changedByTimers, changes, CountsChanges, recordsIn, recordsOf, Keeps, Meets}
 use Rattle.base.proofs.Tests.{both}
-use Rattle.rules.specs.Refusals.{GivenWhen}
+use Rattle.base.proofs.Codes.{some-number}
+use Rattle.rules.specs.Refusals.{StartWhen, InputsWhen, GivenWhen}
 use Rattle.rules.proofs.Refusals.Calls.{SingleFinds, single-finds, single-refusal-changes-nothing, single-place-is-zero}
 use Rattle.rules.proofs.Refusals.Files.{refused-exactly-when}
-use Rattle.rules.proofs.Refusals.Runs.{RunFinds, at-fault, no-room, played, run-finds, a-good-file-is-played, some-number, a-refused-run-writes-nothing, records-length, record-count-is-one-plus-changes, answers-are-n}
+use Rattle.rules.proofs.Refusals.Runs.{RunFinds, at-fault, no-room, played, run-finds, a-good-file-is-played, a-refused-run-writes-nothing, records-length, record-count-is-one-plus-changes, answers-are-n}
 use Rattle.rules.proofs.Laws.Lists.{plays-to-next}
 use Rattle.rules.proofs.Promises.Stamps.{step-records}
 use Rattle.demands.proofs.Shown.{dark-shown-in-every-accepted-file, light-stamped-in-every-accepted-file}
@@ -57,13 +59,19 @@ accepted-records p records answers = records-read-back (p .records) records
 
 -- a run has the numbers 1 to 8, and 9 is for a state that was handed in
 numbered : (file : List ℕ) (why : Refusal) (place : ℕ) → GivenWhen file why place → number why ≤ 8
-numbered file WrongLength place g = omega arith
-numbered file WrongVersion place g = omega arith
-numbered file WrongActuators place g = omega arith
-numbered file WrongLayout place g = omega arith
-numbered file BadParameter place g = omega arith
-numbered file BadInput place g = omega arith
-numbered file BadStamp place g = omega arith
+numbered file why place (inl g) = by why g
+  where
+    by : (why : Refusal) → StartWhen file why place → number why ≤ 8
+    by WrongLength g = omega arith
+    by WrongVersion g = omega arith
+    by WrongActuators g = omega arith
+    by WrongLayout g = omega arith
+    by BadParameter g = omega arith
+numbered file why place (inr g) = by why (g .1)
+  where
+    by : (why : Refusal) → InputsWhen (cueAt file) file why place → number why ≤ 8
+    by BadInput g = omega arith
+    by BadStamp g = omega arith
 
 our-run-answers-all : AnswersAll runCall
 our-run-answers-all file records answers = by (run-finds file records answers)
@@ -81,7 +89,7 @@ our-run-judges : Judges runCall
 unfolding runCall runBy accepted refused
 our-run-judges file records answers = by (readCall file records answers)
   where
-    by : (x : Reading) → (runBy x file records answers .report .code ≡ codeOf (verdict x)) × (runBy x file records answers .report .place ≡ placeOf (verdict x))
+    by : (x : Reading Cue) → (runBy x file records answers .report .code ≡ codeOf (verdict x)) × (runBy x file records answers .report .place ≡ placeOf (verdict x))
     by (cues list) = (refl, refl)
     by (bad why place) = (refl, refl)
 
@@ -113,7 +121,7 @@ module _ (file records answers : List ℕ) (list : List Cue) (read : readCall fi
   unfolding readCall
   call-accepted = by (lentEnough file records answers) (readFile file) read
     where
-      by : (b : Bool) (x : Reading) → ifLentEnough b x ≡ cues list → (x ≡ cues list) × (b ≡ true)
+      by : (b : Bool) (x : Reading Cue) → ifLentEnough b x ≡ cues list → (x ≡ cues list) × (b ≡ true)
       by true x e = (e, refl)
       by false (cues list) e = absurd (let z : _≡_ {A = ℕ} 0 1 = cc in omega arith)
       by false (bad why place) e = absurd (let z : _≡_ {A = ℕ} 0 1 = cc in omega arith)
@@ -144,7 +152,7 @@ our-run-stays-within : StaysWithin runCall
 unfolding runCall runBy accepted refused
 our-run-stays-within file records answers = by (readCall file records answers) refl
   where
-    by : (x : Reading) → readCall file records answers ≡ x → (length (runBy x file records answers .records) ≡ length records) × (length (runBy x file records answers .answers) ≡ length answers)
+    by : (x : Reading Cue) → readCall file records answers ≡ x → (length (runBy x file records answers .records) ≡ length records) × (length (runBy x file records answers .answers) ≡ length answers)
     by (bad why place) e = (refl, refl)
     by (cues list) e = let fits = our-run-fits file records answers list e in (over-length _ records (fits .0), over-length _ answers (fits .1))
 
@@ -215,14 +223,14 @@ two-models-agree m n f g file records answers = by (readCall file records answer
     place : m file records answers .report .place ≡ n file records answers .report .place
     place = f .judges file records answers .1 ∙ sym (g .judges file records answers .1)
 
-    by : (x : Reading) → readCall file records answers ≡ x → m file records answers ≡ n file records answers
+    by : (x : Reading Cue) → readCall file records answers ≡ x → m file records answers ≡ n file records answers
     by (cues list) read =
         let a = f .plays-all file records answers list read in
         let b = g .plays-all file records answers list read in
         let count = f .counts-changes file records answers list read ∙ sym (g .counts-changes file records answers list read) in
         same-whole (m file records answers) (n file records answers) (a .state ∙ sym (b .state)) code place count (a .records ∙ sym (b .records)) (a .answers ∙ sym (b .answers))
     by (bad why x) read =
-        let table : codeOf (verdict (readCall file records answers)) ≡ number why = ap (λ (x : Reading). codeOf (verdict x)) read in
+        let table : codeOf (verdict (readCall file records answers)) ≡ number why = ap (λ (x : Reading Cue). codeOf (verdict x)) read in
         let a = f .refuses-cleanly file records answers (λ zero. omega (arith, f .judges file records answers .0, table, zero, some-number why)) in
         let b = g .refuses-cleanly file records answers (λ zero. omega (arith, g .judges file records answers .0, table, zero, some-number why)) in
         same-whole (m file records answers) (n file records answers) (a .state ∙ sym (b .state)) code place (a .count ∙ sym (b .count)) (a .records ∙ sym (b .records)) (a .answers ∙ sym (b .answers))

@@ -20,7 +20,8 @@ use Rattle.rules.specs.Steps.{fresh, clockMove, step, fired, Moves, rest, fire}
 use Rattle.rules.specs.Lists.{Cue, cue, plays, playsTo, playList}
 use Rattle.rules.specs.Promises.{Rises, stateAt, Taken, DarkPromise, NotBefore, turnAfter, LightDue, StrongLightPromise, shownAt, DarkShown, LitRecord, recordsBefore, recordsFrom, LightShown, shownBefore, LightStamped}
 use Rattle.rules.specs.Parameters.{paramsOf, scenesOf}
-use Rattle.rules.specs.Files.{cues, endTime, parametersIn, readFile}
+use Rattle.rules.specs.Readings.{cues}
+use Rattle.rules.specs.Files.{endTime, parametersIn, readFile}
 use Rattle.rules.specs.Runs.{playFile}
 use Rattle.base.proofs.Tests.{both, cond-case, by-order}
 use Rattle.rules.proofs.Laws.Soundness.{step-clock}

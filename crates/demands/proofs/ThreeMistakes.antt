@@ -5,7 +5,8 @@ use mathlib.Core.Path.{_≡_}
 use mathlib.Core.List.{List}
 use Rattle.rules.specs.Parameters.{paramsOf, scenesOf}
 use Rattle.rules.specs.Lists.{Cue}
-use Rattle.rules.specs.Files.{cues, parametersIn, endTime, readFile}
+use Rattle.rules.specs.Readings.{cues}
+use Rattle.rules.specs.Files.{parametersIn, endTime, readFile}
 use Rattle.rules.specs.Mistakes.{TiesKeepListOrder, OffIsHeard, AskingAgainIsIdle, OnIsIdleWhileItWaits, OnIsNeverLater, OutrankedIsDropped}
 use Rattle.rules.proofs.Mistakes.Ties.{ties-keep-list-order-over-the-run}
 use Rattle.rules.proofs.Mistakes.Delays.{an-off-is-heard, asking-again-never-keeps-the-house-lit}

@@ -15,7 +15,8 @@ use Rattle.rules.specs.declared.input.Input.the-variants.{SwitchOnOff}
 use Rattle.rules.specs.declared.state.State.{State}
 use Rattle.rules.specs.declared.record.Record.{Record}
 use Rattle.rules.specs.Parameters.{delay, paramsOf, sceneAt, scenesOf, greatest, numberAbove, badNumber, badFlags, badOctet, lowestBad, checkParameters}
-use Rattle.rules.specs.Inputs.{zeroOrOne, decoded, stampAt, inputAt}
+use Rattle.rules.specs.Inputs.{zeroOrOne, decoded, inputAt}
+use Rattle.octets.specs.Groups.{stampAt}
 use Rattle.rules.specs.Phases.{output, litAt, atDeadline}
 use Rattle.rules.specs.Orders.{on, off, nightFalls, switch, nightMode, order}
 use Rattle.rules.specs.Barriers.{rows, rowOf, firstBarrier, barrier}
@@ -23,7 +24,8 @@ use Rattle.rules.specs.Status.{value, recordOf}
 use Rattle.rules.specs.Steps.{fresh, tickAt, tick, ticked, clockMove, taken, meet, act, step}
 use Rattle.rules.specs.Lists.{Cue, Played, plays, playsTo, playList}
 use Rattle.rules.specs.Calls.{leastParams, unused, noScenes}
-use Rattle.rules.specs.Files.{cues, endTime, parametersIn, layoutRight, readOne, readInputs, readFile, lentEnough, readCall}
+use Rattle.rules.specs.Readings.{cues, readOne, readInputs}
+use Rattle.rules.specs.Files.{endTime, parametersIn, layoutRight, checkStart, cueAt, readFile, lentEnough, readCall}
 use Rattle.rules.specs.Runs.{recordsOctets, over, playFile, accepted, runCall}
 use Rattle.rules.specs.Promises.{turns, upTo, stateAt, Taken, NightRules, DarkDue, LightDue, shownAt, DarkShown, LitRecord, shownBefore, LightStamped}
 use Rattle.demands.specs.Demands.{Model, StaysWithin, Judges, PlaysAll, CountsChanges, recordsOf, Keeps, KeepsDark, KeepsLight}
@@ -79,7 +81,7 @@ ends-at-20 n inputs = refl
 
 -- what is opened to read them
 reading : Unit {0}
-unfolding fileOf readCall lentEnough readFile layoutRight parametersIn checkParameters lowestBad badOctet greatest badNumber badFlags numberAbove readInputs readOne inputAt stampAt decoded zeroOrOne
+unfolding fileOf readCall lentEnough readFile checkStart cueAt layoutRight parametersIn checkParameters lowestBad badOctet greatest badNumber badFlags numberAbove readInputs readOne inputAt stampAt decoded zeroOrOne
 reading = tt
 
 no-inputs : readCall (fileOf 0 []) room room ≡ cues []

@@ -19,7 +19,8 @@ use Rattle.rules.specs.Steps.{fresh, tick, clockMove, step}
 use Rattle.rules.specs.Lists.{Cue, cue, Played}
 use Rattle.base.specs.Refusals.{codeOf, placeOf}
 use Rattle.rules.specs.Calls.{ownState, places}
-use Rattle.rules.specs.Files.{cues, parametersIn, endTime, verdict, readCall}
+use Rattle.rules.specs.Readings.{cues, verdict}
+use Rattle.rules.specs.Files.{parametersIn, endTime, readCall}
 use Rattle.rules.specs.Runs.{recordsOctets, over, Whole, playFile}
 use Rattle.rules.specs.Promises.{DarkShown, LightStamped}
 

@@ -9,11 +9,12 @@ use Rattle.rules.specs.Parameters.{paramsOf, scenesOf}
 use Rattle.rules.specs.Status.{recordOf, byItself}
 use Rattle.rules.specs.Steps.{fresh}
 use Rattle.rules.specs.Lists.{Cue, Played}
-use Rattle.rules.specs.Files.{Reading, cues, bad, parametersIn, readCall}
+use Rattle.rules.specs.Readings.{Reading, cues, bad}
+use Rattle.rules.specs.Files.{parametersIn, readCall}
 use Rattle.rules.specs.Runs.{Whole, playFile, accepted, refused, runCall}
 use Rattle.demands.specs.Demands.{Model, OfEveryAccepted, recordsOf}
 
-unfoldable pub playedBy : (List ℕ → List Cue → Played) → Reading → List ℕ → List ℕ → List ℕ → Whole
+unfoldable pub playedBy : (List ℕ → List Cue → Played) → Reading Cue → List ℕ → List ℕ → List ℕ → Whole
 playedBy play (cues list) file records answers = accepted (play file list) records answers
 playedBy play (bad why place) file records answers = refused why place records answers
 

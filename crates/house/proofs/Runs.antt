@@ -11,24 +11,18 @@ use Rattle.base.specs.declared.refusal.Refusal.{Refusal}
 use Rattle.base.specs.declared.refusal.Refusal.the-variants.{ShortBuffer}
 use Rattle.base.specs.declared.refusal.Check.the-variants.{Passed, Refused}
 use Rattle.rules.specs.Layout.{recordsRoom}
-use Rattle.rules.specs.Files.{Reading, cues, bad, inputCount, readFile, lentEnough, verdict}
+use Rattle.rules.specs.Readings.{cues, verdict}
+use Rattle.rules.specs.Files.{inputCount, readFile, lentEnough}
 use Rattle.rules.specs.Runs.{playFile, accepted, refused, runCall}
 use Rattle.base.proofs.Tests.{both}
+use Rattle.rules.proofs.Refusals.Readings.{bad-read, good-read}
 use Rattle.rules.proofs.Refusals.Runs.{a-bad-file-is-refused, a-short-buffer-is-refused, a-good-file-is-played}
 use Rattle.player.specs.declared.play.Ended.{Ended}
-use Rattle.player.specs.Playing.{found, listIn, Filled}
+use Rattle.player.specs.Playing.{listIn, Filled}
 use Rattle.house.specs.Reports.{refusal, report, whole}
 use Rattle.buffers.proofs.Splices.{splice-front}
 
 -- what the check of a file has found
-bad-read : (x : Reading) (why : Refusal) (place : ℕ) → verdict x ≡ Refused why place → x ≡ bad why place
-bad-read (cues list) why place e = cc
-bad-read (bad reason at) why place e = cc
-
-good-read : (x : Reading) → verdict x ≡ Passed → x ≡ cues (found x)
-good-read (cues list) e = refl
-good-read (bad reason at) e = cc
-
 pub file-passed : (file : List ℕ) → verdict (readFile file) ≡ Passed → readFile file ≡ cues (listIn file)
 unfolding listIn
 file-passed file e = good-read (readFile file) e

@@ -1,17 +1,14 @@
 // Inputs: eight octets, with a stamp, a kind and a value, and what they carry once they are known.
 ghost use mathlib.Core.Path.{_≡_};
 ghost use Prim.Native.Nat.{_+_, _≤_};
-ghost use mathlib.Core.Bool.{true, _&&_};
-ghost use lib.Dec.{eqb};
+ghost use mathlib.Core.Bool.{true};
 ghost use lib.ListN.{length};
-ghost use Rattle.octets.specs.BigEndian.{octet};
 ghost use Rattle.rules.specs.declared.input.Decoded.the-variants.{Meant};
 ghost use Rattle.rules.specs.Layout.{inputSize};
 ghost use Rattle.rules.specs.declared.input.Input.{Input};
-ghost use Rattle.rules.specs.Inputs.{kind, decoded, stampAt, inputAt};
+ghost use Rattle.rules.specs.Inputs.{kind, decoded, inputAt};
 ghost use Rattle.inputs.specs.Meaning.{isMeant, eventOf, forceOf};
-use base::logic::both;
-use octets::read32;
+use octets::group::ends_in_zeros;
 use rules::input::Decoded;
 use rules::input::Event;
 use rules::input::Force;
@@ -72,24 +69,6 @@ fn known_input(kind: u8, value: u8) -> Input
         7 => Input::Bus(known_event(one)),
         _ => Input::Power(known_event(one)),
     }
-}
-
-// The stamp of the input that starts at a place.
-pub fn stamp_at(octets: &[u8], at: usize) -> u32
-    requires { ⌜ at + inputSize ≤ length (now octets) ⌝ }
-    ensures { λ r. ⌜ r ≡ stampAt (now (octets .entry)) at ⌝ }
-{
-    read32(octets, at)
-}
-
-// The last two octets of an input must be zero.
-fn ends_in_zeros(octets: &[u8], at: usize) -> bool
-    requires { ⌜ at + inputSize ≤ length (now octets) ⌝ }
-    ensures { λ r. ⌜ r ≡ (eqb (octet (now (octets .entry)) (at + 6)) 0 && eqb (octet (now (octets .entry)) (at + 7)) 0) ⌝ }
-{
-    let first = octets[at + 6] == 0;
-    let second = octets[at + 7] == 0;
-    both(first, second)
 }
 
 // Whether an input starts at a place.

@@ -12,7 +12,7 @@ use base::moment::stamp_in_range;
 use base::refusal::Refusal;
 use base::refusal::number_of;
 use inputs::input_at;
-use inputs::stamp_at;
+use octets::group::stamp_at;
 use records::notes;
 use rules::call::Single;
 use rules::input::Decoded;

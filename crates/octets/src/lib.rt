@@ -5,6 +5,8 @@ ghost use lib.ListN.{length};
 ghost use Rattle.octets.specs.BigEndian.{be16, be32, octets32};
 ghost use Rattle.octets.specs.Splice.{splice};
 
+pub mod group;
+
 // An octet as a wider number.
 fn wide(x: u8) -> u32
     ensures { λ r. ⌜ (r ≡ x) × (r < 256) ⌝ }

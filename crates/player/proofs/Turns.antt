@@ -10,7 +10,8 @@ use Rattle.rules.specs.declared.parameters.Params.{Params}
 use Rattle.rules.specs.declared.parameters.Scene.{Scene}
 use Rattle.rules.specs.declared.input.Decoded.{Decoded}
 use Rattle.rules.specs.declared.input.Decoded.the-variants.{Meant, Wrong}
-use Rattle.rules.specs.Inputs.{stampAt, inputAt}
+use Rattle.rules.specs.Inputs.{inputAt}
+use Rattle.octets.specs.Groups.{stampAt}
 use Rattle.rules.specs.declared.barrier.Why.{Why}
 use Rattle.rules.specs.declared.barrier.Barrier.the-variants.{Open, Stopped}
 use Rattle.rules.specs.Orders.{order}
@@ -28,16 +29,17 @@ use Rattle.records.proofs.Written.{listed-first}
 use Rattle.timers.proofs.Moves.{joined}
 use Rattle.actuator.proofs.Taken.{open-is-taken, open-teaches, barred-is-stopped, barred-keeps, acting-keeps, later, step-splits, later-joined}
 use Rattle.player.specs.declared.play.Moment.{Moment}
-use Rattle.player.specs.Playing.{found, listIn, Ready, Filled, Advanced}
+use Rattle.player.specs.Playing.{listIn, Ready, Filled, Advanced}
 use Rattle.rules.specs.declared.input.Input.{Input}
 use Rattle.rules.specs.declared.state.State.{State}
 use Rattle.rules.specs.declared.record.Record.{Record}
 use Rattle.rules.specs.Soundness.{sound}
 use Rattle.rules.specs.Lists.{Cue, cue, Played, andThen, stepped, plays, still}
 use Rattle.rules.specs.Layout.{inputPlace}
-use Rattle.rules.specs.Files.{cues, endTime, readInputs}
+use Rattle.rules.specs.Readings.{cues, found, readInputs}
+use Rattle.rules.specs.Files.{endTime, cueAt}
 use Rattle.rules.specs.Runs.{recordsOctets}
-use Rattle.rules.proofs.Refusals.Readings.{First, first-read}
+use Rattle.rules.proofs.Refusals.Files.{FirstCue, first-cue}
 use Rattle.rules.proofs.Laws.Inputs.{input-number}
 use Rattle.rules.proofs.Laws.Soundness.{move-keeps, step-is-sound, step-clock}
 use Rattle.rules.proofs.Laws.Records.{an-input-writes-at-most-three}
@@ -107,7 +109,7 @@ pub record Going (file : List ℕ) (n : ℕ) (start : State) (records₀ answers
   pub wrote : List Record
   pub later : List Cue
   pub played : plays (listIn file) start ≡ andThen (record { state = s; answers = said; records = wrote }) (plays later)
-  pub reads : readInputs file (n - i) i (s .clock) (endTime file) ≡ cues later
+  pub reads : readInputs (cueAt file) file (n - i) i (s .clock) (endTime file) ≡ cues later
   pub safe : sound s ≡ true
   pub count : k ≡ 1 + length wrote
   pub few : k ≤ 1 + 3 * i
@@ -139,8 +141,8 @@ module _ (file : List ℕ) (n : ℕ) (start : State) (r₀ a₀ : List ℕ) (rea
 
   module _ (r a : List ℕ) (s : State) (k i : ℕ) (g : Going file n start r₀ a₀ r a s k i) where
     -- the next input, where there is one
-    pub turn : i < n → First file (n - (i + 1)) i (s .clock) (endTime file) (g .later)
-    turn h = let left : n - i ≡ suc (n - (i + 1)) = omega arith in first-read file _ i _ _ _ (rw left at (g .reads))
+    pub turn : i < n → FirstCue file (n - (i + 1)) i (s .clock) (endTime file) (g .later)
+    turn h = let left : n - i ≡ suc (n - (i + 1)) = omega arith in first-cue file _ i _ _ _ (rw left at (g .reads))
 
     -- it is played: its records come after those that were written, its answer after those that were given
     going-step : (h : i < n) → let d = step s (turn h .input) (stampAt file (inputPlace i)) in 8 ≤ length r₀ → n ≤ length a₀

@@ -13,7 +13,8 @@ use Rattle.rules.specs.Parameters.{paramsOf, scenesOf}
 use Rattle.rules.specs.Steps.{Moved, fresh, clockMove}
 use Rattle.rules.specs.Soundness.{sound}
 use Rattle.rules.specs.Lists.{Cue, Played}
-use Rattle.rules.specs.Files.{Reading, cues, bad, inputCount, endTime, parametersIn, readInputs, readFile}
+use Rattle.rules.specs.Readings.{cues, found, readInputs}
+use Rattle.rules.specs.Files.{inputCount, endTime, parametersIn, cueAt, readFile}
 use Rattle.rules.specs.Runs.{recordsOctets}
 use Rattle.lamps.specs.declared.lamp.Lamp.{Lamp}
 use Rattle.lamps.specs.Lamps.{lampOf, stateOf}
@@ -22,10 +23,6 @@ use Rattle.player.specs.declared.play.Ended.{Ended}
 use Rattle.player.specs.declared.play.Moment.{Moment}
 
 -- the cues that a reading has found
-abbrev pub found : Reading → List Cue
-found (cues list) = list
-found (bad why place) = []
-
 unfoldable pub listIn : List ℕ → List Cue
 listIn file = found (readFile file)
 
@@ -43,7 +40,7 @@ pub record Ready (file : List ℕ) (n : ℕ) (s : State) : Type 0 where
   pub few : n ≤ mostInputs
   pub whole : inputPlace n ≤ length file
   pub timely : endTime file ≤ lastStamp
-  pub reads : readInputs file n 0 (s .clock) (endTime file) ≡ cues (listIn file)
+  pub reads : readInputs (cueAt file) file n 0 (s .clock) (endTime file) ≡ cues (listIn file)
   pub sound : sound s ≡ true
 
 -- the records of what was played stand after the first so many, the answers from the start of their buffer on, and the

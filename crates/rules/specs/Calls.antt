@@ -18,7 +18,8 @@ use Rattle.rules.specs.declared.call.Single.{Single}
 use Rattle.rules.specs.declared.call.Move.{Move}
 use Rattle.base.specs.Time.{tenths}
 use Rattle.rules.specs.Parameters.{paramsOf, scenesOf, checkParameters}
-use Rattle.rules.specs.Inputs.{inputAt, stampAt}
+use Rattle.rules.specs.Inputs.{inputAt}
+use Rattle.octets.specs.Groups.{stampAt}
 use Rattle.rules.specs.Steps.{Moved, Stepped, fresh, clockMove, step}
 use Rattle.rules.specs.Soundness.{sound}
 use Rattle.base.specs.Refusals.{number, codeOf, placeOf, stampInRange}

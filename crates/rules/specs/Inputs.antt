@@ -1,9 +1,9 @@
 -- The eight kinds of input, each with its own value (01, "Time and the cue file").
 use Prim.Native.Nat.{ℕ, _+_, _/_, _%_}
-use mathlib.Core.Bool.{true, false, cond, _&&_}
+use mathlib.Core.Bool.{true, false, cond}
 use mathlib.Core.List.{List}
 use lib.Dec.{eqb, leb}
-use Rattle.octets.specs.BigEndian.{octet, be32}
+use Rattle.octets.specs.Groups.{kindAt, valueAt, endsInZeros}
 use Rattle.rules.specs.declared.input.Force.{Force}
 use Rattle.rules.specs.declared.input.Force.the-variants.{Free, Off, On}
 use Rattle.rules.specs.declared.input.Event.{Event}
@@ -87,10 +87,6 @@ decoded kind value =
     (cond (eqb kind 8) (zeroOrOne value (Power Failure) (Power Return))
     Wrong)))))))
 
--- "Input, 8 octets: 0-3 stamp; 4 kind; 5 value; 6-7 zero."
-unfoldable pub stampAt : List ℕ → ℕ → ℕ
-stampAt octets at = be32 octets at
-
+-- "Input, 8 octets: 0-3 stamp; 4 kind; 5 value; 6-7 zero." (where they stand: octets, specs/Groups.antt)
 unfoldable pub inputAt : List ℕ → ℕ → Decoded
-inputAt octets at =
-    cond (eqb (octet octets (at + 6)) 0 && eqb (octet octets (at + 7)) 0) (decoded (octet octets (at + 4)) (octet octets (at + 5))) Wrong
+inputAt octets at = cond (endsInZeros octets at) (decoded (kindAt octets at) (valueAt octets at)) Wrong

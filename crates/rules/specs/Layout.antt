@@ -1,6 +1,7 @@
 -- Where the parts of a cue file and of the buffer of records stand, and how long they are (01, "Time and the cue file"). The places
 -- inside the header, an input and a record stand with their readings.
 use Prim.Native.Nat.{ℕ, _+_, _*_}
+use Rattle.octets.specs.Groups.{groupSize}
 
 -- "Header, 20 octets of counts and offsets"; "offset of parameters (20)"
 abbrev pub parametersAt : ℕ
@@ -31,7 +32,7 @@ inputsAt = 52
 
 -- "Input, 8 octets"
 abbrev pub inputSize : ℕ
-inputSize = 8
+inputSize = groupSize
 
 -- "count n of inputs (0 to 2,048)"
 abbrev pub mostInputs : ℕ

@@ -12,6 +12,7 @@ pub mod Scenes
 pub mod Orders
 pub mod Status
 pub mod Calls
+pub mod Readings
 pub mod Files
 pub mod Runs
 pub mod Soundness

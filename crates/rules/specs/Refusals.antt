@@ -3,23 +3,24 @@
 use Prim.Native.Nat.{ℕ, zero, suc, _+_, _*_, _/_, _%_, _^_, _≤_, _<_}
 use mathlib.Core.Bool.{true, false}
 use mathlib.Core.List.{List}
-use mathlib.Core.Logic.{_↔_, _⊎_}
-use mathlib.Core.Option.{some}
+use mathlib.Core.Logic.{_⊎_}
+use mathlib.Core.Option.{Option, some, none}
 use mathlib.Core.Path.{_≡_}
-use lib.ListN.{length, getElem?}
+use lib.ListN.{length}
 use Rattle.rules.specs.declared.input.Input.{Input}
-use Rattle.rules.specs.declared.input.Decoded.the-variants.{Meant, Wrong}
+use Rattle.rules.specs.declared.input.Decoded.the-variants.{Meant}
 use Rattle.rules.specs.declared.state.State.{State}
 use Rattle.rules.specs.declared.call.Ran.{Ran}
 use Rattle.base.specs.declared.refusal.Refusal.{Refusal}
-use Rattle.base.specs.declared.refusal.Refusal.the-variants.{WrongLength, WrongVersion, WrongActuators, WrongLayout, BadParameter, BadInput, BadStamp, ShortBuffer, UnsoundState}
+use Rattle.base.specs.declared.refusal.Refusal.the-variants.{WrongLength, WrongVersion, WrongActuators, WrongLayout, BadParameter, BadInput, BadStamp, ShortBuffer, UnsoundState, BadAction}
 use Rattle.base.specs.declared.refusal.Check.{Check}
 use Rattle.base.specs.declared.refusal.Check.the-variants.{Passed, Refused}
+use Rattle.base.specs.Refusals.{Only, Then, Codes, Timely, CallCodes}
 use Rattle.rules.specs.Layout.{inputPlace}
 use Rattle.rules.specs.Parameters.{badOctet, checkParameters}
-use Rattle.rules.specs.Inputs.{inputAt, stampAt}
-use Rattle.rules.specs.Lists.{Cue, cue}
-use Rattle.rules.specs.Files.{version, actuators, parametersOffset, inputCount, inputsOffset, endTime, parametersIn}
+use Rattle.rules.specs.Inputs.{inputAt}
+use Rattle.octets.specs.Groups.{stampAt}
+use Rattle.rules.specs.Files.{version, actuators, parametersOffset, inputCount, inputsOffset, endTime, parametersIn, cueAt}
 use Rattle.rules.specs.Soundness.{sound}
 
 -- ---- parameters
@@ -35,7 +36,7 @@ pub record FirstBad (octets : List ℕ) (at : ℕ) : Type 0 where
   pub bad : badOctet octets at ≡ true
   pub good : (j : ℕ) → j < at → badOctet octets j ≡ false
 
--- what the check of parameters finds, and when: two of the nine refusals, and the others never
+-- what the check of parameters finds, and when: two of the refusals, and the others never
 abbrev pub FoundWhen : List ℕ → Check → Type 0
 FoundWhen octets Passed = GoodParameters octets
 FoundWhen octets (Refused WrongLength place) = (place ≡ 0) × (length octets ≡ 32 → ⊥)
@@ -47,6 +48,7 @@ FoundWhen octets (Refused BadInput place) = ⊥
 FoundWhen octets (Refused BadStamp place) = ⊥
 FoundWhen octets (Refused ShortBuffer place) = ⊥
 FoundWhen octets (Refused UnsoundState place) = ⊥
+FoundWhen octets (Refused BadAction place) = ⊥
 
 -- ---- a file
 
@@ -71,83 +73,86 @@ pub record GoodStart (file : List ℕ) : Type 0 where
   pub header : GoodHeader file
   pub passed : checkParameters (parametersIn file) ≡ Passed
 
+-- when a file is refused for what stands before its inputs
+abbrev pub StartWhen : List ℕ → Refusal → ℕ → Type 0
+StartWhen file WrongLength place = (place ≡ 0) × (length file < 52)
+StartWhen file WrongVersion place = (place ≡ 0) × (52 ≤ length file) × (version file ≡ 1 → ⊥)
+StartWhen file WrongActuators place = (place ≡ 0) × (52 ≤ length file) × (version file ≡ 1) × (actuators file ≡ 1 → ⊥)
+StartWhen file WrongLayout place = (place ≡ 0) × (52 ≤ length file) × (version file ≡ 1) × (actuators file ≡ 1) × (GoodLayout file → ⊥)
+StartWhen file BadParameter place = GoodHeader file × FirstBad (parametersIn file) place
+StartWhen file BadInput place = ⊥
+StartWhen file BadStamp place = ⊥
+StartWhen file ShortBuffer place = ⊥
+StartWhen file UnsoundState place = ⊥
+StartWhen file BadAction place = ⊥
+
+-- ---- the inputs of a file, whatever they may say: `at j` is what the one at index j says, if it says anything
+
 -- the stamp before that of an input; before the first it is 0
 abbrev pub stampBefore : List ℕ → ℕ → ℕ
 stampBefore file zero = 0
 stampBefore file (suc j) = stampAt file (inputPlace j)
 
 -- an input that neither row 6 nor row 7 holds for
-pub record GoodInput (file : List ℕ) (j : ℕ) : Type 0 where
-  pub input : Input
-  pub means : inputAt file (inputPlace j) ≡ Meant input
+pub record GoodInput {A : Type 0} (at : ℕ → Option A) (file : List ℕ) (j : ℕ) : Type 0 where
+  pub input : A
+  pub means : at j ≡ some input
   pub risen : stampBefore file j ≤ stampAt file (inputPlace j)
   pub timely : stampAt file (inputPlace j) ≤ endTime file
 
+abbrev pub GoodInputs : {A : Type 0} → (ℕ → Option A) → List ℕ → Type 0
+GoodInputs at file = (j : ℕ) → j < inputCount file → GoodInput at file j
+
 -- row 6 holds for this input, and no row for any before it
-pub record FirstWrong (file : List ℕ) (place : ℕ) : Type 0 where
-  pub start : GoodStart file
+pub record FirstWrong {A : Type 0} (at : ℕ → Option A) (file : List ℕ) (place : ℕ) : Type 0 where
   pub within : place < inputCount file
-  pub wrong : inputAt file (inputPlace place) ≡ Wrong
-  pub good : (j : ℕ) → j < place → GoodInput file j
+  pub wrong : at place ≡ none
+  pub good : (j : ℕ) → j < place → GoodInput at file j
 
 -- row 7 holds for this input but not row 6, and no row for any before it
-pub record FirstUntimely (file : List ℕ) (place : ℕ) : Type 0 where
-  pub start : GoodStart file
+pub record FirstUntimely {A : Type 0} (at : ℕ → Option A) (file : List ℕ) (place : ℕ) : Type 0 where
   pub within : place < inputCount file
-  pub input : Input
-  pub means : inputAt file (inputPlace place) ≡ Meant input
+  pub input : A
+  pub means : at place ≡ some input
   pub untimely : (stampAt file (inputPlace place) < stampBefore file place) ⊎ (endTime file < stampAt file (inputPlace place))
-  pub good : (j : ℕ) → j < place → GoodInput file j
+  pub good : (j : ℕ) → j < place → GoodInput at file j
 
--- when a file is refused for a reason, at a place
+-- when a file is refused for one of its inputs
+abbrev pub InputsWhen : {A : Type 0} → (ℕ → Option A) → List ℕ → Refusal → ℕ → Type 0
+InputsWhen at file WrongLength place = ⊥
+InputsWhen at file WrongVersion place = ⊥
+InputsWhen at file WrongActuators place = ⊥
+InputsWhen at file WrongLayout place = ⊥
+InputsWhen at file BadParameter place = ⊥
+InputsWhen at file BadInput place = FirstWrong at file place
+InputsWhen at file BadStamp place = FirstUntimely at file place
+InputsWhen at file ShortBuffer place = ⊥
+InputsWhen at file UnsoundState place = ⊥
+InputsWhen at file BadAction place = ⊥
+
+-- ---- the whole file
+
+-- "Order 1, 2, 3, 4, 5; then the first bad input"
 abbrev pub GivenWhen : List ℕ → Refusal → ℕ → Type 0
-GivenWhen file WrongLength place = (place ≡ 0) × (length file < 52)
-GivenWhen file WrongVersion place = (place ≡ 0) × (52 ≤ length file) × (version file ≡ 1 → ⊥)
-GivenWhen file WrongActuators place = (place ≡ 0) × (52 ≤ length file) × (version file ≡ 1) × (actuators file ≡ 1 → ⊥)
-GivenWhen file WrongLayout place = (place ≡ 0) × (52 ≤ length file) × (version file ≡ 1) × (actuators file ≡ 1) × (GoodLayout file → ⊥)
-GivenWhen file BadParameter place = GoodHeader file × FirstBad (parametersIn file) place
-GivenWhen file BadInput place = FirstWrong file place
-GivenWhen file BadStamp place = FirstUntimely file place
-GivenWhen file ShortBuffer place = ⊥
-GivenWhen file UnsoundState place = ⊥
+GivenWhen file = Then (StartWhen file) (GoodStart file) (InputsWhen (cueAt file) file)
 
 -- no row holds
 pub record GoodFile (file : List ℕ) : Type 0 where
   pub start : GoodStart file
-  pub good : (j : ℕ) → j < inputCount file → GoodInput file j
-
--- what input j of a file says is the k-th cue
-pub record Says (file : List ℕ) (j : ℕ) (list : List Cue) (k : ℕ) : Type 0 where
-  pub input : Input
-  pub means : inputAt file (inputPlace j) ≡ Meant input
-  pub listed : getElem? list k ≡ some (cue (stampAt file (inputPlace j)) input)
+  pub good : GoodInputs (cueAt file) file
 
 -- ---- the public calls: each code with its place, exactly when the table gives it
 
-pub record FreshCodes (octets : List ℕ) (code place : ℕ) : Type 0 where
-  pub one : (p : ℕ) → ((code ≡ 1) × (place ≡ p)) ↔ FoundWhen octets (Refused WrongLength p)
-  pub five : (p : ℕ) → ((code ≡ 5) × (place ≡ p)) ↔ FoundWhen octets (Refused BadParameter p)
-  pub zero : (p : ℕ) → ((code ≡ 0) × (place ≡ p)) ↔ ((p ≡ 0) × GoodParameters octets)
-
--- "7 | stamp below the one before (or the clock), above the end time (single input or clock move: 864,000)"
-abbrev pub Timely : ℕ → ℕ → Type 0
-Timely clock stamp = (clock ≤ stamp) × (stamp ≤ 864_000)
-
-abbrev pub Untimely : ℕ → ℕ → Type 0
-Untimely clock stamp = (stamp < clock) ⊎ (864_000 < stamp)
+abbrev pub FreshCodes : List ℕ → ℕ → ℕ → Type 0
+FreshCodes octets = Codes (λ why p. FoundWhen octets (Refused why p)) (GoodParameters octets)
 
 -- "For a single input 9, 6, 7, place 0."
-pub record SingleCodes (s : State) (octets : List ℕ) (code : ℕ) : Type 0 where
-  pub nine : (code ≡ 9) ↔ (sound s ≡ false)
-  pub six : (code ≡ 6) ↔ ((sound s ≡ true) × (inputAt octets 0 ≡ Wrong))
-  pub seven : (code ≡ 7) ↔ ((i : Input) × (sound s ≡ true) × (inputAt octets 0 ≡ Meant i) × Untimely (s .clock) (stampAt octets 0))
-  pub zero : (code ≡ 0) ↔ ((i : Input) × (sound s ≡ true) × (inputAt octets 0 ≡ Meant i) × Timely (s .clock) (stampAt octets 0))
+abbrev pub SingleCodes : State → List ℕ → ℕ → ℕ → Type 0
+SingleCodes s octets = CallCodes (sound s ≡ true) ((i : Input) × (inputAt octets 0 ≡ Meant i)) (Timely (s .clock) (stampAt octets 0))
 
--- "A clock move: 9, 7."
-pub record MoveCodes (s : State) (stamp code : ℕ) : Type 0 where
-  pub nine : (code ≡ 9) ↔ (sound s ≡ false)
-  pub seven : (code ≡ 7) ↔ ((sound s ≡ true) × Untimely (s .clock) stamp)
-  pub zero : (code ≡ 0) ↔ ((sound s ≡ true) × Timely (s .clock) stamp)
+-- "A clock move: 9, 7." (nothing that it asks for could be unknown)
+abbrev pub MoveCodes : State → ℕ → ℕ → ℕ → Type 0
+MoveCodes s stamp = CallCodes (sound s ≡ true) Unit (Timely (s .clock) stamp)
 
 -- "records, at least 8(3n+3) octets, and answers, at least n"
 pub record RoomFor (n : ℕ) (records answers : List ℕ) : Type 0 where
@@ -155,16 +160,10 @@ pub record RoomFor (n : ℕ) (records answers : List ℕ) : Type 0 where
   pub long : n ≤ length answers
 
 -- "Order 1, 2, 3, 4, 5; then the first bad input, 6 before 7; then 8."
-pub record RunCodes (file records answers : List ℕ) (code place : ℕ) : Type 0 where
-  pub one : (p : ℕ) → ((code ≡ 1) × (place ≡ p)) ↔ GivenWhen file WrongLength p
-  pub two : (p : ℕ) → ((code ≡ 2) × (place ≡ p)) ↔ GivenWhen file WrongVersion p
-  pub three : (p : ℕ) → ((code ≡ 3) × (place ≡ p)) ↔ GivenWhen file WrongActuators p
-  pub four : (p : ℕ) → ((code ≡ 4) × (place ≡ p)) ↔ GivenWhen file WrongLayout p
-  pub five : (p : ℕ) → ((code ≡ 5) × (place ≡ p)) ↔ GivenWhen file BadParameter p
-  pub six : (p : ℕ) → ((code ≡ 6) × (place ≡ p)) ↔ GivenWhen file BadInput p
-  pub seven : (p : ℕ) → ((code ≡ 7) × (place ≡ p)) ↔ GivenWhen file BadStamp p
-  pub eight : (p : ℕ) → ((code ≡ 8) × (place ≡ p)) ↔ ((p ≡ 0) × GoodFile file × (RoomFor (inputCount file) records answers → ⊥))
-  pub zero : (p : ℕ) → ((code ≡ 0) × (place ≡ p)) ↔ ((p ≡ 0) × GoodFile file × RoomFor (inputCount file) records answers)
+abbrev pub RunCodes : List ℕ → List ℕ → List ℕ → ℕ → ℕ → Type 0
+RunCodes file records answers =
+    let Room : Type 0 = RoomFor (inputCount file) records answers in
+    Codes (Then (GivenWhen file) (GoodFile file) (Only ShortBuffer 0 (Room → ⊥))) (GoodFile file × Room)
 
 -- "To C it answers one 64-bit number": what the header's macros take it apart into, by shifts and masks
 pub record TakenApart (number : ℕ) (r : Ran) : Type 0 where

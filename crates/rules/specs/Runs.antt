@@ -10,7 +10,8 @@ use Rattle.rules.specs.Parameters.{paramsOf, scenesOf}
 use Rattle.rules.specs.Lists.{Cue, Played, playList}
 use Rattle.base.specs.Refusals.{number}
 use Rattle.rules.specs.Calls.{ownState}
-use Rattle.rules.specs.Files.{Reading, cues, bad, parametersIn, endTime, readCall}
+use Rattle.rules.specs.Readings.{Reading, cues, bad}
+use Rattle.rules.specs.Files.{parametersIn, endTime, readCall}
 
 -- "A record is 8 octets: stamp, value, attributes, cause, zero." "Numbers are most significant octet first."
 unfoldable pub recordOctets : Record → List ℕ
@@ -52,7 +53,7 @@ refused why place records answers =
       answers = answers;
     }
 
-unfoldable pub runBy : Reading → List ℕ → List ℕ → List ℕ → Whole
+unfoldable pub runBy : Reading Cue → List ℕ → List ℕ → List ℕ → Whole
 runBy (cues list) file records answers = accepted (playFile file list) records answers
 runBy (bad why place) file records answers = refused why place records answers
 

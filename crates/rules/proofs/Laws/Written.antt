@@ -15,7 +15,7 @@ use Rattle.rules.specs.declared.parameters.Params.{Params}
 use Rattle.rules.specs.declared.parameters.Scene.{Scene}
 use Rattle.base.specs.declared.refusal.Check.the-variants.{Passed}
 use Rattle.rules.specs.Parameters.{delay, paramsOf, sceneAt, scenesOf, greatest, numberAbove, badNumber, badFlags, badOctet, checkParameters}
-use Rattle.rules.specs.Inputs.{stampAt}
+use Rattle.octets.specs.Groups.{stampAt}
 use Rattle.rules.specs.Files.{version, actuators, parametersOffset, inputCount, inputsOffset, endTime}
 use Rattle.rules.specs.Written.{delayOctets, modeOctets, paramsOctets, flagsOctet, scenesOctets, parametersOctets, headerOctets}
 use Rattle.rules.specs.Facts.{Delay, ParamsFit, entry, ScenesFit}

@@ -3,46 +3,32 @@ use Prim.Native.Nat.{ℕ, _-_, _<_}
 use mathlib.Core.Bool.{Bool, true, false, cond}
 use mathlib.Core.List.{List, [], _++_}
 use mathlib.Core.Logic.{_↔_}
-use mathlib.Core.Path.{_≡_, refl, sym, _∙_}
+use mathlib.Core.Path.{_≡_, refl}
 use lib.ListN.{length}
-use native.Mathlib.Omega.{arith}
-use lib.Dec.{leb}
-use borrow.Author.Tests.{leb-true, le-leb}
 use Rattle.octets.specs.BigEndian.{octet}
 use Rattle.rules.specs.declared.input.Input.{Input}
 use Rattle.rules.specs.declared.input.Decoded.{Decoded}
 use Rattle.rules.specs.declared.input.Decoded.the-variants.{Meant, Wrong}
 use Rattle.rules.specs.declared.state.State.{State}
-use Rattle.base.specs.declared.refusal.Refusal.the-variants.{WrongLength, BadParameter, BadInput, BadStamp, UnsoundState}
+use Rattle.base.specs.declared.refusal.Refusal.the-variants.{BadInput, BadStamp, UnsoundState}
 use Rattle.base.specs.declared.refusal.Check.{Check}
 use Rattle.base.specs.declared.refusal.Check.the-variants.{Passed, Refused}
 use Rattle.rules.specs.declared.call.Single.{Single}
 use Rattle.rules.specs.declared.call.Move.{Move}
-use Rattle.rules.specs.Inputs.{stampAt, inputAt}
+use Rattle.rules.specs.Inputs.{inputAt}
+use Rattle.octets.specs.Groups.{stampAt}
 use Rattle.rules.specs.Steps.{clockMove, step}
 use Rattle.rules.specs.Soundness.{sound}
-use Rattle.base.specs.Refusals.{stampInRange}
+use Rattle.base.specs.Refusals.{codeOf, placeOf, stampInRange, checkCall}
 use Rattle.rules.specs.Parameters.{checkParameters}
 use Rattle.rules.specs.Calls.{freshBy, freshCall, places, singleDone, singleRefused, singleMeant, singleCall, moveDone, moveRefused, moveCall}
-use Rattle.rules.specs.Refusals.{GoodParameters, FirstBad, FoundWhen, FreshCodes, Timely, Untimely, SingleCodes, MoveCodes}
-use Rattle.base.proofs.Tests.{both, no}
+use Rattle.rules.specs.Refusals.{FoundWhen, FreshCodes, SingleCodes, MoveCodes}
+use Rattle.base.proofs.Tests.{no}
+use Rattle.base.proofs.Codes.{codes-of-a-check, timely-exactly-when, call-codes}
 use Rattle.rules.proofs.Laws.Soundness.{own-state-is-sound, move-is-sound, step-is-sound}
 use Rattle.rules.proofs.Laws.Inputs.{not-meant, input-number}
-use Rattle.rules.proofs.Laws.Parameters.{same-place, lowest-bad-octet, passed-is-sound}
-use Rattle.rules.proofs.Refusals.Files.{out-of-range, not-in-range}
+use Rattle.rules.proofs.Laws.Parameters.{lowest-bad-octet, passed-is-sound}
 use Rattle.rules.proofs.Laws.Records.{a-move-writes-at-most-two, an-input-writes-at-most-three, places-hold-all}
-
--- "7 | stamp below .. (or the clock), above .. 864,000": exactly when the test of a stamp fails
-pub timely-exactly-when : (clock stamp : ℕ) → (stampInRange clock stamp ≡ true) ↔ Timely clock stamp
-unfolding stampInRange
-timely-exactly-when clock stamp = (
-  λ h. let e = both (leb clock stamp) _ h in (leb-true _ _ (e .0), leb-true _ _ (e .1)),
-  λ t. simp (le-leb clock stamp (t .0), le-leb stamp 864_000 (t .1)),
-)
-
-untimely-exactly-when : (clock stamp : ℕ) → (stampInRange clock stamp ≡ false) ↔ Untimely clock stamp
-unfolding stampInRange
-untimely-exactly-when clock stamp = (out-of-range clock stamp 864_000, not-in-range clock stamp 864_000)
 
 -- ---- a single input
 
@@ -76,42 +62,34 @@ module _ (s : State) (octets : List ℕ) where
   unfolding singleCall singleMeant
   good-is-played i h m e = rw (h, m, e)
 
-pub single-refused-exactly-when : (s : State) (octets : List ℕ) → SingleCodes s octets (singleCall s octets .code)
-single-refused-exactly-when s octets = by (single-finds s octets)
-  where
-    by : {r : Single} → SingleFinds s octets r → SingleCodes s octets (r .code)
-    by (not-sound h) =
-        unfold singleRefused in
-        record {
-          nine = (λ e. h, λ e. refl);
-          six = (λ e. absurd (omega arith), λ e. no (sym h ∙ e .0));
-          seven = (λ e. absurd (omega arith), λ e. no (sym h ∙ e .1));
-          zero = (λ e. absurd (omega arith), λ e. no (sym h ∙ e .1));
-        }
-    by (wrong h m) =
-        unfold singleRefused in
-        record {
-          nine = (λ e. absurd (omega arith), λ e. no (sym e ∙ h));
-          six = (λ e. (h, m), λ e. refl);
-          seven = (λ e. absurd (omega arith), λ e. not-meant (sym m ∙ e .2));
-          zero = (λ e. absurd (omega arith), λ e. not-meant (sym m ∙ e .2));
-        }
-    by (untimely i h m t) =
-        unfold singleRefused in
-        record {
-          nine = (λ e. absurd (omega arith), λ e. no (sym e ∙ h));
-          six = (λ e. absurd (omega arith), λ e. not-meant (sym (e .1) ∙ m));
-          seven = (λ e. (i, h, m, untimely-exactly-when _ _ .0 t), λ e. refl);
-          zero = (λ e. absurd (omega arith), λ e. no (sym t ∙ timely-exactly-when _ _ .1 (e .3)));
-        }
-    by (plays i h m t) =
-        unfold singleDone in
-        record {
-          nine = (λ e. absurd (omega arith), λ e. no (sym e ∙ h));
-          six = (λ e. absurd (omega arith), λ e. not-meant (sym (e .1) ∙ m));
-          seven = (λ e. absurd (omega arith), λ e. no (sym (untimely-exactly-when _ _ .1 (e .3)) ∙ t));
-          zero = (λ e. (i, h, m, timely-exactly-when _ _ .0 t), λ e. refl);
-        }
+-- whether eight octets mean an input
+abbrev known : Decoded → Bool
+known (Meant i) = true
+known Wrong = false
+
+known-exactly-when : (d : Decoded) → (known d ≡ true) ↔ ((i : Input) × (d ≡ Meant i))
+known-exactly-when (Meant i) = (λ h. (i, refl), λ g. refl)
+known-exactly-when Wrong = (λ h. no h, λ g. not-meant (g .1))
+
+-- its code and its place are those of its three tests
+module _ (s : State) (octets : List ℕ) where
+  abbrev tested : Check
+  tested = checkCall (sound s) (known (inputAt octets 0)) (stampInRange (s .clock) (stampAt octets 0))
+
+  single-is-tested : (singleCall s octets .code ≡ codeOf tested) × (singleCall s octets .place ≡ placeOf tested)
+  single-is-tested = by (single-finds s octets)
+    where
+      by : {r : Single} → SingleFinds s octets r → (r .code ≡ codeOf tested) × (r .place ≡ placeOf tested)
+      by (not-sound h) = unfold singleRefused checkCall in rw h (refl, refl)
+      by (wrong h m) = unfold singleRefused checkCall in rw (h, m) (refl, refl)
+      by (untimely i h m t) = unfold singleRefused checkCall in rw (h, m, t) (refl, refl)
+      by (plays i h m t) = unfold singleDone checkCall in rw (h, m, t) (refl, refl)
+
+  pub single-refused-exactly-when : SingleCodes s octets (singleCall s octets .code) (singleCall s octets .place)
+  single-refused-exactly-when =
+      let e = single-is-tested in
+      rw (e .0, e .1)
+      (call-codes _ _ _ (sound s) (known (inputAt octets 0)) (stampInRange (s .clock) (stampAt octets 0)) (λ h. h, λ h. h) (known-exactly-when (inputAt octets 0)) (timely-exactly-when (s .clock) (stampAt octets 0)))
 
 -- "A refused call .. hands back the state it was given"; answer, count and records are 0, and so is the place
 pub single-refusal-changes-nothing : (s : State) (octets : List ℕ) → (singleCall s octets .code ≡ 0 → ⊥) →
@@ -147,31 +125,19 @@ move-finds s stamp = by (sound s) (stampInRange (s .clock) stamp) refl refl
     by true false h e = MoveFinds.untimely h e
     by true true h e = moves h e
 
-pub move-refused-exactly-when : (s : State) (stamp : ℕ) → MoveCodes s stamp (moveCall s stamp .code)
-move-refused-exactly-when s stamp = by (move-finds s stamp)
-  where
-    by : {r : Move} → MoveFinds s stamp r → MoveCodes s stamp (r .code)
-    by (MoveFinds.not-sound h) =
-        unfold moveRefused in
-        record {
-          nine = (λ e. h, λ e. refl);
-          seven = (λ e. absurd (omega arith), λ e. no (sym h ∙ e .0));
-          zero = (λ e. absurd (omega arith), λ e. no (sym h ∙ e .0));
-        }
-    by (MoveFinds.untimely h t) =
-        unfold moveRefused in
-        record {
-          nine = (λ e. absurd (omega arith), λ e. no (sym e ∙ h));
-          seven = (λ e. (h, untimely-exactly-when _ _ .0 t), λ e. refl);
-          zero = (λ e. absurd (omega arith), λ e. no (sym t ∙ timely-exactly-when _ _ .1 (e .1)));
-        }
-    by (moves h t) =
-        unfold moveDone in
-        record {
-          nine = (λ e. absurd (omega arith), λ e. no (sym e ∙ h));
-          seven = (λ e. absurd (omega arith), λ e. no (sym (untimely-exactly-when _ _ .1 (e .1)) ∙ t));
-          zero = (λ e. (h, timely-exactly-when _ _ .0 t), λ e. refl);
-        }
+module _ (s : State) (stamp : ℕ) where
+  move-is-tested : let tested : Check = checkCall (sound s) true (stampInRange (s .clock) stamp) in (moveCall s stamp .code ≡ codeOf tested) × (moveCall s stamp .place ≡ placeOf tested)
+  move-is-tested = by (move-finds s stamp)
+    where
+      by : {r : Move} → MoveFinds s stamp r → let tested : Check = checkCall (sound s) true (stampInRange (s .clock) stamp) in (r .code ≡ codeOf tested) × (r .place ≡ placeOf tested)
+      by (MoveFinds.not-sound h) = unfold moveRefused checkCall in rw h (refl, refl)
+      by (MoveFinds.untimely h t) = unfold moveRefused checkCall in rw (h, t) (refl, refl)
+      by (moves h t) = unfold moveDone checkCall in rw (h, t) (refl, refl)
+
+  pub move-refused-exactly-when : MoveCodes s stamp (moveCall s stamp .code) (moveCall s stamp .place)
+  move-refused-exactly-when =
+      let e = move-is-tested in
+      rw (e .0, e .1) (call-codes _ _ _ (sound s) true (stampInRange (s .clock) stamp) (λ h. h, λ h. h) (λ h. tt, λ h. refl) (timely-exactly-when (s .clock) stamp))
 
 pub move-refusal-changes-nothing : (s : State) (stamp : ℕ) → (moveCall s stamp .code ≡ 0 → ⊥) →
     moveCall s stamp ≡ record { state = s; code = moveCall s stamp .code; place = 0; count = 0; records = places 2 [] }
@@ -219,34 +185,9 @@ fresh-call-is-sound octets small = by (checkParameters octets) refl
     by (Refused why place) h = unfold freshBy in own-state-is-sound
 
 pub fresh-refused-exactly-when : (octets : List ℕ) → FreshCodes octets (freshCall octets .code) (freshCall octets .place)
-unfolding freshCall
-fresh-refused-exactly-when octets = by (checkParameters octets) (lowest-bad-octet octets (checkParameters octets) .0 refl)
-  where
-    good-is-not-bad : (at : ℕ) → GoodParameters octets → FirstBad octets at → ⊥
-    good-is-not-bad at a f = no (sym (a .good at (f .within)) ∙ f .bad)
-
-    by : (c : Check) → FoundWhen octets c → FreshCodes octets (freshBy octets c .code) (freshBy octets c .place)
-    by Passed a =
-        unfold freshBy in
-        record {
-          one = λ p. (λ e. absurd (omega (arith, e .0)), λ g. absurd (g .1 (a .whole)));
-          five = λ p. (λ e. absurd (omega (arith, e .0)), λ f. absurd (good-is-not-bad p a f));
-          zero = λ p. (λ e. (sym (e .1), a), λ e. (refl, sym (e .0)));
-        }
-    by (Refused WrongLength place) g =
-        unfold freshBy in
-        record {
-          one = λ p. (λ e. (sym (e .1) ∙ g .0, g .1), λ f. (refl, g .0 ∙ sym (f .0)));
-          five = λ p. (λ e. absurd (omega (arith, e .0)), λ f. absurd (g .1 (f .whole)));
-          zero = λ p. (λ e. absurd (omega (arith, e .0)), λ a. absurd (g .1 (a .1 .whole)));
-        }
-    by (Refused BadParameter place) f =
-        unfold freshBy in
-        record {
-          one = λ p. (λ e. absurd (omega (arith, e .0)), λ g. absurd (g .1 (f .whole)));
-          five = λ p. (λ e. rw (e .1) at f, λ g. (refl, same-place octets place p f g));
-          zero = λ p. (λ e. absurd (omega (arith, e .0)), λ a. absurd (good-is-not-bad place (a .1) f));
-        }
+unfolding freshCall freshBy
+fresh-refused-exactly-when octets =
+    codes-of-a-check {Given = λ why p. FoundWhen octets (Refused why p)} (checkParameters octets) (record { refused = λ why p. lowest-bad-octet octets (Refused why p); passed = lowest-bad-octet octets Passed })
 
 -- "place 0", accepted or refused
 pub single-place-is-zero : (s : State) (octets : List ℕ) → singleCall s octets .place ≡ 0

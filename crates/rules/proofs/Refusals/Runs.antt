@@ -2,7 +2,8 @@
 use Prim.Native.Nat.{ℕ, _+_, _*_, _≤_, _<_}
 use mathlib.Core.Bool.{Bool, true, false, cond}
 use mathlib.Core.List.{List, [], _∷_, _++_}
-use mathlib.Core.Logic.{_↔_, _⊎_, inl, inr, ⊎-elim}
+use mathlib.Core.Logic.{_↔_, inl, inr}
+use mathlib.Core.Option.{Option}
 use mathlib.Core.Path.{_≡_, refl, sym, ap, _∙_}
 use native.Mathlib.Omega.{arith}
 use lib.ListN.{length, drop, length-append}
@@ -12,20 +13,24 @@ use Rattle.rules.specs.declared.state.State.{State}
 use Rattle.rules.specs.declared.record.Record.{Record}
 use Rattle.rules.specs.declared.call.Ran.{Ran}
 use Rattle.base.specs.declared.refusal.Refusal.{Refusal}
-use Rattle.base.specs.declared.refusal.Refusal.the-variants.{WrongLength, WrongVersion, WrongActuators, WrongLayout, BadParameter, BadInput, BadStamp, ShortBuffer, UnsoundState}
+use Rattle.base.specs.declared.refusal.Refusal.the-variants.{WrongLength, WrongVersion, WrongActuators, WrongLayout, BadParameter, BadInput, BadStamp, ShortBuffer}
+use Rattle.base.specs.declared.refusal.Check.{Check}
 use Rattle.rules.specs.Parameters.{paramsOf, scenesOf}
 use Rattle.rules.specs.Steps.{fresh, step}
 use Rattle.rules.specs.Lists.{Cue, cue, plays, playsTo, playList}
-use Rattle.base.specs.Refusals.{number}
+use Rattle.base.specs.Refusals.{codeOf, placeOf}
 use Rattle.rules.specs.Calls.{ownState}
-use Rattle.rules.specs.Files.{Reading, cues, bad, inputCount, endTime, parametersIn, readFile, lentEnough, ifLentEnough, readCall}
+use Rattle.rules.specs.Readings.{Reading, cues, bad, verdict, ifLentEnough}
+use Rattle.rules.specs.Files.{inputCount, endTime, parametersIn, readFile, lentEnough, readCall}
 use Rattle.octets.specs.BigEndian.{octets32}
 use Rattle.rules.specs.Layout.{recordsRoom}
-use Rattle.rules.specs.Refusals.{GivenWhen, GoodFile, RoomFor, RunCodes, TakenApart}
+use Rattle.rules.specs.Refusals.{StartWhen, InputsWhen, GivenWhen, RoomFor, RunCodes, TakenApart}
 use Rattle.rules.specs.Runs.{recordOctets, recordsOctets, over, Whole, playFile, accepted, refused, runBy, runCall, packed, answeredBy, houseRun}
 use Rattle.rules.proofs.Laws.Records.{a-move-writes-at-most-two, an-input-writes-at-most-three}
-use Rattle.base.proofs.Tests.{no, both}
-use Rattle.rules.proofs.Refusals.Files.{good-file, refused-exactly-when, accepted-exactly-when, cues-are-the-octets}
+use Rattle.base.proofs.Tests.{both}
+use Rattle.base.proofs.Codes.{codes-of-a-check, one-test-decides, then-decides}
+use Rattle.rules.proofs.Refusals.Readings.{verdict-if-lent}
+use Rattle.rules.proofs.Refusals.Files.{good-file, file-decides, refused-exactly-when, cues-are-the-octets}
 
 -- ---- what a run finds
 
@@ -39,7 +44,7 @@ pub run-finds : (file records answers : List ℕ) → RunFinds file records answ
 unfolding runCall readCall
 run-finds file records answers = by (lentEnough file records answers) (readFile file) refl refl
   where
-    by : (b : Bool) (x : Reading) → lentEnough file records answers ≡ b → readFile file ≡ x → RunFinds file records answers (runBy (ifLentEnough b x) file records answers)
+    by : (b : Bool) (x : Reading Cue) → lentEnough file records answers ≡ b → readFile file ≡ x → RunFinds file records answers (runBy (ifLentEnough b x) file records answers)
     by true (cues list) room read = unfold runBy in played list read room
     by false (cues list) room read = unfold runBy in no-room list read room
     by true (bad why place) room read = unfold runBy in at-fault why place read
@@ -51,7 +56,7 @@ module _ (file records answers : List ℕ) where
   unfolding runCall readCall runBy
   a-bad-file-is-refused why place read = rw (read, either (lentEnough file records answers))
     where
-      either : (b : Bool) → ifLentEnough b (bad why place) ≡ bad why place
+      either : (b : Bool) → let file-is-bad : Reading Cue = bad why place in ifLentEnough b file-is-bad ≡ file-is-bad
       either true = refl
       either false = refl
 
@@ -63,57 +68,16 @@ module _ (file records answers : List ℕ) where
   unfolding runCall readCall runBy
   a-good-file-is-played list read room = rw (read, room)
 
-pub some-number : (why : Refusal) → 1 ≤ number why
-some-number WrongLength = omega arith
-some-number WrongVersion = omega arith
-some-number WrongActuators = omega arith
-some-number WrongLayout = omega arith
-some-number BadParameter = omega arith
-some-number BadInput = omega arith
-some-number BadStamp = omega arith
-some-number ShortBuffer = omega arith
-some-number UnsoundState = omega arith
-
--- no two rows of the table have one number
-refusalOf : ℕ → Refusal
-refusalOf n =
-    cond (eqb n 1) WrongLength
-    (cond (eqb n 2) WrongVersion
-    (cond (eqb n 3) WrongActuators
-    (cond (eqb n 4) WrongLayout
-    (cond (eqb n 5) BadParameter
-    (cond (eqb n 6) BadInput
-    (cond (eqb n 7) BadStamp
-    (cond (eqb n 8) ShortBuffer UnsoundState)))))))
-
-number-back : (why : Refusal) → refusalOf (number why) ≡ why
-unfolding refusalOf
-number-back WrongLength = refl
-number-back WrongVersion = refl
-number-back WrongActuators = refl
-number-back WrongLayout = refl
-number-back BadParameter = refl
-number-back BadInput = refl
-number-back BadStamp = refl
-number-back ShortBuffer = refl
-number-back UnsoundState = refl
+-- its code and its place are those of what it reads
+run-is-read : (file records answers : List ℕ) → let found : Check = verdict (readCall file records answers) in (runCall file records answers .report .code ≡ codeOf found) × (runCall file records answers .report .place ≡ placeOf found)
+unfolding runCall
+run-is-read file records answers = by (readCall file records answers)
+  where
+    by : (x : Reading Cue) → (runBy x file records answers .report .code ≡ codeOf (verdict x)) × (runBy x file records answers .report .place ≡ placeOf (verdict x))
+    by (cues list) = unfold runBy accepted in (refl, refl)
+    by (bad why place) = unfold runBy refused in (refl, refl)
 
 module _ (file records answers : List ℕ) where
-  abbrev code : ℕ
-  code = runCall file records answers .report .code
-
-  abbrev place : ℕ
-  place = runCall file records answers .report .place
-
-  -- so code and place name what the call reads
-  told : (why : Refusal) (p : ℕ) → (code ≡ number why) × (place ≡ p) → readCall file records answers ≡ bad why p
-  unfolding runCall runBy accepted refused
-  told why p = by (readCall file records answers)
-    where
-      by : (x : Reading) → (runBy x file records answers .report .code ≡ number why) × (runBy x file records answers .report .place ≡ p) → x ≡ bad why p
-      by (cues list) e = absurd (omega (arith, some-number why, e .0))
-      by (bad other q) e = let same : other ≡ why = sym (number-back other) ∙ ap refusalOf (e .0) ∙ number-back why in rw (same, e .1) refl
-
   -- "records, at least 8(3n+3) octets, and answers, at least n"
   pub lent-enough-exactly-when : (lentEnough file records answers ≡ true) ↔ RoomFor (inputCount file) records answers
   unfolding lentEnough
@@ -122,56 +86,14 @@ module _ (file records answers : List ℕ) where
     λ r. simp (le-leb (recordsRoom (inputCount file)) (length records) (r .wide), le-leb (inputCount file) (length answers) (r .long)),
   )
 
-  -- a call is refused for what its file is refused for, or, with a good file, for its buffers
-  call-refused : (why : Refusal) (p : ℕ) → readCall file records answers ≡ bad why p → GivenWhen file why p ⊎ ((number why ≡ 8) × ((p ≡ 0) × GoodFile file × (RoomFor (inputCount file) records answers → ⊥)))
-  unfolding readCall
-  call-refused why p = by (lentEnough file records answers) (readFile file) refl refl
-    where
-      by : (b : Bool) (x : Reading) → lentEnough file records answers ≡ b → readFile file ≡ x → ifLentEnough b x ≡ bad why p → GivenWhen file why p ⊎ ((number why ≡ 8) × ((p ≡ 0) × GoodFile file × (RoomFor (inputCount file) records answers → ⊥)))
-      by true x room read e = inl (refused-exactly-when file why p .0 (read ∙ e))
-      by false (bad other q) room read e = inl (refused-exactly-when file why p .0 (read ∙ e))
-      by false (cues list) room read e = inr (cc, (cc, good-file file list read, λ wide. no (sym room ∙ lent-enough-exactly-when .1 wide)))
-
-  -- each row but the eighth is the file's
-  row : (why : Refusal) (p : ℕ) → (number why ≡ 8 → ⊥) → ((code ≡ number why) × (place ≡ p)) ↔ GivenWhen file why p
-  row why p other = (λ e. ⊎-elim (λ g. g) (λ short. absurd (other (short .0))) (call-refused why p (told why p e)), λ g. rw (code, place, a-bad-file-is-refused file records answers why p (refused-exactly-when file why p .1 g)) (unfold refused in (refl, refl)))
-
-  zero-means : (p : ℕ) → (code ≡ 0) × (place ≡ p) → (p ≡ 0) × GoodFile file × RoomFor (inputCount file) records answers
-  zero-means p = by (run-finds file records answers)
-    where
-      by : {w : Whole} → RunFinds file records answers w → (w .report .code ≡ 0) × (w .report .place ≡ p) → (p ≡ 0) × GoodFile file × RoomFor (inputCount file) records answers
-      by (at-fault why q read) e = unfold refused in absurd (omega (arith, some-number why, e .0))
-      by (no-room list read room) e = unfold refused in absurd (omega (arith, e .0))
-      by (played list read room) e = unfold accepted in (sym (e .1), good-file file list read, lent-enough-exactly-when .0 room)
-
-  zero-given : (p : ℕ) → (p ≡ 0) × GoodFile file × RoomFor (inputCount file) records answers → (code ≡ 0) × (place ≡ p)
-  zero-given p g =
-      let read = accepted-exactly-when file .1 (g .1) in
-      rw (code, place, a-good-file-is-played file records answers (read .0) (read .1) (lent-enough-exactly-when .1 (g .2)), g .0) (unfold accepted in (refl, refl))
-
-  eight-given : (p : ℕ) → (p ≡ 0) × GoodFile file × (RoomFor (inputCount file) records answers → ⊥) → (code ≡ 8) × (place ≡ p)
-  eight-given p g = by (lentEnough file records answers) refl
-    where
-      by : (b : Bool) → lentEnough file records answers ≡ b → (code ≡ 8) × (place ≡ p)
-      by true room = absurd (g .2 (lent-enough-exactly-when .0 room))
-      by false room =
-          let read = accepted-exactly-when file .1 (g .1) in
-          rw (code, place, a-short-buffer-is-refused file records answers (read .0) (read .1) room, g .0) (unfold refused in (refl, refl))
-
   -- "Given exactly when", of the run
-  pub run-refused-exactly-when : RunCodes file records answers code place
+  pub run-refused-exactly-when : RunCodes file records answers (runCall file records answers .report .code) (runCall file records answers .report .place)
+  unfolding readCall
   run-refused-exactly-when =
-      record {
-        one = λ p. row WrongLength p (λ o. omega arith);
-        two = λ p. row WrongVersion p (λ o. omega arith);
-        three = λ p. row WrongActuators p (λ o. omega arith);
-        four = λ p. row WrongLayout p (λ o. omega arith);
-        five = λ p. row BadParameter p (λ o. omega arith);
-        six = λ p. row BadInput p (λ o. omega arith);
-        seven = λ p. row BadStamp p (λ o. omega arith);
-        eight = λ p. (λ e. ⊎-elim (λ g. absurd g) (λ short. short .1) (call-refused ShortBuffer p (told ShortBuffer p e)), eight-given p);
-        zero = λ p. (zero-means p, zero-given p);
-      }
+      let e = run-is-read file records answers in
+      let room = one-test-decides (RoomFor (inputCount file) records answers) (lentEnough file records answers) ShortBuffer 0 lent-enough-exactly-when in
+      rw (e .0, e .1)
+      (codes-of-a-check (verdict (readCall file records answers)) (rw (verdict-if-lent (lentEnough file records answers) (readFile file)) (then-decides _ _ (file-decides file) room)))
 
 -- "A refused call writes nothing to the lent memory", its count is 0, and its state is the fresh one of the table
 pub a-refused-run-writes-nothing : (file records answers : List ℕ) → (runCall file records answers .report .code ≡ 0 → ⊥) →
@@ -251,14 +173,20 @@ apart r narrow few =
     }
 
 -- they have: a place is an octet of the parameters or the index of an input, and a count is at most 3n+3
+narrow-start : (file : List ℕ) (why : Refusal) (p : ℕ) → StartWhen file why p → p < 65_536
+narrow-start file WrongLength p g = omega (arith, g .0)
+narrow-start file WrongVersion p g = omega (arith, g .0)
+narrow-start file WrongActuators p g = omega (arith, g .0)
+narrow-start file WrongLayout p g = omega (arith, g .0)
+narrow-start file BadParameter p g = omega (arith, g .1 .within)
+
+pub narrow-input : {A : Type 0} (at : ℕ → Option A) (file : List ℕ) (why : Refusal) (p : ℕ) → InputsWhen at file why p → p < inputCount file
+narrow-input at file BadInput p g = g .within
+narrow-input at file BadStamp p g = g .within
+
 narrow-place : (file : List ℕ) (why : Refusal) (p : ℕ) → GivenWhen file why p → p < 65_536
-narrow-place file WrongLength p g = omega (arith, g .0)
-narrow-place file WrongVersion p g = omega (arith, g .0)
-narrow-place file WrongActuators p g = omega (arith, g .0)
-narrow-place file WrongLayout p g = omega (arith, g .0)
-narrow-place file BadParameter p g = omega (arith, g .1 .within)
-narrow-place file BadInput p g = omega (arith, g .within, g .start .header .layout .few)
-narrow-place file BadStamp p g = omega (arith, g .within, g .start .header .layout .few)
+narrow-place file why p (inl g) = narrow-start file why p g
+narrow-place file why p (inr g) = omega (arith, narrow-input _ file why p (g .1), g .0 .header .layout .few)
 
 pub the-number-is-taken-apart : (file records answers : List ℕ) → TakenApart (houseRun file records answers .number) (runCall file records answers .report)
 unfolding houseRun answeredBy

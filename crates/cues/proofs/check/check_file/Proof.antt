@@ -1,56 +1,39 @@
-use mathlib.Core.Path.{sym, _∙_, ap}
+use mathlib.Core.Path.{_≡_, sym, _∙_}
+use native.Mathlib.Omega.{arith}
+use denote.Ref.{now}
 use borrow.Author.Needs.{needs}
-use Rattle.rules.specs.Files.{verdict}
-use Rattle.rules.proofs.Refusals.Files.{layout-true, short-file, other-version, other-actuators, other-layout, good-header}
+use Rattle.rules.specs.Refusals.{GoodStart}
+use Rattle.rules.proofs.Refusals.Files.{start-decides, file-passes, file-stops}
+use Rattle.cues.proofs.Inputs.{checked-as-read, known-says}
 use Rattle.cues.proofs.check.check_file.Statement.{statement}
 use Rattle.cues.proofs.check.check_file.Tie as tie
 
+-- the header says how many inputs there are at most, and that they fill the file
+start : (c : tie.After-enum-told) → GoodStart (now (c .before .before .before .before .args .file))
+start c = start-decides _ .passed .0 (sym (c .before .before .check-start .ensures) ∙ c .enum-told .given .1)
+
+check-inputs-requires : tie.Need-check-inputs-requires
+check-inputs-requires c κs =
+    let layout = start (c .before .before) .header .layout in
+    rw (c .before .input-count .ensures) (layout .few, omega (arith, layout .whole))
+
 returns : tie.Need-returns
-returns c = sym (ap verdict (short-file _ (c .if1 .taken)))
+returns c =
+    rw (c .check-inputs .ensures, c .before .end-time .ensures, c .before .before .input-count .ensures)
+    (checked-as-read _ _ (known-says _) _ _ _ _ _ ∙ sym (file-passes _ (start (c .before .before .before))))
 
 returns-2 : tie.Need-returns-2
-returns-2 c = sym (ap verdict (other-version _ (c .before .before .if1 .left) (rw (c .before .version-of .ensures) at (c .if2 .taken))))
-
-returns-3 : tie.Need-returns-3
-returns-3 c =
-    sym (ap verdict
-    (other-actuators _ (c .before .before .before .before .if1 .left)
-    (rw (c .before .before .before .version-of .ensures) at (c .before .before .if2 .left))
-    (rw (c .before .actuators-of .ensures) at (c .if3 .taken))))
-
-check-contents-requires : tie.Need-check-contents-requires
-check-contents-requires c κs = (search needs, sym (c .before .layout-is-right .ensures) ∙ c .if4 .taken)
-
-returns-4 : tie.Need-returns-4
-returns-4 c =
-    c .check-contents .ensures ∙
-    sym (ap verdict
-    (good-header _
-    (record {
-      long = c .before .before .before .before .before .before .before .if1 .left;
-      version = rw (c .before .before .before .before .before .before .version-of .ensures) at (c .before .before .before .before .before .if2 .left);
-      actuators = rw (c .before .before .before .before .actuators-of .ensures) at (c .before .before .before .if3 .left);
-      layout = layout-true _ (sym (c .before .before .layout-is-right .ensures) ∙ c .before .if4 .taken);
-    })))
-
-returns-5 : tie.Need-returns-5
-returns-5 c =
-    sym (ap verdict
-    (other-layout _ (c .before .before .before .before .before .before .if1 .left)
-    (rw (c .before .before .before .before .before .version-of .ensures) at (c .before .before .before .before .if2 .left))
-    (rw (c .before .before .before .actuators-of .ensures) at (c .before .before .if3 .left))
-    (sym (c .before .layout-is-right .ensures) ∙ c .if4 .left)))
+returns-2 c = sym (file-stops _ _ _ (sym (c .before .before .before .check-start .ensures) ∙ c .before .start .given .1))
 
 pub check-file-spec : {M : Type 1} → statement M
 check-file-spec =
     tie.close
     (tie.spec
+    (λ c κs. search needs)
+    (λ c. search needs)
+    (λ c κs. start c .header .long)
+    (λ c κs. start (c .before) .header .long)
+    check-inputs-requires
+    (λ c. search needs)
     returns
-    (λ c κs. search needs)
-    returns-2
-    (λ c κs. search needs)
-    returns-3
-    (λ c κs. search needs)
-    check-contents-requires
-    returns-4
-    returns-5)
+    returns-2)

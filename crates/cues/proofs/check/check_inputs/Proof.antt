@@ -3,13 +3,13 @@ use mathlib.Core.Path.{_≡_, sym, _∙_}
 use native.Mathlib.Nat.{sub-zero}
 use denote.Ref.{now}
 use borrow.Author.Needs.{needs}
-use Rattle.rules.specs.Files.{readInputs, verdict}
+use Rattle.cues.specs.Checks.{checkInputs, knownAt}
 use Rattle.cues.proofs.Inputs.{none-left, good-goes-on, bad-ends}
 use Rattle.cues.proofs.check.check_inputs.Statement.{statement}
 use Rattle.cues.proofs.check.check_inputs.Tie as tie
 
 abbrev Inv-loop : tie.InvT-loop
-Inv-loop file n end i₀ last₀ i last = (i ≤ n) × (verdict (readInputs file n 0 0 end) ≡ verdict (readInputs file (n - i) i last end))
+Inv-loop file n end i₀ last₀ i last = (i ≤ n) × (checkInputs (knownAt file) file n 0 0 end ≡ checkInputs (knownAt file) file (n - i) i last end)
 
 abbrev μ-loop : tie.MeasureT-loop
 μ-loop file n end i₀ last₀ i last = n - i
@@ -24,7 +24,7 @@ loop-again c =
     let at = c .before .before .before .before .before .input-place .ensures in
     let one = rw (c .before .before .before .is-input-at .ensures, c .before .before .before .before .stamp-at .ensures, at) at (sym (c .before .before .check-one .ensures) ∙ c .enum-told .given .1) in (
       search needs,
-      rw (c .before .before .before .before .stamp-at .ensures, at) (l .inv .1 ∙ good-goes-on (now (a .file)) (a .n) (l .i) (l .last) (a .end) (c .before .before .before .before .before .before .loop-test .taken) one),
+      rw (c .before .before .before .before .stamp-at .ensures, at) (l .inv .1 ∙ good-goes-on (knownAt (now (a .file))) (now (a .file)) (a .n) (l .i) (l .last) (a .end) (c .before .before .before .before .before .before .loop-test .taken) one),
     )
 
 returns : tie.Need-returns Inv-loop μ-loop
@@ -32,13 +32,13 @@ returns c =
     let a = c .before .before .before .before .before .before .before .before .before .before .args in
     let l = c .before .before .before .before .before .before .before .before .loop in
     let one = rw (c .before .before .before .before .is-input-at .ensures, c .before .before .before .before .before .stamp-at .ensures, c .before .before .before .before .before .before .input-place .ensures) at (sym (c .before .before .before .check-one .ensures) ∙ c .before .one .given .1) in
-    sym (l .inv .1 ∙ bad-ends (now (a .file)) (a .n) (l .i) (l .last) (a .end) (c .before .before .before .before .before .before .before .loop-test .taken) _ _ one)
+    sym (l .inv .1 ∙ bad-ends (knownAt (now (a .file))) (now (a .file)) (a .n) (l .i) (l .last) (a .end) (c .before .before .before .before .before .before .before .loop-test .taken) _ _ one)
 
 returns-2 : tie.Need-returns-2 Inv-loop μ-loop
 returns-2 c =
     let a = c .before .before .before .args in
     let l = c .before .loop in
-    sym (l .inv .1 ∙ none-left (now (a .file)) (a .n) (l .i) (l .last) (a .end) (c .loop-test .left))
+    sym (l .inv .1 ∙ none-left (knownAt (now (a .file))) (now (a .file)) (a .n) (l .i) (l .last) (a .end) (c .loop-test .left))
 
 pub check-inputs-spec : {M : Type 1} → statement M
 check-inputs-spec =

@@ -1,6 +1,7 @@
 use mathlib.Core.Path.{_≡_, sym, _∙_}
 use denote.Ref.{now}
-use Rattle.rules.specs.Files.{cues, readFile}
+use Rattle.rules.specs.Readings.{cues}
+use Rattle.rules.specs.Files.{readFile}
 use Rattle.rules.specs.Refusals.{GoodHeader}
 use Rattle.rules.proofs.Refusals.Files.{good-file}
 use Rattle.player.specs.Playing.{listIn}

@@ -1,6 +1,6 @@
 use mathlib.Core.Path.{sym, _∙_}
 use Rattle.rules.specs.Steps.{clockMove}
-use Rattle.rules.proofs.Refusals.Calls.{timely-exactly-when}
+use Rattle.base.proofs.Codes.{timely-exactly-when}
 use Rattle.phases.proofs.Rooms.{sound-room}
 use Rattle.live.proofs.ByValue.{clocked-is-done}
 use Rattle.rules.specs.Calls.{moveCall}

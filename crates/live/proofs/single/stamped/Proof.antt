@@ -1,6 +1,6 @@
 use mathlib.Core.Path.{sym, _∙_}
 use Rattle.rules.specs.Steps.{step}
-use Rattle.rules.proofs.Refusals.Calls.{timely-exactly-when}
+use Rattle.base.proofs.Codes.{timely-exactly-when}
 use Rattle.live.proofs.ByValue.{acted-is-done}
 use borrow.Author.Needs.{needs}
 use Rattle.live.proofs.single.stamped.Statement.{statement}

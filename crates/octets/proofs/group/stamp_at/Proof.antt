@@ -1,7 +1,7 @@
-use Rattle.rules.specs.Inputs.{stampAt}
+use Rattle.octets.specs.Groups.{stampAt}
 use borrow.Author.Needs.{needs}
-use Rattle.inputs.proofs.stamp_at.Statement.{statement}
-use Rattle.inputs.proofs.stamp_at.Tie as tie
+use Rattle.octets.proofs.group.stamp_at.Statement.{statement}
+use Rattle.octets.proofs.group.stamp_at.Tie as tie
 
 returns : tie.Need-returns
 unfolding stampAt
