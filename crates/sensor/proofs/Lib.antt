@@ -1,0 +1,9 @@
+pub mod Actions
+pub mod Signals
+pub mod Sends
+pub mod Telegrams
+pub mod LastValue
+pub mod Calls
+pub mod Meets
+pub mod WrongSensors
+pub mod Readings
