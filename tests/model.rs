@@ -23,10 +23,10 @@ pub const MOST_INPUTS: u32 = 2_048;
 
 /// "20 octets of counts and offsets"; "Parameters, 32 octets"; "Input, 8 octets"; and "A record is
 /// 8 octets".
-const HEADER: usize = 20;
-const PARAMETERS: usize = 32;
-const INPUT: usize = 8;
-const RECORD: usize = 8;
+pub(crate) const HEADER: usize = 20;
+pub(crate) const PARAMETERS: usize = 32;
+pub(crate) const INPUT: usize = 8;
+pub(crate) const RECORD: usize = 8;
 
 /// "Delays are U16 seconds; a delay of s lasts 10*s tenths."
 ///
@@ -40,7 +40,7 @@ fn u16_at(octets: &[u8], at: usize) -> u16 {
     u16::from_be_bytes([octets[at], octets[at + 1]])
 }
 
-fn u32_at(octets: &[u8], at: usize) -> u32 {
+pub(crate) fn u32_at(octets: &[u8], at: usize) -> u32 {
     u32::from_be_bytes([octets[at], octets[at + 1], octets[at + 2], octets[at + 3]])
 }
 
@@ -198,7 +198,7 @@ pub enum Input {
 /// "Input, 8 octets: 0-3 stamp; 4 kind; 5 value; 6-7 zero."
 ///
 /// None where "kind, value or zero octet wrong" (refusal 6).
-fn decode_input(octets: &[u8]) -> Option<Input> {
+pub(crate) fn decode_input(octets: &[u8]) -> Option<Input> {
     if octets[6] != 0 || octets[7] != 0 {
         return None;
     }
@@ -314,7 +314,7 @@ fn fresh_state(params: Params, scenes: [Scene; 8]) -> State {
 /// "every deadline at or before t is run, each at its own moment, at most three"
 ///
 /// Starting, Timed, Warning, Dark is the longest way, so the loop turns at most three times.
-fn move_clock(state: &mut State, t: u32, tape: &mut impl Tape) {
+pub(crate) fn move_clock(state: &mut State, t: u32, tape: &mut impl Tape) {
     while let Some(d) = state.phase.deadline() {
         if d > t {
             break;
@@ -434,7 +434,7 @@ fn stopped(state: &State, kind: u8) -> Option<u8> {
 /// "A stopped input is dropped for good; every other is taken, though it may change nothing."
 ///
 /// "then 0 if anything but the clock changed after the due timers had run, else 1"
-fn take_input(state: &mut State, octets: &[u8], input: Input, tape: &mut impl Tape) -> u8 {
+pub(crate) fn take_input(state: &mut State, octets: &[u8], input: Input, tape: &mut impl Tape) -> u8 {
     let (t, kind) = (u32_at(octets, 0), octets[4]);
     move_clock(state, t, tape);
     if let Some(answer) = stopped(state, kind) {
@@ -747,7 +747,7 @@ pub struct Record {
 }
 
 const CAUSE_TIMER: u8 = 0;
-const CAUSE_START: u8 = 0;
+pub(crate) const CAUSE_START: u8 = 0;
 
 /// "A record is 8 octets: stamp, value, attributes, cause, zero."
 pub fn record_octets(record: &Record) -> [u8; 8] {
@@ -755,7 +755,7 @@ pub fn record_octets(record: &Record) -> [u8; 8] {
     [s[0], s[1], s[2], s[3], record.value, record.attributes, record.cause, 0]
 }
 
-fn record_of(state: &State, stamp: u32, cause: u8) -> Record {
+pub(crate) fn record_of(state: &State, stamp: u32, cause: u8) -> Record {
     let (value, attributes) = status(state);
     Record { stamp, value, attributes, cause }
 }
@@ -768,19 +768,19 @@ fn write_change(before: (u8, u8), now: &State, stamp: u32, cause: u8, tape: &mut
 }
 
 /// Where records and answers go: into vectors, or into the two lent buffers.
-trait Tape {
+pub(crate) trait Tape {
     fn record(&mut self, record: Record);
     fn answer(&mut self, answer: u8);
 }
 
-struct VecTape {
-    records: Vec<Record>,
-    answers: Vec<u8>,
-    records_before: Vec<usize>,
+pub(crate) struct VecTape {
+    pub(crate) records: Vec<Record>,
+    pub(crate) answers: Vec<u8>,
+    pub(crate) records_before: Vec<usize>,
 }
 
 impl VecTape {
-    fn with_capacity(records: usize, answers: usize) -> VecTape {
+    pub(crate) fn with_capacity(records: usize, answers: usize) -> VecTape {
         VecTape {
             records: Vec::with_capacity(records),
             answers: Vec::with_capacity(answers),
@@ -801,11 +801,17 @@ impl Tape for VecTape {
 }
 
 /// "two lent octet buffers ... Octets past what is written stay."
-struct LentTape<'a> {
+pub(crate) struct LentTape<'a> {
     records: &'a mut [u8],
     answers: &'a mut [u8],
-    record_count: usize,
+    pub(crate) record_count: usize,
     answer_count: usize,
+}
+
+impl<'a> LentTape<'a> {
+    pub(crate) fn new(records: &'a mut [u8], answers: &'a mut [u8]) -> LentTape<'a> {
+        LentTape { records, answers, record_count: 0, answer_count: 0 }
+    }
 }
 
 impl Tape for LentTape<'_> {
@@ -822,10 +828,10 @@ impl Tape for LentTape<'_> {
 }
 
 /// An accepted cue file: its parameters as a fresh state, its inputs and its end time.
-struct Cues<'a> {
-    fresh: State,
-    inputs: &'a [u8],
-    end_time: u32,
+pub(crate) struct Cues<'a> {
+    pub(crate) fresh: State,
+    pub(crate) inputs: &'a [u8],
+    pub(crate) end_time: u32,
 }
 
 /// An accepted list, from the start record to the end time; gives the end state.
@@ -845,7 +851,7 @@ fn play(cues: &Cues, tape: &mut impl Tape) -> State {
 }
 
 /// "records, at least 8(3n+3) octets": the most records n inputs can give.
-fn most_records(n: usize) -> usize {
+pub(crate) fn most_records(n: usize) -> usize {
     3 * n + 3
 }
 
@@ -888,7 +894,7 @@ pub fn run(file: &[u8], records_len: usize, answers_len: usize) -> Run {
 }
 
 /// "To C it answers one 64-bit number, code*2^48 + place*2^32 + record count"
-fn packed(code: u8, place: u16, record_count: usize) -> u64 {
+pub(crate) fn packed(code: u8, place: u16, record_count: usize) -> u64 {
     (u64::from(code) << 48) + (u64::from(place) << 32) + record_count as u64
 }
 
@@ -901,7 +907,7 @@ pub fn run_into(file: &[u8], records: &mut [u8], answers: &mut [u8]) -> u64 {
     match accept(file, records.len(), answers.len()) {
         Err(refusal) => packed(refusal.code, refusal.place, 0),
         Ok(cues) => {
-            let mut tape = LentTape { records, answers, record_count: 0, answer_count: 0 };
+            let mut tape = LentTape::new(records, answers);
             play(&cues, &mut tape);
             packed(0, 0, tape.record_count)
         }
@@ -999,14 +1005,14 @@ pub fn print(file: &[u8]) -> String {
     text
 }
 
-fn print_records(text: &mut String, records: &[Record]) {
+pub(crate) fn print_records(text: &mut String, records: &[Record]) {
     for r in records {
         let numbers = [r.stamp, u32::from(r.value), u32::from(r.attributes), u32::from(r.cause)];
         line(text, "R", &numbers);
     }
 }
 
-fn line(text: &mut String, word: &str, numbers: &[u32]) {
+pub(crate) fn line(text: &mut String, word: &str, numbers: &[u32]) {
     text.push_str(word);
     for number in numbers {
         write!(text, " {}", number).expect("writing to a String cannot fail");
@@ -1018,17 +1024,25 @@ fn line(text: &mut String, word: &str, numbers: &[u32]) {
 // Refusal numbers
 // ================================================================================================
 
-struct Refusal {
-    code: u8,
-    place: u16,
+pub(crate) struct Refusal {
+    pub(crate) code: u8,
+    pub(crate) place: u16,
 }
 
-fn refuse<T>(code: u8, place: u16) -> Result<T, Refusal> {
+pub(crate) fn refuse<T>(code: u8, place: u16) -> Result<T, Refusal> {
     Err(Refusal { code, place })
 }
 
 /// "Order 1, 2, 3, 4, 5; then the first bad input, 6 before 7; then 8."
 fn accept(file: &[u8], records_len: usize, answers_len: usize) -> Result<Cues<'_>, Refusal> {
+    let cues = accept_header_and_parameters(file)?;
+    accept_inputs(&cues, |octets| decode_input(octets).is_some())?;
+    accept_room(&cues, records_len, answers_len)?;
+    Ok(cues)
+}
+
+/// Refusals 1 to 5; the inputs are not looked at.
+pub(crate) fn accept_header_and_parameters(file: &[u8]) -> Result<Cues<'_>, Refusal> {
     // "1 | file under 52 octets"
     if file.len() < HEADER + PARAMETERS {
         return refuse(1, 0);
@@ -1061,31 +1075,44 @@ fn accept(file: &[u8], records_len: usize, answers_len: usize) -> Result<Cues<'_
     if let Some(octet) = lowest_bad_octet(parameters) {
         return refuse(5, octet);
     }
-    let mut stamp_before = 0;
-    for (index, octets) in inputs.chunks_exact(INPUT).enumerate() {
-        // "6 | kind, value or zero octet wrong | input index"
-        if decode_input(octets).is_none() {
-            return refuse(6, index as u16);
-        }
-        // "7 | stamp below the one before ..., above the end time ... | input index"
-        let stamp = u32_at(octets, 0);
-        if stamp_refused(stamp, stamp_before, end_time) {
-            return refuse(7, index as u16);
-        }
-        stamp_before = stamp;
-    }
-    // "8 | a lent buffer too short": "records, at least 8(3n+3) octets, and answers, at least n"
-    let n = n as usize;
-    if records_len < RECORD * most_records(n) || answers_len < n {
-        return refuse(8, 0);
-    }
     let (params, scenes) = decode_parameters(parameters);
     Ok(Cues { fresh: fresh_state(params, scenes), inputs, end_time })
 }
 
+/// "then the first bad input, 6 before 7"
+pub(crate) fn accept_inputs(cues: &Cues, known: impl Fn(&[u8]) -> bool) -> Result<(), Refusal> {
+    let mut stamp_before = 0;
+    for (index, octets) in cues.inputs.chunks_exact(INPUT).enumerate() {
+        // "6 | kind, value or zero octet wrong | input index"
+        if !known(octets) {
+            return refuse(6, index as u16);
+        }
+        // "7 | stamp below the one before ..., above the end time ... | input index"
+        let stamp = u32_at(octets, 0);
+        if stamp_refused(stamp, stamp_before, cues.end_time) {
+            return refuse(7, index as u16);
+        }
+        stamp_before = stamp;
+    }
+    Ok(())
+}
+
+/// "8 | a lent buffer too short": "records, at least 8(3n+3) octets, and answers, at least n"
+pub(crate) fn accept_room(
+    cues: &Cues,
+    records_len: usize,
+    answers_len: usize,
+) -> Result<(), Refusal> {
+    let n = cues.inputs.len() / INPUT;
+    if records_len < RECORD * most_records(n) || answers_len < n {
+        return refuse(8, 0);
+    }
+    Ok(())
+}
+
 /// "7 | stamp below the one before (or the clock), above the end time (single input or clock move:
 /// 864,000)"
-fn stamp_refused(stamp: u32, lowest: u32, highest: u32) -> bool {
+pub(crate) fn stamp_refused(stamp: u32, lowest: u32, highest: u32) -> bool {
     stamp < lowest || stamp > highest
 }
 
