@@ -43,23 +43,30 @@ else
     fail "the model does not give crates/paces/stdout" 1
 fi
 
-# The model's own tests.
-if build model_tests --test; then
-    "$room/model_tests" >"$room/tests" 2>&1
+# tests_of NAME WORDS: the tests in tests/NAME.rs, which are of WORDS.
+tests_of() {
+    local name=$1 words=$2 status
+    if ! build "$name" --test; then
+        fail "the tests of $words do not compile" 1
+        return
+    fi
+    "$room/$name" >"$room/tests" 2>&1
     status=$?
     if [[ $(grep '^test result:' "$room/tests") =~ ([0-9]+)\ passed\;\ ([0-9]+)\ failed ]]; then
-        pass "${BASH_REMATCH[1]} tests of the model" "${BASH_REMATCH[1]}"
+        pass "${BASH_REMATCH[1]} tests of $words" "${BASH_REMATCH[1]}"
         if [ "$status" -ne 0 ]; then
             cat "$room/tests"
-            fail "tests of the model" "$((BASH_REMATCH[2] > 0 ? BASH_REMATCH[2] : 1))"
+            fail "tests of $words" "$((BASH_REMATCH[2] > 0 ? BASH_REMATCH[2] : 1))"
         fi
     else
         cat "$room/tests"
-        fail "the tests of the model ended without a count" 1
+        fail "the tests of $words ended without a count" 1
     fi
-else
-    fail "the tests of the model do not compile" 1
-fi
+}
+
+# The model's own tests.
+tests_of model_tests "the model"
+tests_of wall_tests "the model of the wall buttons"
 
 echo "$passed passed, $failed failed"
 [ "$failed" -eq 0 ]
