@@ -67,6 +67,14 @@ rust() {
     "${compile[@]}" --edition 2021 -O -D warnings "tests/$name.rs" -o "$out/$name" "$@"
 }
 
+# compared NAME WORDS: tests/NAME.rs, which compares the archive with the second model.
+compared() {
+    local name=$1 words=$2 linked=()
+    [ "$way" != linked ] || linked=(--cfg linked -L target/staticlib -l static=house)
+    done_or_not "tests/$name.rs is built${linked[*]:+ and linked with the archive}" rust "$name" "${linked[@]}"
+    counted "$words" "${run[@]}" "$out/$name" "${kit_run[@]}" "$out/bridge"
+}
+
 build_bridge() {
     kit_cc "$out/bridge.o" tests/bridge.c && kit_link "$out/bridge" "$out/bridge.o" target/staticlib/libhouse.a
 }
@@ -106,12 +114,8 @@ tail -n 1 "$out/staticlib"
 done_or_not "the bridge is built by the kit alone" build_bridge
 if command -v rustc >/dev/null; then
     echo "the Rust tests reach the archive by: $way"
-    if [ "$way" = linked ]; then
-        done_or_not "the comparison is linked with the archive" rust compare --cfg linked -L target/staticlib -l static=house
-    else
-        done_or_not "the comparison is built" rust compare
-    fi
-    counted "the run against the second model" "${run[@]}" "$out/compare" "${kit_run[@]}" "$out/bridge"
+    compared compare "the run against the second model"
+    compared compare_walls "the run over wall lists against the second model"
 fi
 counted "the shows" bash tests/shows.sh
 done_or_not "the C example is built, warnings as errors" build_example

@@ -1,0 +1,252 @@
+//! The proved run over wall lists against the second model, over very many of them.
+//!
+//! Usage: compare_walls BRIDGE.. where BRIDGE.. is a command that speaks the protocol of bridge.c on its standard input and output;
+//! calls.rs says how the archive is reached. SEED=n in the environment gives other lists, WALLS=n another number of them.
+
+#[path = "model.rs"]
+mod model;
+
+#[path = "wall.rs"]
+mod wall;
+
+#[path = "files.rs"]
+mod files;
+
+#[path = "walls.rs"]
+mod walls;
+
+#[path = "calls.rs"]
+mod calls;
+
+use calls::{damaged, lent, number_named, Call, Case, Claims, Comparison, Outcome};
+use files::{CueFile, Rng};
+use wall::WallRun;
+use walls::WallList;
+
+/// What accepted lists met.
+#[derive(Default)]
+struct Met {
+    /// By edge (button 1 rising, 1 falling, 2 rising, 2 falling) and action.
+    actions: [[u64; 4]; 4],
+    /// Answers to telegrams, and to cues.
+    telegrams: [u64; 6],
+    cues: [u64; 6],
+    silent: u64,
+    sent_off: u64,
+    sent_on: u64,
+    toggled_off: u64,
+    toggled_on: u64,
+    /// Toggles that sent the same value as the telegram before: only a status can have turned them.
+    turned_by_a_status: u64,
+    /// Edges whose clock move wrote a timer's record at their own stamp, of those that sent and that did not.
+    at_a_timer: [u64; 2],
+    /// Edges at the stamp of the item before, which was a cue or an edge; cues at the stamp of the edge before.
+    after_a_cue: u64,
+    after_an_edge: u64,
+    cue_after_an_edge: u64,
+    /// Cues by their kind.
+    kinds: [u64; 9],
+}
+
+fn is_edge(item: &[u8]) -> bool {
+    walls::BUTTONS.contains(&item[4])
+}
+
+impl Met {
+    fn note(&mut self, list: &[u8], run: &WallRun) {
+        let (items, actions) = list[52..].split_at(list.len() - 56);
+        let items: Vec<&[u8]> = items.chunks_exact(8).collect();
+        let mut sends = run.sends.iter().peekable();
+        let mut last_sent = None;
+        for (index, item) in items.iter().enumerate() {
+            let answer = usize::from(run.answers[index]);
+            let tie = index > 0 && items[index - 1][..4] == item[..4];
+            if !is_edge(item) {
+                self.cues[answer] += 1;
+                self.cue_after_an_edge += u64::from(tie && is_edge(items[index - 1]));
+                self.kinds[usize::from(item[4])] += 1;
+                continue;
+            }
+            let place = 2 * usize::from(item[4] - 11) + usize::from(item[5] == 0);
+            let action = actions[place];
+            self.actions[place][usize::from(action)] += 1;
+            let sent = sends.next_if(|sent| sent.index == index);
+            match (action, sent.map(|sent| sent.on)) {
+                (1, Some(false)) => self.sent_off += 1,
+                (2, Some(true)) => self.sent_on += 1,
+                (3, Some(on)) => {
+                    self.toggled_on += u64::from(on);
+                    self.toggled_off += u64::from(!on);
+                    self.turned_by_a_status += u64::from(last_sent == Some(on));
+                }
+                (0, None) => self.silent += 1,
+                other => panic!("an action that sends another value: {:?}", other),
+            }
+            if let Some(sent) = sent {
+                self.telegrams[answer] += 1;
+                last_sent = Some(sent.on);
+            }
+            let from = if index == 0 { 1 } else { run.records_before[index - 1] };
+            let to = sent.map_or(run.records_before[index], |sent| sent.records_before);
+            let at_a_timer = run.records[from..to].iter().any(|r| r.stamp.to_be_bytes() == item[..4]);
+            self.at_a_timer[usize::from(sent.is_none())] += u64::from(at_a_timer);
+            self.after_a_cue += u64::from(tie && !is_edge(items[index - 1]));
+            self.after_an_edge += u64::from(tie && is_edge(items[index - 1]));
+        }
+    }
+
+    fn say(&self) {
+        println!("edges by action 0 to 3, for button 1 rising, 1 falling, 2 rising, 2 falling: {:?}", self.actions);
+        println!("answers 0 to 5 to telegrams: {:?}; to cues: {:?}", self.telegrams, self.cues);
+        println!(
+            "silent edges {}, Off sent {}, On sent {}, toggled to Off {}, toggled to On {}, toggles turned by a status {}",
+            self.silent, self.sent_off, self.sent_on, self.toggled_off, self.toggled_on, self.turned_by_a_status
+        );
+        println!("edges at the stamp of a timer's record: {} that sent, {} silent", self.at_a_timer[0], self.at_a_timer[1]);
+        println!(
+            "ties: an edge after a cue {}, an edge after an edge {}, a cue after an edge {}",
+            self.after_a_cue, self.after_an_edge, self.cue_after_an_edge
+        );
+        println!("cues of kinds 1 to 8 among the edges: {:?}", &self.kinds[1..]);
+    }
+
+    fn claim(&self, claims: &mut Claims) {
+        claims.claim("every action is met on every edge", self.actions.iter().flatten().all(|&k| k > 0));
+        claims.claim("every answer to a telegram is met", self.telegrams.iter().all(|&k| k > 0));
+        claims.claim("every answer to a cue is met", self.cues.iter().all(|&k| k > 0));
+        claims.claim("every kind of cue is met", self.kinds[1..].iter().all(|&k| k > 0));
+        let sent = [self.silent, self.sent_off, self.sent_on, self.toggled_off, self.toggled_on, self.turned_by_a_status];
+        claims.claim("silent edges, Off, On, both toggles, and toggles turned by a status are met", sent.iter().all(|&k| k > 0));
+        claims.claim("edges at the stamp of a timer's record are met", self.at_a_timer.iter().all(|&k| k > 0));
+        let ties = [self.after_a_cue, self.after_an_edge, self.cue_after_an_edge];
+        claims.claim("ties of edges with cues and with edges are met", ties.iter().all(|&k| k > 0));
+    }
+}
+
+/// The codes that a wall list can have: 0 to 8, and 11.
+const CODES: [usize; 10] = [0, 1, 2, 3, 4, 5, 6, 7, 8, 11];
+
+/// The comparison, and counts of what was met.
+struct Tally {
+    comparison: Comparison,
+    met: Met,
+    codes: [u64; 12],
+    bad_actions: [u64; 4],
+    longest: usize,
+    plain: u64,
+}
+
+impl Tally {
+    fn walls(&self) -> u64 {
+        self.comparison.compared
+    }
+
+    /// A list, with buffers of some length.
+    fn check(&mut self, list: Vec<u8>, sample: bool, rng: &mut Rng) {
+        self.check_case(lent(Call::WallRun, list, rng), sample);
+    }
+
+    fn check_case(&mut self, case: Case, sample: bool) {
+        let run = wall::wall_run(&case.list, case.records_len, case.answers_len);
+        let expected = Outcome::of_model(&case, wall::wall_number(&run), &run.records, &run.answers);
+        self.codes[expected.code()] += 1;
+        match run.code {
+            0 => {
+                self.longest = self.longest.max(run.answers.len());
+                self.met.note(&case.list, &run);
+            }
+            11 => self.bad_actions[usize::from(run.place)] += 1,
+            _ => {}
+        }
+        self.comparison.check(&case, &expected, sample);
+    }
+
+    /// A cue file without edges and four zero octets, for which the model's plain run decides.
+    fn check_plain(&mut self, show: &CueFile, sample: bool, rng: &mut Rng) {
+        if show.inputs.iter().any(|input| is_edge(input)) {
+            return;
+        }
+        let file = show.octets();
+        let mut case: Case = lent(Call::WallRun, file.clone(), rng);
+        case.list.extend_from_slice(&[0; 4]);
+        let run = model::run(&file, case.records_len, case.answers_len);
+        let expected = Outcome::of_model(&case, model::number(&run), &run.records, &run.answers);
+        self.codes[expected.code()] += 1;
+        self.plain += 1;
+        self.comparison.check(&case, &expected, sample);
+    }
+}
+
+fn main() {
+    let seed = number_named("SEED", 20_260_103);
+    let wanted = number_named("WALLS", 120_000);
+    let mut rng = Rng::new(seed);
+    let mut tally = Tally {
+        comparison: Comparison::start(),
+        met: Met::default(),
+        codes: [0; 12],
+        bad_actions: [0; 4],
+        longest: 0,
+        plain: 0,
+    };
+
+    // The longest lists, every prefix and damage of small ones and longer ones, random octets, plain cue files, and random lists
+    // of every length.
+    for n in [0, 1, 2, 255, 256, 2047, 2048] {
+        let list = WallList::random(&mut rng, n).octets();
+        tally.check_case(Case { call: Call::WallRun, list, records_len: 8 * (3 * n + 3), answers_len: n }, true);
+    }
+    for n in [0, 1, 3] {
+        let list = WallList::random(&mut rng, n).octets();
+        for (i, other) in damaged(&list).into_iter().enumerate() {
+            tally.check(other, i % 50 == 0, &mut rng);
+        }
+        for more in 1..20 {
+            let mut longer = list.clone();
+            longer.extend(vec![0; more]);
+            tally.check(longer, false, &mut rng);
+        }
+    }
+    while tally.walls() < wanted {
+        let sample = tally.walls() % 100 == 0;
+        let n = files::length(&mut rng);
+        match rng.below(100) {
+            0..=1 => {
+                let octets = files::noise(&mut rng);
+                tally.check(octets, sample, &mut rng);
+            }
+            2..=13 => {
+                let mut show = CueFile::random(&mut rng, n);
+                if rng.chance(30) {
+                    show.spoil(&mut rng);
+                }
+                tally.check_plain(&show, sample, &mut rng);
+            }
+            14..=27 => {
+                let octets = WallList::random(&mut rng, n).spoilt(&mut rng);
+                tally.check(octets, sample, &mut rng);
+            }
+            _ => {
+                let octets = WallList::random(&mut rng, n).octets();
+                tally.check(octets, sample, &mut rng);
+            }
+        }
+    }
+
+    let Tally { comparison, met, codes, bad_actions, longest, plain } = tally;
+    let walls = comparison.compared;
+    println!("seed {}, {} wall lists, {} of them plain cue files, the longest with {} items", seed, walls, plain, longest);
+    let (by_bridge, differing) = comparison.stop();
+    println!("codes 0 to 8 and 11: {:?}; places 0 to 3 of code 11: {:?}", CODES.map(|code| codes[code]), bad_actions);
+    met.say();
+    let mut claims = Claims::new();
+    claims.claim("number, records, answers and list are the model's for every wall list", differing == 0);
+    claims.claim("at least 60,000 wall lists, or as many as were asked for", walls >= wanted.min(60_000));
+    claims.claim("a list of 2,048 items is accepted", longest == 2048);
+    claims.claim("every code is met", CODES.iter().all(|&code| codes[code] > 0));
+    claims.claim("a bad action is met at every place", bad_actions.iter().all(|&k| k > 0));
+    met.claim(&mut claims);
+    claims.claim("cue files with four zero octets went by the plain run", plain > 0);
+    claims.claim("a sample went by the bridge", by_bridge >= 100);
+    claims.finish();
+}
