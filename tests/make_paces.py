@@ -17,6 +17,11 @@ NIGHT, DAY = (6, 1), (6, 0)
 BUS_FAILS, BUS_RETURNS = (7, 0), (7, 1)
 POWER_FAILS, POWER_RETURNS = (8, 0), (8, 1)
 
+# The wall buttons, and the status that the sensor alone takes: document 02, request 1.
+PRESS_1, LET_GO_1 = (11, 1), (11, 0)
+PRESS_2, LET_GO_2 = (12, 1), (12, 0)
+STATUS_OFF, STATUS_ON = (13, 0), (13, 1)
+
 LAST = 864000
 
 
@@ -52,6 +57,26 @@ def clock(stamp):
 
 def change(field, value=0):
     out.extend(b'U' + bytes([field]) + value.to_bytes(4, 'big'))
+
+
+def fresh_sensor(octets):
+    out.extend(b'N' + bytes([len(octets)]) + bytes(octets))
+
+
+def sensor_octets(stamp, kind, value, zeros=(0, 0)):
+    out.extend(b'E' + stamp.to_bytes(4, 'big') + bytes([kind, value, *zeros]))
+
+
+def pair_octets(stamp, kind, value, zeros=(0, 0)):
+    out.extend(b'J' + stamp.to_bytes(4, 'big') + bytes([kind, value, *zeros]))
+
+
+def pair_clock(stamp):
+    out.extend(b'M' + stamp.to_bytes(4, 'big'))
+
+
+def change_sensor(field, value=0):
+    out.extend(b'V' + bytes([field]) + value.to_bytes(4, 'big'))
 
 
 def keep():
@@ -402,6 +427,319 @@ def handed_states():
     handed_flags()
 
 
+# 8. Sensors: the octets of their actions, and edges and statuses to a sensor alone.
+
+EDGES = (PRESS_1, LET_GO_1, PRESS_2, LET_GO_2)
+
+# each action on one edge: button 1 toggles and sends Off, button 2 sends On and nothing
+ONE_OF_EACH = (3, 1, 2, 0)
+
+TOGGLE = (3, 0, 0, 0)
+
+
+def action_refusals():
+    title('actions of another length')
+    for size in (0, 1, 3, 5, 8, 255):
+        fresh_sensor([3] * size)
+    fresh_sensor([9] * 5)
+    title('actions in range and above, octet by octet')
+    for place in range(4):
+        for octet in (0, 1, 2, 3, 4, 5, 128, 255):
+            octets = [0, 1, 2, 3]
+            octets[place] = octet
+            fresh_sensor(octets)
+    title('several actions above 3: the lowest')
+    for octets in ((0, 4, 9, 0), (255, 0, 0, 4), (3, 3, 4, 4), (4, 4, 4, 4)):
+        fresh_sensor(octets)
+    title('a refusal gives a sensor that takes edges and sends nothing')
+    fresh_sensor(b'\4\3\3\3')
+    for edge in EDGES:
+        sensor_octets(5, *edge)
+    sensor_octets(6, *STATUS_ON)
+
+
+def sensor_alone():
+    for place, edge in enumerate(EDGES):
+        for action in range(4):
+            title('sensor: action %d on edge %d, before any, after each status, again' % (action, place))
+            fresh_sensor([action if other == place else (action + 2) % 4 for other in range(4)])
+            sensor_octets(1, *edge)
+            sensor_octets(2, *STATUS_ON)
+            sensor_octets(2, *edge)
+            sensor_octets(3, *STATUS_OFF)
+            sensor_octets(3, *edge)
+            sensor_octets(4, *edge)
+    title('sensor: equal stamps keep their order')
+    fresh_sensor(TOGGLE)
+    for event in (STATUS_ON, PRESS_1, STATUS_ON, STATUS_OFF, PRESS_1, PRESS_1, STATUS_OFF, PRESS_1):
+        sensor_octets(LAST, *event)
+    title('sensor: every send counts, whichever edge it is from')
+    fresh_sensor(ONE_OF_EACH)
+    for stamp, edge in enumerate((PRESS_2, PRESS_1, PRESS_1, LET_GO_1, PRESS_1, LET_GO_2, PRESS_1, PRESS_2, PRESS_2, PRESS_1)):
+        sensor_octets(stamp, *edge)
+
+
+def sensor_refusals():
+    title('refused inputs to the sensor: kinds, values, zero octets, stamps')
+    fresh_sensor(ONE_OF_EACH)
+    sensor_octets(100, *STATUS_ON)
+    for kind in (0, 1, 2, 3, 4, 5, 6, 7, 8, 9, 10, 14, 15, 127, 128, 255):
+        sensor_octets(100, kind, 1)
+    for kind in (11, 12, 13):
+        for value in (2, 3, 128, 255):
+            sensor_octets(100, kind, value)
+        for zeros in ((1, 0), (0, 1), (255, 255)):
+            sensor_octets(100, kind, 1, zeros)
+    for kind in (11, 12, 13):
+        for stamp in (0, 99, LAST + 1, 2**31, 2**32 - 1):
+            sensor_octets(stamp, kind, 0)
+    sensor_octets(99, 14, 0)
+    sensor_octets(LAST + 1, 11, 2)
+    title('edges and statuses move the clock of the sensor')
+    sensor_octets(110, *LET_GO_2)
+    sensor_octets(109, *PRESS_1)
+    sensor_octets(120, *STATUS_OFF)
+    sensor_octets(119, *STATUS_ON)
+    sensor_octets(65536, *PRESS_1)
+    sensor_octets(LAST, *PRESS_1)
+    sensor_octets(LAST - 1, *PRESS_1)
+    sensor_octets(LAST, *STATUS_ON)
+
+
+def handed_sensors():
+    title('sensors with one field changed')
+    fresh_sensor(ONE_OF_EACH)
+    keep()
+    for field, value in [(place, action) for place in (1, 2, 3, 4) for action in (0, 1, 2, 3, 4, 255, 256)] + \
+            [(6, 0), (6, 1), (6, 255), (6, 256), (0, 1), (7, 1), (255, 1)]:
+        back()
+        change_sensor(field, value)
+        for edge in EDGES:
+            sensor_octets(0, *edge)
+    for clock_at in (1, 65536, LAST, LAST + 1, 2**31, 2**32 - 1):
+        back()
+        change_sensor(5, clock_at)
+        for event in (PRESS_1, STATUS_ON, (14, 0), (11, 2)):
+            for stamp in (clock_at, LAST):
+                sensor_octets(stamp, *event)
+
+
+# 9. The pair: the actuator and its sensor.
+
+def pair_script(text, octets, actions, items, *stamps):
+    """Items to a fresh pair, then clock moves of it."""
+    title(text)
+    fresh(octets)
+    fresh_sensor(actions)
+    for stamp, item in items:
+        pair_octets(stamp, *item)
+    for stamp in stamps:
+        pair_clock(stamp)
+
+
+def readings():
+    pair_script('every send counts', parameters(2, 0, 1, 0), (2, 0, 3, 0), [(0, PRESS_1), (5, PRESS_2)], 100)
+    pair_script('a dropped telegram was sent', parameters(0, 0, 1, 0), TOGGLE,
+                [(0, BUS_FAILS), (10, PRESS_1), (20, BUS_RETURNS), (30, PRESS_1)], 100)
+    pair_script('a cue is not heard', parameters(2, 0, 1, 0), TOGGLE, [(0, ON), (5, PRESS_1)], 100)
+    pair_script('a record of attributes alone is heard', parameters(2, 0, 60, 0), TOGGLE, [(0, PRESS_1), (5, NIGHT), (10, PRESS_1)], 19, 20)
+    pair_script('the record of an Off may say on', parameters(0, 5, 60, 10), TOGGLE,
+                [(0, NIGHT), (10, PRESS_1), (100, PRESS_1), (120, PRESS_1)], 149, 150)
+    pair_script('the same at one stamp', parameters(0, 5, 60, 10), TOGGLE,
+                [(0, NIGHT), (10, PRESS_1), (100, PRESS_1), (100, PRESS_1)], 149, 150)
+    pair_script('a timer at the stamp of a press is heard before it', parameters(0, 0, 1, 0), TOGGLE, [(0, START), (10, PRESS_1)], 100)
+    pair_script('and at that of a silent edge', parameters(0, 0, 1, 0), TOGGLE, [(0, START), (10, LET_GO_1)], 100)
+    pair_script('each record is heard once', parameters(2, 5, 1, 0), TOGGLE, [(0, PRESS_1), (20, PRESS_1), (30, PRESS_1)], 100)
+    pair_script('timers between two presses are heard', parameters(0, 0, 6, 1), TOGGLE, [(0, NIGHT), (10, PRESS_1), (100, PRESS_1)], LAST)
+    pair_script('the record of a bus failure is heard', parameters(0, 0, 1, 0, failure=2), TOGGLE, [(10, BUS_FAILS), (20, PRESS_1)], 30)
+    pair_script('the records of a power failure are heard', parameters(0, 0, 1, 0), TOGGLE,
+                [(0, PRESS_1), (10, POWER_FAILS), (20, PRESS_1), (30, POWER_RETURNS), (40, PRESS_1)], 50)
+    title('the value before any is off, though the actuator is lit')
+    fresh(parameters(0, 0, 1, 0))
+    cue(0, ON)
+    fresh_sensor(TOGGLE)
+    pair_octets(10, *PRESS_1)
+    pair_octets(11, *PRESS_1)
+    pair_script('the end is heard', parameters(0, 0, 6, 1), TOGGLE, [(0, START)], 69, 70, 71)
+    pair_script('edges are not paired', parameters(2, 0, 1, 0), TOGGLE, [(0, PRESS_1), (5, PRESS_1), (6, LET_GO_1), (7, LET_GO_1)], 100)
+    title('the clock of the sensor after that of the actuator')
+    fresh(parameters(10, 5, 60, 10))
+    fresh_sensor(TOGGLE)
+    cue(100, ON)
+    sensor_octets(500, *STATUS_OFF)
+    pair_octets(600, *PRESS_1)
+    pair_octets(600, *ON)
+    pair_clock(600)
+    clock(499)
+    pair_octets(600, *PRESS_1)
+    clock(500)
+    pair_octets(600, *PRESS_1)
+    title('and before it')
+    clock(700)
+    pair_octets(699, *PRESS_1)
+    pair_octets(700, *PRESS_1)
+
+
+def pair_actions():
+    for place, edge in enumerate(EDGES):
+        for action in range(4):
+            pair_script('pair: action %d on edge %d' % (action, place), parameters(0, 0, 60, 10),
+                        [action if other == place else (action + 1) % 4 for other in range(4)],
+                        [(0, edge), (5, ON), (10, edge), (15, OFF), (20, edge), (25, edge), (25, edge)])
+
+
+def pair_grid(text, octets, items, stamp, timers=True):
+    """Each edge at one stamp, and a press after it, after the same items."""
+    pair_script(text, octets, ONE_OF_EACH, items)
+    keep()
+    for edge in EDGES:
+        back()
+        pair_octets(stamp, *edge)
+        pair_octets(stamp, *PRESS_1)
+        if timers:
+            pair_clock(LAST)
+
+
+def pair_phases():
+    full = parameters()
+    at_once = parameters(on=0, off=0, prewarning=0)
+    for name, first in (('by day', []), ('by night', [(0, NIGHT)])):
+        pair_grid('edges in Dark ' + name, full, first, 5)
+        pair_grid('edges in Starting, steady, ' + name, full, first + [(0, PRESS_2)], 5)
+        pair_grid('edges in Starting, timed, ' + name, full, first + [(0, START)], 5)
+        pair_grid('edges in Timed ' + name, full, first + [(0, START), (20, LET_GO_2)], 30)
+        pair_grid('edges in Warning ' + name, full, first + [(0, START), (620, LET_GO_2)], 630)
+        pair_grid('edges in Ending ' + name, full, first + [(0, START), (30, LET_GO_1)], 40)
+        pair_grid('edges at once in Dark ' + name, at_once, first, 5)
+        pair_grid('edges at once in Timed ' + name, at_once, first + [(0, START)], 5)
+        for stamp in (19, 20, 21, 619, 620, 719, 720, LAST):
+            pair_grid('edges at %d of a timed light %s' % (stamp, name), full, first + [(0, START)], stamp)
+        for stamp in (69, 70):
+            pair_grid('edges at %d of an ending %s' % (stamp, name), full, first + [(0, PRESS_2), (20, LET_GO_1)], stamp)
+    pair_grid('edges in Lit by day', full, [(0, PRESS_1), (20, LET_GO_2)], 30)
+
+
+def pair_held():
+    full = parameters(unlocking=3)
+    lit = [(0, PRESS_1), (20, LET_GO_2)]
+    for text, items in (('a lock, dark', [(0, LOCK)]),
+                        ('a lock, lit', lit + [(21, LOCK)]),
+                        ('a lock, lit by night', lit + [(20, NIGHT), (21, LOCK)]),
+                        ('force Off', lit + [(21, FORCE_OFF)]),
+                        ('force On', [(0, FORCE_ON)]),
+                        ('a lock over force Off', lit + [(21, FORCE_OFF), (22, LOCK)]),
+                        ('a bus that is down', lit + [(21, BUS_FAILS)]),
+                        ('a bus that is down, starting', [(0, PRESS_1), (1, BUS_FAILS)]),
+                        ('power that is down', lit + [(21, POWER_FAILS)])):
+        pair_grid('edges under ' + text, full, items, 30, timers=False)
+        for end in (UNLOCK, FREE, BUS_RETURNS, POWER_RETURNS):
+            pair_octets(40, *end)
+        pair_octets(50, *PRESS_1)
+
+
+def pair_orders():
+    full = parameters(learning=1, scenes=SCENES, unlocking=3, failure=2, returning=1, power=2)
+    for text, items in (('Dark', []), ('Lit', [(0, PRESS_2)]), ('Timed by night', [(0, NIGHT), (0, START)]), ('a lock', [(0, LOCK)]),
+                        ('force On', [(0, FORCE_ON)]), ('the bus down', [(0, BUS_FAILS)]), ('the power down', [(0, POWER_FAILS)])):
+        pair_script('a press after every order in ' + text, full, ONE_OF_EACH, items)
+        keep()
+        for order in ORDERS:
+            back()
+            pair_octets(30, *order)
+            pair_octets(30, *PRESS_1)
+            pair_clock(LAST)
+
+
+# 10. Refusals of the pair.
+
+def pair_refusals():
+    title('refused inputs to the pair: kinds, values, zero octets, stamps')
+    fresh(parameters(scenes=SCENES))
+    fresh_sensor(ONE_OF_EACH)
+    pair_octets(0, *START)
+    pair_octets(100, *LET_GO_2)
+    for kind in (0, 9, 10, 13, 14, 15, 127, 128, 255):
+        for value in (0, 1):
+            pair_octets(100, kind, value)
+    for kind in (1, 2, 5, 6, 7, 8, 11, 12):
+        for value in (2, 3, 128, 255):
+            pair_octets(100, kind, value)
+    for value in (64, 255):
+        pair_octets(100, 3, value)
+    for value in (4, 255):
+        pair_octets(100, 4, value)
+    for kind in (1, 11, 12):
+        for zeros in ((1, 0), (0, 1), (5, 0), (255, 255)):
+            pair_octets(100, kind, 1, zeros)
+    for stamp in (0, 99, LAST + 1, 2**31, 2**32 - 1):
+        pair_octets(stamp, *PRESS_1)
+        pair_octets(stamp, *LET_GO_2)
+        pair_octets(stamp, *OFF)
+        pair_octets(stamp, 11, 2)
+        pair_octets(stamp, *STATUS_ON)
+        pair_clock(stamp)
+    for stamp in (100, 256, 65536, LAST):
+        pair_clock(stamp)
+    pair_octets(LAST, *PRESS_1)
+    pair_octets(LAST - 1, *PRESS_1)
+    pair_clock(LAST - 1)
+    title('a refusal of either gives a pair that plays')
+    fresh(b'')
+    fresh_sensor(b'\3')
+    pair_octets(5, *PRESS_1)
+    pair_octets(5, *ON)
+    pair_clock(LAST)
+
+
+def handed_pair(text, changes, sensor_changes, stamp=1000):
+    """A pair with these changes, handed to edges, a cue, a bad kind and a clock move."""
+    title(text)
+    back()
+    for field, value in changes:
+        change(FIELDS[field] if field in FIELDS else 32 + int(field), value)
+    for field, value in sensor_changes:
+        change_sensor(field, value)
+    pair_octets(stamp, *PRESS_1)
+    pair_octets(stamp, *LET_GO_2)
+    pair_octets(stamp, *ON)
+    pair_octets(stamp, *STATUS_ON)
+    pair_clock(stamp)
+    pair_clock(LAST)
+
+
+def handed_pairs():
+    title('pairs with fields changed')
+    fresh(parameters(learning=1, scenes=((10, 2), (11, 3))))
+    fresh_sensor(ONE_OF_EACH)
+    pair_octets(1000, *LET_GO_2)
+    keep()
+    handed_pair('sound: nothing changed', [], [])
+    for clock_at in (0, 999, 1000):
+        handed_pair('sound: the sensor at %d, the actuator at 1000' % clock_at, [], [(5, clock_at)])
+    for clock_at in (1001, LAST, LAST + 1, 2**32 - 1):
+        handed_pair('the sensor at %d, the actuator at 1000' % clock_at, [], [(5, clock_at)])
+    handed_pair('sound: both at 864,000', [('clock', LAST)], [(5, LAST)], LAST)
+    handed_pair('both at 864,001', [('clock', LAST + 1)], [(5, LAST + 1)], LAST + 1)
+    handed_pair('the sensor sound, the actuator at 864,001', [('clock', LAST + 1)], [], LAST + 1)
+    handed_pair('the sensor at 1000, the actuator at 999', [('clock', 999)], [])
+    handed_pair('OnDelay not whole seconds', [('ondelay', 15)], [])
+    handed_pair('TimedOn 0', [('timedon', 0)], [])
+    handed_pair('BehaviourAtLocking 3', [('locking', 3)], [])
+    handed_pair('scene 64', [('0', scene_entry(64, 0))], [])
+    handed_pair('Timed until the clock', [('timed', 1000)], [])
+    handed_pair('sound: Timed until 1 after the clock', [('timed', 1001)], [])
+    handed_pair('lock and Starting', [('lock', 1), ('starting', 1050)], [])
+    handed_pair('force On and Dark', [('force', 2)], [])
+    handed_pair('night and Lit', [('night', 1), ('lit', 0)], [])
+    handed_pair('power down and Lit', [('link', 2), ('lit', 0)], [])
+    handed_pair('the actuator and the sensor both unsound', [('force', 2)], [(5, LAST + 1)])
+    for value in (0, 1):
+        handed_pair('sound: Lit, the value of the sensor %d' % value, [('lit', 0)], [(6, value)])
+        handed_pair('sound: Dark, the value of the sensor %d' % value, [], [(6, value)])
+    for action in range(4):
+        handed_pair('sound: action %d for the press' % action, [], [(1, action)])
+
+
 document()
 slips()
 phases()
@@ -411,4 +749,15 @@ scenes()
 refusals()
 parameter_refusals()
 handed_states()
+action_refusals()
+sensor_alone()
+sensor_refusals()
+handed_sensors()
+readings()
+pair_actions()
+pair_phases()
+pair_held()
+pair_orders()
+pair_refusals()
+handed_pairs()
 sys.stdout.buffer.write(out)

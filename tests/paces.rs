@@ -8,8 +8,12 @@
 #[path = "model.rs"]
 mod model;
 
+#[path = "wall.rs"]
+mod wall;
+
 use model::{Force, Link, Move, Params, Phase, Record, Scene, Single, State};
 use std::io::{Read, Write};
+use wall::{Action, Pair, PairMove, PairSingle, Sensor};
 
 /// Octets of the steps; past their end they are 0.
 struct Steps {
@@ -84,6 +88,29 @@ impl Held {
             return (held(given.state), given);
         }
         (*self, Move { state: self.state, code: 9, place: 0, records: Vec::new() })
+    }
+
+    fn pair(&self, sensor: &Sensor) -> Pair {
+        Pair { actuator: self.state, sensor: *sensor }
+    }
+
+    fn pair_single(&self, sensor: &Sensor, octets: &[u8; 8]) -> (Held, PairSingle) {
+        let pair = self.pair(sensor);
+        if self.times_in_range() {
+            let given = wall::pair_single(&pair, octets);
+            return (held(given.pair.actuator), given);
+        }
+        let (answer, records, sent) = (0, Vec::new(), [0; 8]);
+        (*self, PairSingle { pair, code: 9, place: 0, answer, records, sent })
+    }
+
+    fn pair_clock_move(&self, sensor: &Sensor, stamp: u32) -> (Held, PairMove) {
+        let pair = self.pair(sensor);
+        if self.times_in_range() {
+            let given = wall::pair_clock_move(&pair, stamp);
+            return (held(given.pair.actuator), given);
+        }
+        (*self, PairMove { pair, code: 9, place: 0, records: Vec::new() })
     }
 
     fn change(&mut self, field: u8, octets: [u8; 4]) {
@@ -162,6 +189,41 @@ fn state_text(s: &State) -> String {
     )
 }
 
+/// The actions in the order of their numbers.
+const ACTIONS: [Action; 4] =
+    [Action::Nothing, Action::SendOff, Action::SendOn, Action::SendInverse];
+
+/// One field of the sensor is changed: 1 to 4 an action, 5 the clock, 6 the value.
+fn change_sensor(sensor: &mut Sensor, field: u8, octets: [u8; 4]) {
+    let last = octets[3];
+    match field {
+        1..=4 => sensor.actions[usize::from(field) - 1] = ACTIONS[usize::from(last.min(3))],
+        5 => sensor.clock = u32::from_be_bytes(octets),
+        6 => sensor.value = last != 0,
+        _ => {}
+    }
+}
+
+fn sensor_text(sensor: &Sensor) -> String {
+    let mut text = format!("{} {}", sensor.clock, u8::from(sensor.value));
+    for action in sensor.actions {
+        let number = ACTIONS.iter().position(|known| *known == action);
+        text += &format!(" {}", number.expect("every action has its number"));
+    }
+    text
+}
+
+/// The eight octets that were sent, each by itself.
+fn sent_text(sent: &[u8; 8]) -> String {
+    sent.map(|octet| octet.to_string()).join(" ")
+}
+
+/// "Input, 8 octets: 0-3 stamp; 4 kind; 5 value; 6-7 zero."
+fn input_text(o: &[u8; 8]) -> String {
+    let stamp = u32::from_be_bytes([o[0], o[1], o[2], o[3]]);
+    format!("{} {} {} {} {}", stamp, o[4], o[5], o[6], o[7])
+}
+
 /// "by-value records not used are 0"
 fn records_text(records: &[Record], places: usize) -> String {
     let unused = Record { stamp: 0, value: 0, attributes: 0, cause: 0 };
@@ -202,7 +264,8 @@ fn scenes_line(h: &Held) -> String {
 
 struct Player {
     now: Held,
-    kept: Held,
+    sensor: Sensor,
+    kept: (Held, Sensor),
     text: Vec<u8>,
 }
 
@@ -219,14 +282,9 @@ impl Player {
 
     fn single(&mut self, o: [u8; 8]) -> Held {
         let (after, given) = self.now.single(&o);
-        let stamp = u32::from_be_bytes([o[0], o[1], o[2], o[3]]);
         self.write(format!(
-            "S {} {} {} {} {} > {} {} {} {} | {}{}\n",
-            stamp,
-            o[4],
-            o[5],
-            o[6],
-            o[7],
+            "S {} > {} {} {} {} | {}{}\n",
+            input_text(&o),
             given.code,
             given.place,
             given.answer,
@@ -257,6 +315,66 @@ impl Player {
         let state = state_text(&after.state);
         self.write(format!("U {} {} {} {} {} | {}\n", field, o[0], o[1], o[2], o[3], state));
         after
+    }
+
+    fn fresh_sensor(&mut self, octets: &[u8]) {
+        let (sensor, code, place) = wall::fresh_sensor(octets);
+        self.sensor = sensor;
+        let text = sensor_text(&sensor);
+        self.write(format!("N {} > {} {} | {}\n", octets.len(), code, place, text));
+    }
+
+    fn sensor_input(&mut self, o: [u8; 8]) {
+        let given = wall::sensor_input(&self.sensor, &o);
+        self.sensor = given.sensor;
+        self.write(format!(
+            "E {} > {} {} | {} | {}\n",
+            input_text(&o),
+            given.code,
+            given.place,
+            sensor_text(&given.sensor),
+            sent_text(&given.sent)
+        ));
+    }
+
+    fn pair_single(&mut self, o: [u8; 8]) -> Held {
+        let (after, given) = self.now.pair_single(&self.sensor, &o);
+        self.sensor = given.pair.sensor;
+        self.write(format!(
+            "J {} > {} {} {} {} | {} | {}{} | {}\n",
+            input_text(&o),
+            given.code,
+            given.place,
+            given.answer,
+            given.records.len(),
+            state_text(&given.pair.actuator),
+            sensor_text(&given.pair.sensor),
+            records_text(&given.records, 3),
+            sent_text(&given.sent)
+        ));
+        after
+    }
+
+    fn pair_clock_move(&mut self, stamp: u32) -> Held {
+        let (after, given) = self.now.pair_clock_move(&self.sensor, stamp);
+        self.sensor = given.pair.sensor;
+        self.write(format!(
+            "M {} > {} {} {} | {} | {}{}\n",
+            stamp,
+            given.code,
+            given.place,
+            given.records.len(),
+            state_text(&given.pair.actuator),
+            sensor_text(&given.pair.sensor),
+            records_text(&given.records, 2)
+        ));
+        after
+    }
+
+    fn change_sensor(&mut self, field: u8, o: [u8; 4]) {
+        change_sensor(&mut self.sensor, field, o);
+        let text = sensor_text(&self.sensor);
+        self.write(format!("V {} {} {} {} {} | {}\n", field, o[0], o[1], o[2], o[3], text));
     }
 
     /// The state is now this one; its parameters and scenes are shown where they differ.
@@ -298,8 +416,29 @@ impl Player {
                 let after = self.change(field, steps.array());
                 self.is_now(after);
             }
-            b'K' => self.kept = self.now,
-            b'B' => self.is_now(self.kept),
+            b'N' => {
+                let n = steps.octet();
+                self.fresh_sensor(&steps.some(n));
+            }
+            b'E' => self.sensor_input(steps.array()),
+            b'J' => {
+                let after = self.pair_single(steps.array());
+                self.is_now(after);
+            }
+            b'M' => {
+                let after = self.pair_clock_move(u32::from_be_bytes(steps.array()));
+                self.is_now(after);
+            }
+            b'V' => {
+                let field = steps.octet();
+                self.change_sensor(field, steps.array());
+            }
+            b'K' => self.kept = (self.now, self.sensor),
+            b'B' => {
+                let (state, sensor) = self.kept;
+                self.sensor = sensor;
+                self.is_now(state);
+            }
             _ => return false,
         }
         true
@@ -309,13 +448,14 @@ impl Player {
 fn main() {
     let mut steps = Steps { octets: Vec::new(), at: 0 };
     std::io::stdin().read_to_end(&mut steps.octets).expect("reading the steps");
-    let first = held(model::state_of_a_refusal());
-    let mut player = Player { now: first, kept: first, text: Vec::new() };
+    let (first, sensor) = (held(model::state_of_a_refusal()), wall::sensor_of_a_refusal());
+    let mut player = Player { now: first, sensor, kept: (first, sensor), text: Vec::new() };
     let start = player.fresh(&[]);
     player.write(params_line(&start));
     player.write(scenes_line(&start));
     player.now = start;
-    player.kept = start;
+    player.fresh_sensor(&[]);
+    player.kept = (start, player.sensor);
     while player.step(&mut steps) {}
     std::io::stdout().write_all(&player.text).expect("writing the lines");
 }
