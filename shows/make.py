@@ -1,7 +1,7 @@
 #!/usr/bin/env python3
-"""Writes the cue files of this folder, NAME.cue, from the lists below:  python3 shows/make.py
+"""Writes the cue files of this folder, NAME.cue, and its wall lists, NAME.wall, from the lists below:  python3 shows/make.py
 
-The printout that each must give, NAME.txt, is not made here: it was worked out by hand from the rules.
+The printout that each must give, NAME.txt, is not made here: README.md says where it is from.
 """
 import os
 import struct
@@ -17,6 +17,12 @@ STOP, START = 0, 1                  # TimedStartStop
 RELEASE, FORCE_OFF, FORCE_ON = 0, 2, 3
 UNLOCK_IT, LOCK_IT = 0, 1
 FAILURE, RETURN = 0, 1
+
+# ---- the edges of a wall list, and the actions of its sensor
+
+BUTTON_1, BUTTON_2 = 11, 12
+RISING, FALLING = 1, 0
+NOTHING, SEND_OFF, SEND_ON, TOGGLE = 0, 1, 2, 3
 
 
 def learn(number):
@@ -50,8 +56,14 @@ def cue_file(params, inputs, end, version=1, actuators=1):
     return header + params + b''.join(struct.pack('>I2B2x', *i) for i in inputs)
 
 
+def wall_list(params, items, end, actions):
+    """A cue file in which an input may also be an edge, then the actions: button 1 rising, 1 falling, 2 rising, 2 falling."""
+    return cue_file(params, items, end) + bytes(actions)
+
+
 def write(name, octets):
-    with open(os.path.join(HERE, name + '.cue'), 'wb') as f:
+    """A cue file, unless the name says otherwise."""
+    with open(os.path.join(HERE, name if '.' in name else name + '.cue'), 'wb') as f:
         f.write(octets)
 
 
@@ -202,3 +214,44 @@ write('refused_5', cue_file(
 write('refused_6', cue_file(EXAMPLE_PARAMETERS, [(0, TIMED, START), (50, SWITCH, ON), (40, NIGHT, 2)], end=1000))
 # stamps 50, 49
 write('refused_7', cue_file(EXAMPLE_PARAMETERS, [(50, SWITCH, ON), (49, SWITCH, OFF)], end=1000))
+
+# ---- foyer: wall buttons beside the cues, from the first guest to the next morning. Button 1 is by the door and toggles; button 2 is
+# the switch of the cloakroom: On when it is turned on, Off when it is turned off
+
+FOYER_ACTIONS = (TOGGLE, NOTHING, SEND_ON, SEND_OFF)
+FOYER_PARAMETERS = parameters(off_delay=5, timed_on=300, prewarning=30, locking=MODE_OFF, unlocking=MODE_ON)
+write('foyer.wall', wall_list(
+    FOYER_PARAMETERS,
+    [
+        (0, BUTTON_1, RISING),          # 0: the first to come presses at the door: On
+        (3, BUTTON_1, FALLING),         # 1: and lets go, which sends nothing
+        (6000, BUTTON_1, RISING),       # 2: Off: it goes out at 6050
+        (6020, BUTTON_1, RISING),       # 3: no, stay: On, for the last that was sent is Off
+        (18000, BUTTON_2, RISING),      # 4: the cloakroom opens: On, and it is lit already
+        (30000, SWITCH, OFF),           # 5: a cue that no button sent: it goes out at 30050, and the sensor hears that
+        (30060, BUTTON_1, RISING),      # 6: somebody wants it back: On
+        (36000, LOCK, LOCK_IT),         # 7: first act: the foyer is dark and stays so
+        (40000, BUTTON_1, RISING),      # 8: a latecomer presses: On is sent, and dropped
+        (40004, BUTTON_1, FALLING),     # 9
+        (72000, LOCK, UNLOCK_IT),       # 10: the interval: lit
+        (72000, BUTTON_1, RISING),      # 11: at that moment a press: it has heard the light, and sends Off
+        (72030, BUTTON_1, RISING),      # 12: On again
+        (110000, BUTTON_2, FALLING),    # 13: the cloakroom closes: Off, dark at 110050
+        (110050, BUTTON_1, RISING),     # 14: just as it goes out a press: On
+        (126000, NIGHT, ON),            # 15: the house is empty: five minutes and a half from here
+        (129300, BUTTON_1, RISING),     # 16: the porter presses as the light goes out: the timer first, so On, timed by night
+        (129800, BUTTON_1, RISING),     # 17: Off: it goes out at 129850, and until then its status is on
+        (129820, BUTTON_1, RISING),     # 18: so this is Off once more, and does not start the delay again
+        (140000, BUTTON_2, RISING),     # 19: the cleaner: On, for five minutes and a half
+        (143300, BUTTON_2, FALLING),    # 20: Off as the time is up: nothing is left to do
+        (160000, BUS, FAILURE),         # 21
+        (160100, BUTTON_1, RISING),     # 22: On is sent, and dropped: the bus is down
+        (160200, BUS, RETURN),          # 23
+        (160300, BUTTON_1, RISING),     # 24: the last that was sent is On, so Off: nobody told the sensor of the loss
+        (160310, BUTTON_1, RISING),     # 25: On
+        (200000, NIGHT, OFF),           # 26: morning, after two timers
+    ],
+    end=216000, actions=FOYER_ACTIONS))
+
+# actions 4 and 9: the place is the lower one, button 1 falling
+write('refused_11.wall', wall_list(FOYER_PARAMETERS, [(0, BUTTON_1, RISING)], end=1000, actions=(TOGGLE, 4, 9, NOTHING)))

@@ -1,6 +1,6 @@
 #!/usr/bin/env bash
-# Compares the stored output of the program `paces` with what the independent model in Rust gives for the same steps, and runs
-# the model's own tests. Needs a rustc on the PATH (1.63 or newer); builds in a temporary folder. (That the proved program
+# Compares the stored output of the program `paces` and the printouts of the shows with what the independent model in Rust gives,
+# and runs the model's own tests. Needs a rustc on the PATH (1.63 or newer); builds in a temporary folder. (That the proved program
 # writes its stored output is for `rt check paces`.) The last line is 'N passed, M failed'; succeeds exactly when M is 0.
 set -u
 cd "$(dirname "$0")/.." || exit 2
@@ -41,6 +41,23 @@ if build paces && "$room/paces" <crates/paces/stdin >"$room/stdout" && cmp "$roo
     pass "the model gives the $(wc -l <crates/paces/stdout) lines of crates/paces/stdout" 1
 else
     fail "the model does not give crates/paces/stdout" 1
+fi
+
+# The model prints every show as it is written down.
+printed() {
+    local show words count=0
+    for show in shows/*.cue shows/*.wall; do
+        words=()
+        [ "${show##*.}" != wall ] || words=(--wall)
+        "$room/model_print" "${words[@]}" <"$show" | cmp - "${show%.*}.txt" || return 1
+        count=$((count + 1))
+    done
+    shows=$count
+}
+if build model_print && printed; then
+    pass "the model prints the $shows shows as they are written down" 1
+else
+    fail "the model prints a show otherwise" 1
 fi
 
 # tests_of NAME WORDS: the tests in tests/NAME.rs, which are of WORDS.

@@ -1,15 +1,22 @@
 //! The print program against the second model's printout, over a sample of files.
-//! Usage: prints PROGRAM.. where PROGRAM.. is the command that runs the print program.
+//! Usage: prints [--wall] PROGRAM.. where PROGRAM.. is the command that runs the print program, with --wall that of wall lists.
 
 #[path = "model.rs"]
 mod model;
 
+#[path = "wall.rs"]
+mod wall;
+
 #[path = "files.rs"]
 mod files;
+
+#[path = "walls.rs"]
+mod walls;
 
 use files::{CueFile, Rng};
 use std::io::Write;
 use std::process::{Command, Stdio};
+use walls::WallList;
 
 fn printed(command: &[String], file: &[u8]) -> String {
     let mut child = Command::new(&command[0])
@@ -29,30 +36,55 @@ fn printed(command: &[String], file: &[u8]) -> String {
     String::from_utf8_lossy(&output.stdout).into_owned()
 }
 
-fn main() {
-    let command: Vec<String> = std::env::args().skip(1).collect();
-    assert!(!command.is_empty(), "usage: prints PROGRAM..");
-    let seed = std::env::var("SEED").ok().map_or(20_260_102, |x| x.parse().expect("a number"));
-    let mut rng = Rng::new(seed);
-    let mut sample: Vec<Vec<u8>> = vec![Vec::new(), vec![0; 51], vec![0; 52], vec![1; 40_000]];
-    for n in [0, 1, 2, 7, 300, 2048] {
-        sample.push(CueFile::random(&mut rng, n).octets());
+/// A cue file of n inputs, in order or spoilt.
+fn cue_file(rng: &mut Rng, n: usize, spoilt: bool) -> Vec<u8> {
+    let mut show = CueFile::random(rng, n);
+    if spoilt {
+        show.spoil(rng);
     }
-    let mut longer = CueFile::random(&mut rng, 2048).octets();
+    show.octets()
+}
+
+/// A wall list of n items, in order or spoilt.
+fn wall_list(rng: &mut Rng, n: usize, spoilt: bool) -> Vec<u8> {
+    let list = WallList::random(rng, n);
+    if spoilt {
+        list.spoilt(rng)
+    } else {
+        list.octets()
+    }
+}
+
+/// The shortest and the longest, and lists of every length, a third of them spoilt.
+fn sample(rng: &mut Rng, made: fn(&mut Rng, usize, bool) -> Vec<u8>) -> Vec<Vec<u8>> {
+    let mut sample: Vec<Vec<u8>> = vec![Vec::new(), vec![0; 51], vec![0; 52], vec![0; 55], vec![0; 56], vec![1; 40_000]];
+    for n in [0, 1, 2, 7, 300, 2048] {
+        sample.push(made(rng, n, false));
+    }
+    let mut longer = made(rng, 2048, false);
     longer.extend_from_slice(&[0; 3]);
     sample.push(longer);
     for i in 0..90 {
-        let n = files::length(&mut rng);
-        let mut show = CueFile::random(&mut rng, n);
-        if i % 3 == 0 {
-            show.spoil(&mut rng);
-        }
-        sample.push(show.octets());
+        let n = files::length(rng);
+        sample.push(made(rng, n, i % 3 == 0));
     }
+    sample
+}
+
+fn main() {
+    let mut command: Vec<String> = std::env::args().skip(1).collect();
+    let walls = command.first().map_or(false, |word| word == "--wall");
+    if walls {
+        command.remove(0);
+    }
+    assert!(!command.is_empty(), "usage: prints [--wall] PROGRAM..");
+    let seed = std::env::var("SEED").ok().map_or(20_260_102, |x| x.parse().expect("a number"));
+    let mut rng = Rng::new(seed);
+    let sample = sample(&mut rng, if walls { wall_list } else { cue_file });
     let mut passed = 0;
     let mut failed = 0;
     for file in &sample {
-        let expected = model::print(file);
+        let expected = if walls { wall::print_wall(file) } else { model::print(file) };
         let found = printed(&command, file);
         if found == expected {
             passed += 1;

@@ -30,25 +30,36 @@ holds() {
     fi
 }
 
+# play_all END WORDS..: every shows/NAME.END, by ./preview WORDS.. and the file.
+play_all() {
+    local end=$1 show name
+    shift
+    for show in shows/*."$end"; do
+        [ -f "$show" ] || continue
+        shows=$((shows + 1))
+        name=$(basename "$show" ".$end")
+        case $name in
+        refused_*) holds "$name" 1 "shows/$name.txt" 1 ./preview "$@" "$show" ;;
+        *) holds "$name" 0 "shows/$name.txt" 0 ./preview "$@" "$show" ;;
+        esac
+    done
+}
+
 shows=0
-for cue in shows/*.cue; do
-    [ -f "$cue" ] || continue
-    shows=$((shows + 1))
-    name=$(basename "$cue" .cue)
-    case $name in
-    refused_*) holds "$name" 1 "shows/$name.txt" 1 ./preview "$cue" ;;
-    *) holds "$name" 0 "shows/$name.txt" 0 ./preview "$cue" ;;
-    esac
-done
+play_all cue
+play_all wall --wall
 
 : >"$work/nothing"
 echo "NO 1 0" >"$work/no_1"
 echo "NO 4 0" >"$work/no_4"
 (cat shows/example.cue && head -c 20000 /dev/zero) >"$work/long.cue"
+(cat shows/foyer.wall && head -c 20000 /dev/zero) >"$work/long.wall"
 
 holds "no file named: the example" 0 shows/example.txt 0 ./preview
 holds "an empty file" 1 "$work/no_1" 1 ./preview "$work/nothing"
+holds "an empty wall list" 1 "$work/no_1" 1 ./preview --wall "$work/nothing"
 holds "a file longer than the longest" 1 "$work/no_4" 1 ./preview "$work/long.cue"
+holds "a wall list longer than the longest" 1 "$work/no_4" 1 ./preview --wall "$work/long.wall"
 holds "a file that is not there" 2 "$work/nothing" 1 ./preview "$work/missing.cue"
 holds "a folder" 2 "$work/nothing" 1 ./preview shows
 holds "a name from another folder" 0 shows/ties.txt 0 bash -c 'cd shows && ../preview ties.cue'
@@ -67,10 +78,11 @@ done
 # the files are those that make.py writes
 if command -v python3 >/dev/null; then
     mkdir "$work/made" && cp shows/make.py "$work/made/" && python3 "$work/made/make.py"
-    for cue in shows/*.cue; do
-        cmp "$cue" "$work/made/$(basename "$cue")" || echo "$cue"
+    for show in shows/*.cue shows/*.wall; do
+        cmp "$show" "$work/made/$(basename "$show")" || echo "$show"
     done >"$work/other" 2>&1
-    if [ "$shows" -gt 0 ] && [ ! -s "$work/other" ] && [ "$(find "$work/made" -name '*.cue' | wc -l)" -eq "$shows" ]; then
+    made=$(find "$work/made" -name '*.cue' -o -name '*.wall' | wc -l)
+    if [ "$shows" -gt 0 ] && [ ! -s "$work/other" ] && [ "$made" -eq "$shows" ]; then
         passed=$((passed + 1))
         echo "ok: shows/make.py writes the $shows shows"
     else
