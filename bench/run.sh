@@ -1,5 +1,5 @@
 #!/usr/bin/env bash
-# Instructions and time of the proved run against the second model in Rust, over five kinds of show (shows.rs).
+# Instructions and time of the proved runs against the second model in Rust, over the kinds of show of shows.rs.
 # Needs valgrind and rustc. Both sides are compiled for this machine's own processor: the proved run from the very code that
 # `rt staticlib house` compiles, at -O3.
 set -eu
@@ -27,13 +27,13 @@ native_object() {
         -Wno-override-module 2>/dev/null
 }
 
-# counted SHOW N WHICH CALLS: the instructions of the whole program.
+# counted SHOW N SIDE CALLS: the instructions of the whole program.
 counted() {
     valgrind --tool=callgrind --callgrind-out-file=/dev/null "$out/bench" count "$@" 2>&1 |
         sed -n 's/.*Collected : *\([0-9]*\).*/\1/p'
 }
 
-# instructions SHOW N WHICH: those of one call, a tenth of what ten calls more cost.
+# instructions SHOW N SIDE: those of one call, a tenth of what ten calls more cost.
 instructions() {
     echo $((($(counted "$@" 11) - $(counted "$@" 1)) / 10))
 }
@@ -63,8 +63,8 @@ echo "| show | inputs | instructions an input, proved | Rust | ratio | ns an inp
 echo "|---|---|---|---|---|---|---|---|"
 while read -r show lengths; do
     for n in $lengths; do
-        a=$(instructions "$show" "$n" house_run)
-        b=$(instructions "$show" "$n" model_run)
+        a=$(instructions "$show" "$n" proved)
+        b=$(instructions "$show" "$n" model)
         read -r x y < <("$out/bench" time "$show" "$n")
         echo "| $show | $n | $(per_input "$a" "$n") | $(per_input "$b" "$n") | $(ratio "$a" "$b")" \
             "| $(per_input "$x" "$n") | $(per_input "$y" "$n") | $(ratio "$x" "$y") |"

@@ -1,5 +1,5 @@
 #!/usr/bin/env bash
-# The tests of what is built: the archive against the second model, the print program, the C example. Called by ./test after
+# The tests of what is built: the archive against the second model, the print program, the C examples. Called by ./test after
 # the proofs and after tests/tools.sh, from the repository's root. The last line is 'N passed, M failed'.
 #
 # How the Rust tests reach the archive, which is x86-64: on x86-64 they link it plainly. On aarch64 they are compiled for
@@ -79,21 +79,30 @@ build_bridge() {
     kit_cc "$out/bridge.o" tests/bridge.c && kit_link "$out/bridge" "$out/bridge.o" target/staticlib/libhouse.a
 }
 
-# The C example, with warnings as errors: by a C compiler for x86-64 where there is one, else by the kit's compiler with this
-# machine's headers.
+# build_example NAME: examples/NAME.c, with warnings as errors: by a C compiler for x86-64 where there is one, else by the kit's
+# compiler with this machine's headers.
 build_example() {
-    local cc=x86_64-linux-gnu-gcc
+    local name=$1 cc=x86_64-linux-gnu-gcc
     [ "$(uname -m)" = x86_64 ] && cc=cc
     if command -v "$cc" >/dev/null; then
-        "$cc" -std=c99 -Wall -Wextra -Werror -pedantic -O2 -fPIE -Iinclude -c examples/preview.c -o "$out/preview.o"
+        "$cc" -std=c99 -Wall -Wextra -Werror -pedantic -O2 -fPIE -Iinclude -c "examples/$name.c" -o "$out/$name.o"
     else
-        kit_cc "$out/preview.o" examples/preview.c -std=c99 -Iinclude -isystem "$(cc -print-file-name=include)" \
+        kit_cc "$out/$name.o" "examples/$name.c" -std=c99 -Iinclude -isystem "$(cc -print-file-name=include)" \
             -isystem /usr/include -isystem "/usr/include/$(uname -m)-linux-gnu"
-    fi && kit_link "$out/preview" "$out/preview.o" target/staticlib/libhouse.a
+    fi && kit_link "$out/$name" "$out/$name.o" target/staticlib/libhouse.a
 }
 
+# example_says NAME SHOW: it writes examples/NAME.txt of a show.
 example_says() {
-    "${kit_run[@]}" "$out/preview" <shows/example.cue | diff - examples/preview.txt
+    local name=$1 show=$2
+    "${kit_run[@]}" "$out/$name" <"shows/$show" | diff - "examples/$name.txt"
+}
+
+# example NAME SHOW: examples/NAME.c, built and run.
+example() {
+    local name=$1 show=$2
+    done_or_not "examples/$name.c is built, warnings as errors" build_example "$name"
+    done_or_not "examples/$name.c says what the house does in shows/$show" example_says "$name" "$show"
 }
 
 # The archive is made beside what needs neither it nor rt: making it proves its crate once more.
@@ -119,7 +128,7 @@ if command -v rustc >/dev/null; then
     compared compare_walls "the run over wall lists against the second model"
 fi
 counted "the shows" bash tests/shows.sh
-done_or_not "the C example is built, warnings as errors" build_example
-done_or_not "the C example says what the house does" example_says
+example preview example.cue
+example wall foyer.wall
 echo "$passed passed, $failed failed"
 [ "$failed" -eq 0 ]
