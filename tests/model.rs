@@ -434,7 +434,12 @@ fn stopped(state: &State, kind: u8) -> Option<u8> {
 /// "A stopped input is dropped for good; every other is taken, though it may change nothing."
 ///
 /// "then 0 if anything but the clock changed after the due timers had run, else 1"
-pub(crate) fn take_input(state: &mut State, octets: &[u8], input: Input, tape: &mut impl Tape) -> u8 {
+pub(crate) fn take_input(
+    state: &mut State,
+    octets: &[u8],
+    input: Input,
+    tape: &mut impl Tape,
+) -> u8 {
     let (t, kind) = (u32_at(octets, 0), octets[4]);
     move_clock(state, t, tape);
     if let Some(answer) = stopped(state, kind) {

@@ -240,9 +240,7 @@ pub struct Pair {
 /// Both sound, and the sensor's clock not after the actuator's: a record between the two clocks
 /// could not be heard.
 pub fn pair_sound(pair: &Pair) -> bool {
-    sound(&pair.actuator)
-        && sensor_sound(&pair.sensor)
-        && pair.sensor.clock <= pair.actuator.clock
+    sound(&pair.actuator) && sensor_sound(&pair.sensor) && pair.sensor.clock <= pair.actuator.clock
 }
 
 /// "each record is a status at its stamp, heard before the next edge"

@@ -250,10 +250,8 @@ fn reading_1_20_one_list_has_one_clock() {
     refused(&wall_list(&worked(), 10, &[press(5), (4, ON_OFF, 1)], &TOGGLE), 7, 1);
     refused(&wall_list(&worked(), 10, &[press(11)], &TOGGLE), 7, 0);
     // by value, the actuator's clock decides, and the sensor's may be behind it
-    let before = Pair {
-        actuator: State { clock: 5, ..actuator(&worked()) },
-        sensor: sensor(&TOGGLE),
-    };
+    let before =
+        Pair { actuator: State { clock: 5, ..actuator(&worked()) }, sensor: sensor(&TOGGLE) };
     assert_eq!(pair_single(&before, &input(press(4))).code, 7);
     assert_eq!(pair_single(&before, &input(press(5))).code, 0);
 }
@@ -615,7 +613,8 @@ fn a_cue_file_before_any_actions_is_the_plain_run() {
         for actions in [[0; 4], [0; 4].map(|_: u8| rng.below(4) as u8)] {
             let list = [&octets[..], &actions[..]].concat();
             let (records, answers) = (8 * (3 * n + 3) - usize::from(rng.chance(5)), n);
-            let (plain, joined) = (run(&octets, records, answers), wall_run(&list, records, answers));
+            let (plain, joined) =
+                (run(&octets, records, answers), wall_run(&list, records, answers));
             if has_edge {
                 continue;
             }
