@@ -510,7 +510,7 @@ def handed_sensors():
     title('sensors with one field changed')
     fresh_sensor(ONE_OF_EACH)
     keep()
-    for field, value in [(place, action) for place in (1, 2, 3, 4) for action in (0, 1, 2, 3, 4, 255, 256)] + \
+    for field, value in [(place, action) for place in (1, 2, 3, 4) for action in (0, 1, 2, 3, 255, 256)] + \
             [(6, 0), (6, 1), (6, 255), (6, 256), (0, 1), (7, 1), (255, 1)]:
         back()
         change_sensor(field, value)
@@ -639,15 +639,18 @@ def pair_held():
 
 def pair_orders():
     full = parameters(learning=1, scenes=SCENES, unlocking=3, failure=2, returning=1, power=2)
-    for text, items in (('Dark', []), ('Lit', [(0, PRESS_2)]), ('Timed by night', [(0, NIGHT), (0, START)]), ('a lock', [(0, LOCK)]),
-                        ('force On', [(0, FORCE_ON)]), ('the bus down', [(0, BUS_FAILS)]), ('the power down', [(0, POWER_FAILS)])):
-        pair_script('a press after every order in ' + text, full, ONE_OF_EACH, items)
+    for text, items, timers in (('in Dark', [], True), ('in Lit', [(0, PRESS_2)], True),
+                                ('in Timed by night', [(0, NIGHT), (0, START)], True), ('under a lock', [(0, LOCK)], False),
+                                ('under force On', [(0, FORCE_ON)], False), ('with the bus down', [(0, BUS_FAILS)], False),
+                                ('with the power down', [(0, POWER_FAILS)], False)):
+        pair_script('a press after every order ' + text, full, ONE_OF_EACH, items)
         keep()
         for order in ORDERS:
             back()
             pair_octets(30, *order)
             pair_octets(30, *PRESS_1)
-            pair_clock(LAST)
+            if timers:
+                pair_clock(LAST)
 
 
 # 10. Refusals of the pair.

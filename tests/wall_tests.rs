@@ -215,7 +215,7 @@ fn reading_1_16_the_value_before_any_is_off() {
     let pair = Pair { actuator: lit, sensor: sensor(&TOGGLE) };
     let given = pair_single(&pair, &input(press(10)));
     assert_eq!((given.code, given.answer, given.sent), (0, 1, input((10, ON_OFF, 1))));
-    assert_eq!(given.records, []);
+    assert!(given.records.is_empty());
     assert_eq!(given.pair.actuator, State { clock: 10, ..lit });
 }
 
@@ -622,7 +622,7 @@ fn a_cue_file_before_any_actions_is_the_plain_run() {
             assert_eq!((&plain.records, &plain.answers), (&joined.records, &joined.answers));
             assert_eq!(plain.records_before, joined.records_before);
             assert_eq!(plain.end, joined.end.actuator);
-            assert_eq!(joined.sends, []);
+            assert!(joined.sends.is_empty());
             if plain.code == 0 {
                 assert_eq!(print(&octets), print_wall(&list));
             }
