@@ -13,6 +13,7 @@ use Rattle.base.specs.declared.refusal.Refusal.{Refusal}
 use Rattle.base.specs.declared.refusal.Refusal.the-variants.{WrongLength, BadAction}
 use Rattle.base.specs.declared.refusal.Check.{Check}
 use Rattle.base.specs.declared.refusal.Check.the-variants.{Passed, Refused}
+use Rattle.base.specs.Refusals.{Decides}
 use Rattle.base.proofs.Tests.{cond-case}
 use Rattle.base.proofs.Codes.{codes-of-a-check}
 use Rattle.sensor.specs.declared.action.Action.{Action}
@@ -105,11 +106,9 @@ module _ (octets : List ℕ) where
   pub passed-has-four : checkActions octets ≡ Passed → length octets ≡ 4
   passed-has-four e = (rw e at says) .whole
 
+  pub actions-decide : Decides (ActionsWhen octets) (GoodActions octets) (checkActions octets)
+  actions-decide = record { refused = λ why p. (λ e. rw e at says, found why p); passed = (λ e. rw e at says, good-is-passed) }
+
   pub fresh-sensor-refused-exactly-when : FreshSensorCodes octets (freshSensorCall octets .code) (freshSensorCall octets .place)
   unfolding freshSensorCall freshSensorBy
-  fresh-sensor-refused-exactly-when =
-      codes-of-a-check (checkActions octets)
-      (record {
-        refused = λ why p. (λ e. rw e at says, found why p);
-        passed = (λ e. rw e at says, good-is-passed);
-      })
+  fresh-sensor-refused-exactly-when = codes-of-a-check (checkActions octets) actions-decide

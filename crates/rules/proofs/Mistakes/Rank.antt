@@ -57,7 +57,7 @@ step-by-way-of s i t u h =
     ∙ sym (acts-after-the-move (clockMove s u) i)
 
 -- and so is whatever is played from then on
-plays-by-way-of : (t end : ℕ) (later : List Cue) (s : State) → NotBefore t later end → andThen (moved (clockMove s t)) (playsTo end later) ≡ playsTo end later s
+pub plays-by-way-of : (t end : ℕ) (later : List Cue) (s : State) → NotBefore t later end → andThen (moved (clockMove s t)) (playsTo end later) ≡ playsTo end later s
 unfolding playsTo plays
 plays-by-way-of t end [] s h = by-way-of s t end h
 plays-by-way-of t end (cue u i ∷ later) s h =

@@ -163,7 +163,7 @@ module _ (file records answers : List ℕ) (list : List Cue) (read : readFile fi
 -- ---- the number to C
 
 -- code, place and count are found again in the number that they are packed into, where place and count have room
-apart : (r : Ran) → r .place < 65_536 → r .count < 4_294_967_296 → TakenApart (packed r) r
+pub apart : (r : Ran) → r .place < 65_536 → r .count < 4_294_967_296 → TakenApart (packed r) r
 unfolding packed
 apart r narrow few =
     record {
@@ -173,7 +173,7 @@ apart r narrow few =
     }
 
 -- they have: a place is an octet of the parameters or the index of an input, and a count is at most 3n+3
-narrow-start : (file : List ℕ) (why : Refusal) (p : ℕ) → StartWhen file why p → p < 65_536
+pub narrow-start : (file : List ℕ) (why : Refusal) (p : ℕ) → StartWhen file why p → p < 65_536
 narrow-start file WrongLength p g = omega (arith, g .0)
 narrow-start file WrongVersion p g = omega (arith, g .0)
 narrow-start file WrongActuators p g = omega (arith, g .0)

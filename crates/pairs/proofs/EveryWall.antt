@@ -1,0 +1,184 @@
+-- What holds of every octet string that is accepted as a wall list: its stamps rise, its run is the actuator's over the cues and telegrams and the
+-- sensor's over the records and edges, and so the promises of the actuator are the pair's.
+use Prim.Native.Nat.{ℕ, zero, suc, _+_, _-_, _≤_, _<_}
+use mathlib.Core.Bool.{Bool, true, false}
+use mathlib.Core.List.{List, [], _∷_}
+use mathlib.Core.Option.{some}
+use mathlib.Core.Path.{_≡_, refl, sym, ap, _∙_}
+use native.Mathlib.Omega.{arith}
+use lib.Dec.{leb}
+use lib.ListN.{length, List·getD-eq-default}
+use borrow.Author.Tests.{leb-true, leb-false, le-leb}
+use Rattle.octets.specs.BigEndian.{octet}
+use Rattle.octets.specs.Groups.{stampAt}
+use Rattle.rules.specs.declared.parameters.Params.{Params}
+use Rattle.rules.specs.declared.parameters.Scene.{Scene}
+use Rattle.rules.specs.declared.input.Input.{Input}
+use Rattle.rules.specs.declared.input.Decoded.the-variants.{Meant}
+use Rattle.rules.specs.Layout.{inputPlace}
+use Rattle.rules.specs.Inputs.{inputAt}
+use Rattle.rules.specs.Steps.{fresh}
+use Rattle.rules.specs.Parameters.{paramsOf, scenesOf}
+use Rattle.rules.specs.Lists.{Cue, Played, andThen, start, playList}
+use Rattle.rules.specs.Readings.{cues, readOne, readInputs}
+use Rattle.rules.specs.Runs.{playFile}
+use Rattle.rules.specs.Files.{inputCount, endTime, parametersIn, cueAt, readFile}
+use Rattle.rules.specs.Promises.{Rises, DarkPromise, LightPromise, StrongLightPromise}
+use Rattle.rules.proofs.Laws.Parameters.{passed-has-some-time, passed-is-in-range}
+use Rattle.rules.proofs.Refusals.Readings.{first-read}
+use Rattle.rules.proofs.Refusals.Files.{good-file, good-start, first-cue, parameters-small}
+use Rattle.rules.proofs.Promises.Dark.{dark}
+use Rattle.rules.proofs.Promises.Light.{strong-light, light}
+use Rattle.sensor.specs.Sensors.{freshSensor}
+use Rattle.sensor.specs.Refusals.{GoodActions}
+use Rattle.pairs.specs.declared.item.Item.{Item}
+use Rattle.pairs.specs.declared.item.Item.the-variants.{Plain}
+use Rattle.pairs.specs.declared.item.Read.{Read}
+use Rattle.pairs.specs.declared.item.Read.the-variants.{Known, Unknown}
+use Rattle.pairs.specs.Items.{itemAt}
+use Rattle.pairs.specs.Pairs.{Pair, pairStep}
+use Rattle.pairs.specs.Lists.{Listed, listed, pairPlaysTo, pairStart, playItems}
+use Rattle.pairs.specs.Calls.{pairSound}
+use Rattle.pairs.specs.Halves.{ItemsRise, cuesFor, given, ActuatorHalf}
+use Rattle.pairs.specs.Refusals.{GoodWall}
+use Rattle.pairs.specs.Walls.{fileIn, actionsIn, stampedItem, itemIn, readWall, playWall}
+use Rattle.pairs.proofs.Playing.{pair-plays-to-next, pair-plays-to-end}
+use Rattle.pairs.proofs.Halves.{actuatorPart, plainItems, plain-items, cues-rise, the-run-is-the-actuators}
+use Rattle.pairs.proofs.Ties.{item-clock}
+use Rattle.pairs.proofs.Soundness.{SceneFits, pair-move-keeps-sound, pair-step-keeps-sound, pair-start-is-sound}
+use Rattle.pairs.proofs.Items.{plain-exactly-when, item-fits}
+use Rattle.pairs.proofs.Refusals.Walls.{file-length, file-octet, good-wall, a-good-start-is-read, good-wall-is-read}
+
+-- ---- items that are read without fault
+
+-- what an item of a list is made of
+pub item-said : (file : List ℕ) (j : ℕ) (x : Listed) → itemIn file j ≡ some x → (i : Item) × (itemAt file (inputPlace j) ≡ Known i) × (x ≡ listed (stampAt file (inputPlace j)) i)
+unfolding itemIn
+item-said file j x e = by (itemAt file (inputPlace j)) refl e
+  where
+    by : (r : Read) → itemAt file (inputPlace j) ≡ r → stampedItem (stampAt file (inputPlace j)) r ≡ some x → (i : Item) × (itemAt file (inputPlace j) ≡ Known i) × (x ≡ listed (stampAt file (inputPlace j)) i)
+    by (Known i) m e = (i, m, cc)
+    by Unknown m e = absurd (let z : _≡_ {A = ℕ} 0 1 = cc in omega arith)
+
+-- scenes have numbers up to 63
+abbrev pub AllFit : List Listed → Type 0
+AllFit [] = Unit {0}
+AllFit (listed t i ∷ later) = SceneFits i × AllFit later
+
+read-in-order : (file : List ℕ) (left j last end : ℕ) (items : List Listed) → last ≤ end → readInputs (itemIn file) file left j last end ≡ cues items → ItemsRise last items end × AllFit items
+read-in-order file zero j last end items early read = let none : items ≡ [] = unfold readInputs in cc in rw none (early, tt)
+read-in-order file (suc left) j last end items early read =
+    let f = first-read (itemIn file) file left j last end items read in
+    let x = item-said file j (f .input) (f .means) in
+    let rest = read-in-order file left (j + 1) (stampAt file (inputPlace j)) end (f .later) (f .timely) (f .reads) in
+    rw (f .starts, x .2) ((f .risen, rest .0), (item-fits file (inputPlace j) (x .0) (x .1), rest .1))
+
+-- ---- soundness over a list
+
+items-end : (last : ℕ) (items : List Listed) (end : ℕ) → ItemsRise last items end → last ≤ end
+items-end last [] end r = r
+items-end last (listed t i ∷ later) end r = omega (arith, r .0, items-end t later end (r .1))
+
+pub plays-keep-sound : (items : List Listed) (p : Pair) (last end : ℕ) → pairSound p ≡ true → p .actuator .clock ≤ last → ItemsRise last items end → AllFit items → end ≤ 864_000 →
+    pairSound (pairPlaysTo end items p .pair) ≡ true
+plays-keep-sound [] p last end safe early rise fit whole = rw (pair-plays-to-end end p) (pair-move-keeps-sound p end safe (omega arith) whole)
+plays-keep-sound (listed t i ∷ later) p last end safe early rise fit whole =
+    let next : Pair = pairStep p i t .pair in
+    let there = items-end t later end (rise .1) in
+    rw (pair-plays-to-next end t i later p)
+    (plays-keep-sound later next t end (pair-step-keeps-sound p i t safe (omega (arith, rise .0)) (omega arith) (fit .0)) (omega (arith, item-clock p i t)) (rise .1) (fit .1) whole)
+
+-- ---- every accepted wall list
+
+file-small : (wall : List ℕ) → ((j : ℕ) → octet wall j < 256) → (j : ℕ) → octet (fileIn wall) j < 256
+file-small wall small j = by (leb (length wall - 4) j) refl
+  where
+    by : (b : Bool) → leb (length wall - 4) j ≡ b → octet (fileIn wall) j < 256
+    by true past = rw (List·getD-eq-default (fileIn wall) 0 {n = j} (omega (arith, file-length wall, leb-true (length wall - 4) j past))) (omega arith)
+    by false within = rw (file-octet wall j (leb-false (length wall - 4) j within)) (small j)
+
+module _ (wall : List ℕ) (items : List Listed) (read : readWall wall ≡ cues items) where
+  abbrev file : List ℕ
+  file = fileIn wall
+
+  good : GoodWall wall
+  good = good-wall wall items read
+
+  in-order : ItemsRise 0 items (endTime file) × AllFit items
+  in-order = read-in-order file (inputCount file) 0 0 (endTime file) items (omega arith) (sym (good-wall-is-read wall good) ∙ read)
+
+  pub items-rise : ItemsRise 0 items (endTime file)
+  items-rise = in-order .0
+
+  -- the pair that its parameters start with
+  abbrev pub begun : Pair
+  begun = pairStart (paramsOf (parametersIn file)) (scenesOf (parametersIn file)) (freshSensor (actionsIn wall)) .pair
+
+  -- what its actuator is given
+  abbrev pub cuesGiven : List Cue
+  cuesGiven = given (cuesFor items begun)
+
+  pub cues-given-rise : Rises 0 cuesGiven (endTime file)
+  cues-given-rise = cues-rise 0 (endTime file) items begun items-rise
+
+  pub a-wall-has-some-time : 1 ≤ paramsOf (parametersIn file) .timedon
+  a-wall-has-some-time = passed-has-some-time (parametersIn file) (good .start .passed)
+
+  -- state, records and answers are the actuator's, over what it is given
+  pub a-wall-run-is-the-actuators : ActuatorHalf (endTime file) items begun (playWall wall items) (playList (paramsOf (parametersIn file)) (scenesOf (parametersIn file)) cuesGiven (endTime file))
+  unfolding playWall
+  a-wall-run-is-the-actuators = the-run-is-the-actuators (paramsOf (parametersIn file)) (scenesOf (parametersIn file)) (freshSensor (actionsIn wall)) items (endTime file) items-rise
+
+  -- "the demands read over the pair": an edge's On or Off counts as On or Off
+  pub dark-of-every-accepted-wall : DarkPromise (paramsOf (parametersIn file)) (scenesOf (parametersIn file)) cuesGiven (endTime file)
+  dark-of-every-accepted-wall = dark _ _ cuesGiven (endTime file) cues-given-rise
+
+  pub strong-light-of-every-accepted-wall : StrongLightPromise (paramsOf (parametersIn file)) (scenesOf (parametersIn file)) cuesGiven (endTime file)
+  strong-light-of-every-accepted-wall = strong-light _ _ cuesGiven (endTime file) cues-given-rise a-wall-has-some-time
+
+  pub light-of-every-accepted-wall : LightPromise (paramsOf (parametersIn file)) (scenesOf (parametersIn file)) cuesGiven (endTime file)
+  light-of-every-accepted-wall = light _ _ cuesGiven (endTime file) cues-given-rise a-wall-has-some-time
+
+  -- a sound pair from the start to the end, where the octets are octets
+  module _ (small : (j : ℕ) → octet wall j < 256) where
+    pub a-wall-starts-sound : pairSound begun ≡ true
+    a-wall-starts-sound =
+        let ranges = passed-is-in-range (parametersIn file) (parameters-small file (file-small wall small)) (good .start .passed) in
+        pair-start-is-sound (paramsOf (parametersIn file)) (scenesOf (parametersIn file)) (freshSensor (actionsIn wall)) (ranges .0) (ranges .1)
+
+    pub a-wall-ends-sound : pairSound (playWall wall items .pair) ≡ true
+    unfolding playWall playItems
+    a-wall-ends-sound = plays-keep-sound items begun 0 (endTime file) a-wall-starts-sound (unfold fresh in omega arith) items-rise (in-order .1) (good .start .header .layout .end)
+
+-- ---- a cue file and four actions
+
+one-more : (file : List ℕ) (left j last end : ℕ) (i : Input) (later : List Cue) → inputAt file (inputPlace j) ≡ Meant i → last ≤ stampAt file (inputPlace j) → stampAt file (inputPlace j) ≤ end →
+    readInputs (itemIn file) file left (j + 1) (stampAt file (inputPlace j)) end ≡ cues (plainItems later) →
+    readInputs (itemIn file) file (suc left) j last end ≡ cues (listed (stampAt file (inputPlace j)) (Plain i) ∷ plainItems later)
+unfolding readInputs readOne itemIn
+one-more file left j last end i later meant risen timely rest =
+    rw (plain-exactly-when file (inputPlace j) i .1 meant, le-leb last (stampAt file (inputPlace j)) risen, le-leb (stampAt file (inputPlace j)) end timely, rest) refl
+
+-- what the actuator reads without fault is read the same here
+reads-plain : (file : List ℕ) (left j last end : ℕ) (list : List Cue) → readInputs (cueAt file) file left j last end ≡ cues list → readInputs (itemIn file) file left j last end ≡ cues (plainItems list)
+unfolding plainItems
+reads-plain file zero j last end list read = let none : list ≡ [] = unfold readInputs in cc in rw none (unfold readInputs in refl)
+reads-plain file (suc left) j last end list read =
+    let f = first-cue file left j last end list read in
+    let rest = reads-plain file left (j + 1) (stampAt file (inputPlace j)) end (f .later) (f .reads) in
+    rw (f .starts) (one-more file left j last end (f .input) (f .later) (f .meant) (f .risen) (f .timely) rest)
+
+-- so a cue file with four actions is a wall list, and its run is the file's own
+pub a-cue-file-is-a-wall-list : (wall : List ℕ) (list : List Cue) → GoodActions (actionsIn wall) → readFile (fileIn wall) ≡ cues list → readWall wall ≡ cues (plainItems list)
+a-cue-file-is-a-wall-list wall list actions read =
+    let file : List ℕ = fileIn wall in
+    let start = good-file file list read .start in
+    a-good-start-is-read wall (omega (arith, file-length wall, start .header .long)) start actions
+    ∙ reads-plain file (inputCount file) 0 0 (endTime file) list (sym (good-start file start) ∙ read)
+
+pub its-run-is-the-files : (wall : List ℕ) (list : List Cue) → actuatorPart (playWall wall (plainItems list)) ≡ playFile (fileIn wall) list
+unfolding playWall playItems playFile playList
+its-run-is-the-files wall list =
+    let k : Params = paramsOf (parametersIn (fileIn wall)) in
+    let scenes : List Scene = scenesOf (parametersIn (fileIn wall)) in
+    ap (λ (a : Played). andThen (start k scenes) (λ x. a)) (plain-items (endTime (fileIn wall)) list (pairStart k scenes (freshSensor (actionsIn wall)) .pair))
