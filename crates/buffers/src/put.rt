@@ -1,11 +1,14 @@
 // Records as octets, each at its place in a lent buffer.
 ghost use mathlib.Core.Path.{_≡_};
+ghost use mathlib.Core.Bool.{_&&_};
 ghost use Prim.Native.Nat.{_+_, _*_, _≤_};
 ghost use lib.ListN.{length, take};
+ghost use lib.Dec.{leb};
 ghost use Rattle.octets.specs.Splice.{splice};
 ghost use Rattle.rules.specs.Layout.{mostInputs, recordSize, recordPlace, recordsRoom};
 ghost use Rattle.rules.specs.Runs.{recordOctets, recordsOctets};
 ghost use Rattle.records.specs.Notes.{listed};
+use base::logic::both;
 use octets::write32;
 use records::notes::Note;
 use records::notes::Notes;
@@ -21,11 +24,21 @@ fn record_place(count: u32) -> usize
 }
 
 // How many octets the records of n inputs can take: a start record, three for each input, two for the move to the end.
-pub fn records_room(n: u32) -> usize
+fn records_room(n: u32) -> usize
     requires { ⌜ n ≤ mostInputs ⌝ }
     ensures { λ r. ⌜ r ≡ recordsRoom n ⌝ }
 {
     record_place(3 * n + 3)
+}
+
+// Whether buffers of these lengths hold all that n inputs can give.
+pub fn is_roomy(n: u32, records: usize, answers: usize) -> bool
+    requires { ⌜ n ≤ mostInputs ⌝ }
+    ensures { λ r. ⌜ r ≡ (leb (recordsRoom n) records && leb n answers) ⌝ }
+{
+    let wide = records_room(n) <= records;
+    let long = n as usize <= answers;
+    both(wide, long)
 }
 
 // One record, at an octet: the stamp most significant octet first, value, attributes, cause, zero.

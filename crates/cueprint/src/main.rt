@@ -1,4 +1,7 @@
-// Reads a cue file on standard input and prints what its run does, or the refusal's number and place.
+// Reads a cue file on standard input and prints what its run does, or the refusal's number and place. Started with a word after its name, it
+// reads a wall list.
+//
+// Both are played to a pair: to one whose sensor does nothing a cue file is what it is to the actuator alone.
 ghost use Prim.Native.Nat.{_+_, _≤_};
 ghost use lib.ListN.{length};
 ghost use mathlib.Core.Path.{_≡_};
@@ -9,16 +12,22 @@ use base::refusal::number_of;
 use cues::check::check_file;
 use cues::header::end_time;
 use cues::header::input_count;
+use joined::pair::joined_input;
+use joined::pair::joined_move;
 use lamps::lamp::lamp_of;
 use layout::input_place;
 use layout::parameters_in;
-use live::clock::clock_move;
 use live::fresh::fresh_state;
-use live::single::single_input;
+use pairs::call::Joint;
 use records::status::record_of;
-use rules::call::Single;
 use rules::record::Record;
 use rules::state::State;
+use sensor::call::fresh_sensor;
+use sensor::state::Sensor;
+use sensor::state::own_sensor;
+use walls::list::actions_in;
+use walls::list::check_wall;
+use walls::list::file_in;
 
 // A word, and numbers, each after a space.
 fn print_line(word: &[u8], numbers: &[u64]) {
@@ -45,22 +54,37 @@ fn print_record(r: Record) {
     );
 }
 
-// The first n of three records.
-fn print_records(k: [Record; 3], n: u8) {
-    if n > 0 {
-        print_record(k[0]);
+// Of three records those from one place on, up to another.
+fn print_records(k: [Record; 3], from: u8, to: u8) {
+    let mut j = from;
+    while j < to && j < 3 {
+        let r = k[j as usize];
+        print_record(r);
+        j += 1;
     }
-    if n > 1 {
-        print_record(k[1]);
+}
+
+// How many of the first n records are of timers: they come before the one that an input or a telegram wrote itself.
+fn by_timers(k: [Record; 3], n: u8) -> u8 {
+    let mut j: u8 = 0;
+    while j < n && j < 3 {
+        let r = k[j as usize];
+        if r.cause != 0 {
+            return j;
+        }
+        j += 1;
     }
-    if n > 2 {
-        print_record(k[2]);
-    }
+    j
 }
 
 // OK: count of inputs.
 fn print_accepted(inputs: u32) {
     print_line(b"OK", &[inputs as u64]);
+}
+
+// NO: code, place.
+fn print_refused(code: u8, place: u16) {
+    print_line(b"NO", &[code as u64, place as u64]);
 }
 
 // E: count of records.
@@ -71,6 +95,13 @@ fn print_end(records: u64) {
 // A: input index from 0, answer.
 fn print_answer(index: u32, answer: u8) {
     print_line(b"A", &[index as u64, answer as u64]);
+}
+
+// S: input index from 0, value; only where something was sent, and then the kind of it is 1.
+fn print_sent(index: u32, sent: [u8; 8]) {
+    if sent[4] == 1 {
+        print_line(b"S", &[index as u64, sent[5] as u64]);
+    }
 }
 
 // The octets of input i.
@@ -90,50 +121,62 @@ fn input_octets(file: &[u8], i: u32) -> [u8; 8]
     ]
 }
 
-// Input i: its records, then its answer.
-fn play_input(s: State, octets: [u8; 8], i: u32) -> Single {
-    let o = single_input(s, octets);
+// Input i: the records of the timers before it, what it sent, its own record, its answer.
+fn play_input(s: State, z: Sensor, octets: [u8; 8], i: u32) -> Joint {
+    let o = joined_input(s, z, octets);
     let k = o.records;
-    print_records(k, o.count);
+    let sent = o.sent;
+    let timers = by_timers(k, o.count);
+    print_records(k, 0, timers);
+    print_sent(i, sent);
+    print_records(k, timers, o.count);
     print_answer(i, o.answer);
     o
 }
 
 // The clock moves to the end time: the records of the timers that are due until then, and how many. A move writes at most two, so
 // what stands third is never printed.
-fn play_end(s: State, end: u32) -> u8 {
-    let m = clock_move(s, end);
+fn play_end(s: State, z: Sensor, end: u32) -> u8 {
+    let m = joined_move(s, z, end);
     let k = m.records;
     let n = m.count;
-    print_records([k[0], k[1], k[1]], n);
+    print_records([k[0], k[1], k[1]], 0, n);
     n
 }
 
-// The state after all inputs, and how many records they wrote.
+// Both states after all inputs, and how many records they wrote.
 struct Played {
     state: State,
+    sensor: Sensor,
     count: u32,
 }
 
 // The inputs, in list order.
-fn play_inputs(start: State, file: &[u8], n: u32) -> Played
+fn play_inputs(start: State, fresh: Sensor, file: &[u8], n: u32) -> Played
     requires { ⌜ (n ≤ mostInputs) × (inputPlace n ≤ length (now file)) ⌝ }
 {
     let mut s = start;
+    let mut z = fresh;
     let mut count: u32 = 0;
     let mut i: u32 = 0;
     while i < n {
-        let o = play_input(s, input_octets(file, i), i);
-        let next = o.state;
-        s = next;
+        let o = play_input(s, z, input_octets(file, i), i);
+        let state = o.state;
+        let sensor = o.sensor;
+        s = state;
+        z = sensor;
         count += o.count as u32;
         i += 1;
     }
-    Played { state: s, count }
+    Played {
+        state: s,
+        sensor: z,
+        count,
+    }
 }
 
-// An accepted file, from the start record to the end time.
-fn play_file(file: &[u8])
+// An accepted file, from the start record to the end time. (The start record says what a fresh sensor has: off, at 0.)
+fn play_file(file: &[u8], z: Sensor)
     requires { ⌜ (inputCount (now file) ≤ mostInputs) × (length (now file) ≡ inputPlace (inputCount (now file))) ⌝ }
 {
     let n = input_count(file);
@@ -141,24 +184,43 @@ fn play_file(file: &[u8])
     let f = fresh_state(parameters_in(file));
     let start = f.state;
     print_record(record_of(0, lamp_of(start)));
-    let played = play_inputs(start, file, n);
+    let played = play_inputs(start, z, file, n);
     let s = played.state;
-    let last = play_end(s, end_time(file));
+    let heard = played.sensor;
+    let last = play_end(s, heard, end_time(file));
     print_end(1 + (played.count as u64) + (last as u64));
 }
 
-// What an accepted file does, or NO: code, place.
+// A cue file, with no button beside it.
 fn print_file(file: &[u8]) {
     let check = check_file(file);
     match check {
-        Check::Passed => play_file(file),
-        Check::Refused { why, place } => print_line(b"NO", &[number_of(why) as u64, place as u64]),
+        Check::Passed => play_file(file, own_sensor()),
+        Check::Refused { why, place } => print_refused(number_of(why), place),
     }
 }
 
-// The longest file has 52 + 8 * 2048 octets. One octet more is read, so that a longer file is seen to be too long.
+// A wall list.
+fn print_wall(wall: &[u8]) {
+    let check = check_wall(wall);
+    match check {
+        Check::Passed => {
+            let f = fresh_sensor(actions_in(wall));
+            let z = f.sensor;
+            play_file(file_in(wall), z)
+        }
+        Check::Refused { why, place } => print_refused(number_of(why), place),
+    }
+}
+
+// The longest wall list has 52 + 8 * 2048 + 4 octets, the longest cue file four less. One octet more is read, so that what is longer is seen to
+// be too long.
 fn main() {
-    let mut file = [0u8; 16437];
-    let n = io::read_full(libc::STDIN_FILENO, &mut file);
-    print_file(&file[..n]);
+    let mut list = [0u8; 16441];
+    let n = io::read_full(libc::STDIN_FILENO, &mut list);
+    if os::arg_count() > 1 {
+        print_wall(&list[..n]);
+    } else {
+        print_file(&list[..n]);
+    }
 }

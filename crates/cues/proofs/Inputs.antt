@@ -1,6 +1,6 @@
 -- One input of a file at a time: what the check's loop needs, and that it finds what reading the list finds.
 use Prim.Native.Nat.{ℕ, zero, suc, _+_, _-_, _≤_, _<_}
-use mathlib.Core.Bool.{Bool, true, false, cond, _&&_}
+use mathlib.Core.Bool.{Bool, true, false, cond, _&&_, _||_}
 use mathlib.Core.List.{List}
 use mathlib.Core.Option.{Option, some, none}
 use mathlib.Core.Path.{_≡_, refl, sym, ap, _∙_}
@@ -19,7 +19,8 @@ use Rattle.rules.specs.Layout.{inputPlace}
 use Rattle.rules.specs.Readings.{Reading, cues, bad, verdict, before, readOne, readInputs}
 use Rattle.rules.specs.Files.{stamped, cueAt}
 use Rattle.inputs.specs.Meaning.{isMeant}
-use Rattle.cues.specs.Checks.{checkOne, checkInputs, knownAt}
+use Rattle.sensor.specs.Signals.{signalAt}
+use Rattle.cues.specs.Checks.{checkOne, checkInputs, isEdge, isKnown, knownAt}
 
 -- ---- reading and checking
 
@@ -49,11 +50,12 @@ checked-as-read at known same file (suc left) i last end =
     ∙ ap (orElse (checkOne (says (at i)) (stampAt file (inputPlace i)) last end i)) (checked-as-read at known same file left (i + 1) (stampAt file (inputPlace i)) end)
     ∙ sym (one-decides (at i) (stampAt file (inputPlace i)) last end i (readInputs at file left (i + 1) (stampAt file (inputPlace i)) end))
 
-pub known-says : (file : List ℕ) (i : ℕ) → knownAt file i ≡ says (cueAt file i)
-unfolding cueAt
+-- a cue file takes no edges
+pub known-says : (file : List ℕ) (i : ℕ) → knownAt false file i ≡ says (cueAt file i)
+unfolding isKnown cueAt
 known-says file i = by (inputAt file (inputPlace i))
   where
-    by : (d : Decoded) → isMeant d ≡ says (stamped (stampAt file (inputPlace i)) d)
+    by : (d : Decoded) → (isMeant d || (false && isEdge (signalAt file (inputPlace i)))) ≡ says (stamped (stampAt file (inputPlace i)) d)
     by (Meant x) = refl
     by Wrong = refl
 

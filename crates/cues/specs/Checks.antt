@@ -1,6 +1,6 @@
 -- The inputs as the code checks them: no list is built, and all that is asked of an input is whether it means something.
 use Prim.Native.Nat.{ℕ, zero, suc, _+_}
-use mathlib.Core.Bool.{Bool, cond, _&&_}
+use mathlib.Core.Bool.{Bool, true, false, cond, _&&_, _||_}
 use mathlib.Core.List.{List}
 use lib.Dec.{leb}
 use Rattle.octets.specs.Groups.{stampAt}
@@ -11,6 +11,10 @@ use Rattle.base.specs.Refusals.{orElse}
 use Rattle.rules.specs.Inputs.{inputAt}
 use Rattle.rules.specs.Layout.{inputPlace}
 use Rattle.inputs.specs.Meaning.{isMeant}
+use Rattle.sensor.specs.declared.signal.Signal.the-variants.{Button1, Button2, Status}
+use Rattle.sensor.specs.declared.signal.Signalled.{Signalled}
+use Rattle.sensor.specs.declared.signal.Signalled.the-variants as signalled
+use Rattle.sensor.specs.Signals.{signalAt}
 
 -- one input, known to mean something or not, whatever comes after it
 unfoldable pub checkOne : Bool → ℕ → ℕ → ℕ → ℕ → Check
@@ -22,6 +26,16 @@ checkInputs known file zero i last end = Passed
 checkInputs known file (suc left) i last end =
     orElse (checkOne (known i) (stampAt file (inputPlace i)) last end i) (checkInputs known file left (i + 1) (stampAt file (inputPlace i)) end)
 
--- the inputs of a cue file
-abbrev pub knownAt : List ℕ → ℕ → Bool
-knownAt file i = isMeant (inputAt file (inputPlace i))
+-- an edge of a push button
+abbrev pub isEdge : Signalled → Bool
+isEdge (signalled.Meant (Button1 edge)) = true
+isEdge (signalled.Meant (Button2 edge)) = true
+isEdge (signalled.Meant (Status value)) = false
+isEdge signalled.Wrong = false
+
+-- what is known at a place: the actuator's inputs, and, in a list that takes edges too, these
+unfoldable pub isKnown : Bool → List ℕ → ℕ → Bool
+isKnown edges file at = isMeant (inputAt file at) || (edges && isEdge (signalAt file at))
+
+abbrev pub knownAt : Bool → List ℕ → ℕ → Bool
+knownAt edges file i = isKnown edges file (inputPlace i)

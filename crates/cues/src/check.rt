@@ -1,12 +1,12 @@
 // The check of a whole file: the first thing that is wrong, in the order of the refusal numbers.
 ghost use mathlib.Core.Path.{_≡_};
-ghost use Prim.Native.Nat.{_≤_};
+ghost use Prim.Native.Nat.{_+_, _≤_};
 ghost use lib.ListN.{length};
 ghost use Rattle.rules.specs.Parameters.{checkParameters};
-ghost use Rattle.rules.specs.Layout.{inputsAt, mostInputs, inputPlace};
+ghost use Rattle.rules.specs.Layout.{inputsAt, inputSize, mostInputs, inputPlace};
 ghost use Rattle.rules.specs.Readings.{verdict};
 ghost use Rattle.rules.specs.Files.{parametersIn, checkStart, readFile};
-ghost use Rattle.cues.specs.Checks.{checkOne, checkInputs, knownAt};
+ghost use Rattle.cues.specs.Checks.{checkOne, checkInputs, isEdge, isKnown, knownAt};
 use crate::header::actuators_of;
 use crate::header::end_time;
 use crate::header::input_count;
@@ -21,6 +21,9 @@ use layout::input_place;
 use layout::parameters_in;
 use octets::group::stamp_at;
 use parameters::read::check_parameters;
+use sensor::signal::Signal;
+use sensor::signal::Signalled;
+use sensor::signal::signal_at;
 
 // The parameters of a file.
 fn check_parameters_in(file: &[u8]) -> Check
@@ -54,17 +57,45 @@ fn check_one(known: bool, stamp: u32, last: u32, end: u32, i: u32) -> Check
     }
 }
 
-// The first bad input of n, from the first on.
-pub fn check_inputs(file: &[u8], n: u32, end: u32) -> Check
+fn is_edge(s: Signalled) -> bool
+    ensures { λ r. ⌜ r ≡ isEdge s ⌝ }
+{
+    match s {
+        Signalled::Meant(signal) => match signal {
+            Signal::Button1(_) => true,
+            Signal::Button2(_) => true,
+            Signal::Status(_) => false,
+        },
+        Signalled::Wrong => false,
+    }
+}
+
+// Whether an input starts at a place, or, in a list that takes edges too, an edge.
+fn is_known_at(file: &[u8], at: usize, edges: bool) -> bool
+    requires { ⌜ at + inputSize ≤ length (now file) ⌝ }
+    ensures { λ r. ⌜ r ≡ isKnown edges (now (file .entry)) at ⌝ }
+{
+    if is_input_at(file, at) {
+        return true;
+    }
+    if edges {
+        is_edge(signal_at(file, at))
+    } else {
+        false
+    }
+}
+
+// The first bad input of n, from the first on, in a list that takes edges too or does not.
+pub fn check_inputs(file: &[u8], n: u32, end: u32, edges: bool) -> Check
     requires { ⌜ (n ≤ mostInputs) × (inputPlace n ≤ length (now file)) ⌝ }
-    ensures { λ r. ⌜ r ≡ checkInputs (knownAt (now (file .entry))) (now (file .entry)) n 0 0 end ⌝ }
+    ensures { λ r. ⌜ r ≡ checkInputs (knownAt edges (now (file .entry))) (now (file .entry)) n 0 0 end ⌝ }
 {
     let mut i: u32 = 0;
     let mut last: u32 = 0;
     while i < n {
         let at = input_place(i);
         let stamp = stamp_at(file, at);
-        let one = check_one(is_input_at(file, at), stamp, last, end, i);
+        let one = check_one(is_known_at(file, at, edges), stamp, last, end, i);
         match one {
             Check::Passed => {
                 last = stamp;
@@ -116,7 +147,7 @@ pub fn check_file(file: &[u8]) -> Check
 {
     let start = check_start(file);
     match start {
-        Check::Passed => check_inputs(file, input_count(file), end_time(file)),
+        Check::Passed => check_inputs(file, input_count(file), end_time(file), false),
         Check::Refused { why, place } => Check::Refused { why, place },
     }
 }

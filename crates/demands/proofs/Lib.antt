@@ -7,3 +7,12 @@ pub mod Joined
 pub mod Unique
 pub mod Meets
 pub mod WrongModels
+-- with a sensor beside the actuator: for every accepted wall list, of any model, by value and over a list
+pub mod EveryWall
+pub mod WallShown
+pub mod WallMeets
+pub mod PairMeets
+pub mod Computing
+pub mod WrongWalls
+pub mod WrongPairs
+pub mod Readings

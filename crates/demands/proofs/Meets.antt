@@ -4,6 +4,7 @@ use mathlib.Core.Bool.{Bool, true, false, cond}
 use mathlib.Core.Path.{_≡_, refl, sym, ap, _∙_}
 use mathlib.Core.Logic.{_⊎_, inl, inr}
 use mathlib.Core.List.{List, [], _∷_, _++_, append-assoc}
+use mathlib.Core.Option.{Option}
 use native.Mathlib.Omega.{arith}
 use lib.ListN.{length, drop, length-append, length-drop}
 use lib.Dec.{leb}
@@ -47,7 +48,7 @@ read-back (r ∷ l) rest =
     let stamp = what-is-written-is-read (r .stamp) (r .value ∷ r .attributes ∷ r .cause ∷ 0 ∷ (recordsOctets l ++ rest)) in
     rw (stamp, read-back l rest)
 
-records-read-back : (l : List Record) (buffer : List ℕ) → recordsIn (length l) (over (recordsOctets l) buffer) ≡ l
+pub records-read-back : (l : List Record) (buffer : List ℕ) → recordsIn (length l) (over (recordsOctets l) buffer) ≡ l
 unfolding over
 records-read-back l buffer = read-back l (drop (length (recordsOctets l)) buffer)
 
@@ -57,21 +58,22 @@ accepted-records p records answers = records-read-back (p .records) records
 
 -- ---- 1 and the judgement of 2: of every file
 
+-- what stands before the inputs has the numbers 1 to 5, and an input 6 and 7, whatever it may say
+pub start-numbered : (file : List ℕ) (why : Refusal) (place : ℕ) → StartWhen file why place → number why ≤ 8
+start-numbered file WrongLength place g = omega arith
+start-numbered file WrongVersion place g = omega arith
+start-numbered file WrongActuators place g = omega arith
+start-numbered file WrongLayout place g = omega arith
+start-numbered file BadParameter place g = omega arith
+
+pub inputs-numbered : {A : Type 0} (at : ℕ → Option A) (file : List ℕ) (why : Refusal) (place : ℕ) → InputsWhen at file why place → number why ≤ 8
+inputs-numbered at file BadInput place g = omega arith
+inputs-numbered at file BadStamp place g = omega arith
+
 -- a run has the numbers 1 to 8, and 9 is for a state that was handed in
 numbered : (file : List ℕ) (why : Refusal) (place : ℕ) → GivenWhen file why place → number why ≤ 8
-numbered file why place (inl g) = by why g
-  where
-    by : (why : Refusal) → StartWhen file why place → number why ≤ 8
-    by WrongLength g = omega arith
-    by WrongVersion g = omega arith
-    by WrongActuators g = omega arith
-    by WrongLayout g = omega arith
-    by BadParameter g = omega arith
-numbered file why place (inr g) = by why (g .1)
-  where
-    by : (why : Refusal) → InputsWhen (cueAt file) file why place → number why ≤ 8
-    by BadInput g = omega arith
-    by BadStamp g = omega arith
+numbered file why place (inl g) = start-numbered file why place g
+numbered file why place (inr g) = inputs-numbered (cueAt file) file why place (g .1)
 
 our-run-answers-all : AnswersAll runCall
 our-run-answers-all file records answers = by (run-finds file records answers)
@@ -115,16 +117,17 @@ our-single-input-meets-demand-1 = record { numbered = our-single-input-is-number
 
 -- ---- of every accepted run
 
+-- what is read of it has a list, and there is room
+pub if-accepted : {A : Type 0} (b : Bool) (x : Reading A) (list : List A) → ifLentEnough b x ≡ cues list → (x ≡ cues list) × (b ≡ true)
+if-accepted true x list e = (e, refl)
+if-accepted false (cues l) list e = absurd (let z : _≡_ {A = ℕ} 0 1 = cc in omega arith)
+if-accepted false (bad why place) list e = absurd (let z : _≡_ {A = ℕ} 0 1 = cc in omega arith)
+
 module _ (file records answers : List ℕ) (list : List Cue) (read : readCall file records answers ≡ cues list) where
   -- the file is accepted, and there is room
   call-accepted : (readFile file ≡ cues list) × (lentEnough file records answers ≡ true)
   unfolding readCall
-  call-accepted = by (lentEnough file records answers) (readFile file) read
-    where
-      by : (b : Bool) (x : Reading Cue) → ifLentEnough b x ≡ cues list → (x ≡ cues list) × (b ≡ true)
-      by true x e = (e, refl)
-      by false (cues list) e = absurd (let z : _≡_ {A = ℕ} 0 1 = cc in omega arith)
-      by false (bad why place) e = absurd (let z : _≡_ {A = ℕ} 0 1 = cc in omega arith)
+  call-accepted = if-accepted (lentEnough file records answers) (readFile file) list read
 
   our-run-is-played : runCall file records answers ≡ accepted (playFile file list) records answers
   our-run-is-played = a-good-file-is-played file records answers list (call-accepted .0) (call-accepted .1)
@@ -144,7 +147,7 @@ module _ (file records answers : List ℕ) (list : List Cue) (read : readCall fi
         omega (arith, answers-are-n file records answers list (e .0) (e .1) .0, leb-true (inputCount file) (length answers) (room .1)),
       )
 
-over-length : (octets buffer : List ℕ) → length octets ≤ length buffer → length (over octets buffer) ≡ length buffer
+pub over-length : (octets buffer : List ℕ) → length octets ≤ length buffer → length (over octets buffer) ≡ length buffer
 unfolding over
 over-length octets buffer fits = rw (length-append, length-drop (length octets) buffer) (omega arith)
 

@@ -8,6 +8,11 @@ use Rattle.rules.specs.declared.call.Single.{Single}
 use Rattle.rules.specs.declared.call.Move.{Move}
 use Rattle.rules.specs.Calls.{freshCall, singleCall, moveCall}
 use Rattle.rules.specs.Runs.{Whole, Answered, runCall, houseRun}
+use Rattle.pairs.specs.declared.call.Joint.{Joint}
+use Rattle.pairs.specs.declared.call.JointMove.{JointMove}
+use Rattle.pairs.specs.Pairs.{Pair}
+use Rattle.pairs.specs.Calls.{jointCall, jointMoveCall}
+use Rattle.pairs.specs.Walls.{WallWhole, wallCall, houseWallRun}
 
 pub no-second-fresh-state : (octets : List ℕ) (one other : Fresh) → one ≡ freshCall octets → other ≡ freshCall octets → one ≡ other
 no-second-fresh-state octets one other p q = p ∙ sym q
@@ -23,3 +28,17 @@ no-second-run file records answers one other p q = p ∙ sym q
 
 pub no-second-house-run : (file records answers : List ℕ) (one other : Answered) → one ≡ houseRun file records answers → other ≡ houseRun file records answers → one ≡ other
 no-second-house-run file records answers one other p q = p ∙ sym q
+
+-- ---- with a sensor beside the actuator
+
+pub no-second-pair-input : (p : Pair) (octets : List ℕ) (one other : Joint) → one ≡ jointCall p octets → other ≡ jointCall p octets → one ≡ other
+no-second-pair-input p octets one other e f = e ∙ sym f
+
+pub no-second-pair-move : (p : Pair) (stamp : ℕ) (one other : JointMove) → one ≡ jointMoveCall p stamp → other ≡ jointMoveCall p stamp → one ≡ other
+no-second-pair-move p stamp one other e f = e ∙ sym f
+
+pub no-second-wall-run : (wall records answers : List ℕ) (one other : WallWhole) → one ≡ wallCall wall records answers → other ≡ wallCall wall records answers → one ≡ other
+no-second-wall-run wall records answers one other p q = p ∙ sym q
+
+pub no-second-house-wall-run : (wall records answers : List ℕ) (one other : Answered) → one ≡ houseWallRun wall records answers → other ≡ houseWallRun wall records answers → one ≡ other
+no-second-house-wall-run wall records answers one other p q = p ∙ sym q

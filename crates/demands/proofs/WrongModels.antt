@@ -55,7 +55,7 @@ leastOctets =
     0 ∷ 0 ∷ 0 ∷ 0 ∷ 0 ∷ 1 ∷ 0 ∷ 0 ∷ 0 ∷ 0 ∷ 0 ∷ 0 ∷ 0 ∷ 0 ∷ 0 ∷ 0 ∷ 255 ∷ 0 ∷ 255 ∷ 0 ∷ 255 ∷ 0 ∷ 255 ∷ 0 ∷ 255 ∷ 0 ∷ 255 ∷ 0 ∷ 255 ∷ 0 ∷ 255 ∷ 0 ∷ []
 
 -- an input: stamp (of one octet), kind, value
-abbrev octetsOf : ℕ → ℕ → ℕ → List ℕ
+abbrev pub octetsOf : ℕ → ℕ → ℕ → List ℕ
 octetsOf stamp kind value = 0 ∷ 0 ∷ 0 ∷ stamp ∷ kind ∷ value ∷ 0 ∷ 0 ∷ []
 
 -- a file of n inputs that ends at 20
@@ -63,7 +63,7 @@ unfoldable pub fileOf : ℕ → List ℕ → List ℕ
 fileOf n inputs = 0 ∷ 1 ∷ 0 ∷ 1 ∷ 0 ∷ 0 ∷ 0 ∷ 20 ∷ 0 ∷ 0 ∷ 0 ∷ n ∷ 0 ∷ 0 ∷ 0 ∷ 52 ∷ 0 ∷ 0 ∷ 0 ∷ 20 ∷ (leastOctets ++ inputs)
 
 -- a buffer with room for what any of them gives
-abbrev room : List ℕ
+abbrev pub room : List ℕ
 room = replicate 72 0
 
 -- they all have the least parameters, no scenes and one end

@@ -1,3 +1,8 @@
 pub mod Demands
 pub mod Joined
 pub mod WrongModels
+-- with a sensor beside the actuator
+pub mod Walls
+pub mod WrongWalls
+pub mod Pairs
+pub mod Readings

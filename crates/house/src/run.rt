@@ -1,16 +1,11 @@
-// The run over a cue file, for Rattle and for C.
+// The run over a cue file.
 ghost use mathlib.Core.Path.{_≡_};
-ghost use mathlib.Core.Bool.{_&&_};
-ghost use Prim.Native.Nat.{_≤_};
-ghost use lib.Dec.{leb};
-ghost use Rattle.rules.specs.Layout.{mostInputs, recordsRoom};
-ghost use Rattle.rules.specs.Runs.{runCall, houseRun};
-ghost use Rattle.house.specs.Reports.{refusal, report, whole, answered};
-use base::logic::both;
+ghost use Rattle.rules.specs.Runs.{runCall};
+ghost use Rattle.house.specs.Reports.{refusal, report, whole};
 use base::refusal::Check;
 use base::refusal::Refusal;
 use base::refusal::number_of;
-use buffers::put::records_room;
+use buffers::put::is_roomy;
 use cues::check::check_file;
 use cues::header::end_time;
 use cues::header::input_count;
@@ -42,16 +37,6 @@ fn accepted(e: Ended) -> Ran
     }
 }
 
-// Whether buffers of these lengths hold all that n inputs can give.
-fn is_roomy(n: u32, records: usize, answers: usize) -> bool
-    requires { ⌜ n ≤ mostInputs ⌝ }
-    ensures { λ r. ⌜ r ≡ (leb (recordsRoom n) records && leb n answers) ⌝ }
-{
-    let wide = records_room(n) <= records;
-    let long = n as usize <= answers;
-    both(wide, long)
-}
-
 // Every octet string and every pair of buffers: the file's own refusal comes first, then that of a short buffer, and a
 // refused run leaves both buffers as they were.
 pub fn run(file: &[u8], records: &mut [u8], answers: &mut [u8]) -> Ran
@@ -69,13 +54,4 @@ pub fn run(file: &[u8], records: &mut [u8], answers: &mut [u8]) -> Ran
             }
         }
     }
-}
-
-// For C: code*2^48 + place*2^32 + record count. Code and place are narrow enough that the sum cannot wrap.
-#[no_mangle]
-pub extern "C" fn house_run(file: &[u8], records: &mut [u8], answers: &mut [u8]) -> u64
-    ensures { λ r. ⌜ answered r (now (records .exit)) (now (answers .exit)) ≡ houseRun (now (file .entry)) (now (records .entry)) (now (answers .entry)) ⌝ }
-{
-    let r = run(file, records, answers);
-    (r.code as u64) * 281474976710656 + (r.place as u64) * 4294967296 + (r.count as u64)
 }

@@ -10,12 +10,20 @@
 //     18, 19     the phase Dark, Lit
 //     20 to 24   the phase Starting steady, Starting timed, Timed, Warning, Ending: its deadline in four octets
 //     32 to 39   a scene entry: number in the third octet, flags in the last (bit 0 value, bit 1 taught)
+//
+// and of a sensor:
+//
+//     1 to 4     an action: the last octet (0 nothing, 1 send Off, 2 send On, any other the inverse)
+//     5          the clock: four octets
+//     6          the last value: the last octet
 use rules::input::Force;
 use rules::parameters::Params;
 use rules::parameters::Scene;
 use rules::phase::Phase;
 use rules::state::Link;
 use rules::state::State;
+use sensor::action::Action;
+use sensor::state::Sensor;
 
 fn params_with(p: Params, field: u8, number: u32, last: u8) -> Params {
     let mut q = p;
@@ -118,5 +126,35 @@ pub(crate) fn changed(s: State, field: u8, number: u32, third: u8, last: u8) -> 
         atlocking: t.atlocking,
         atfailure: t.atfailure,
         phase: phase_with(ph, field, number),
+    }
+}
+
+fn action_with(a: Action, field: u8, which: u8, n: u8) -> Action {
+    if field == which {
+        match n {
+            0 => Action::Nothing,
+            1 => Action::SendOff,
+            2 => Action::SendOn,
+            _ => Action::SendInverse,
+        }
+    } else {
+        a
+    }
+}
+
+pub(crate) fn sensor_changed(z: Sensor, field: u8, number: u32, last: u8) -> Sensor {
+    let rising1 = z.rising1;
+    let falling1 = z.falling1;
+    let rising2 = z.rising2;
+    let falling2 = z.falling2;
+    let clock = if field == 5 { number } else { z.clock };
+    let value = if field == 6 { last != 0 } else { z.value };
+    Sensor {
+        rising1: action_with(rising1, field, 1, last),
+        falling1: action_with(falling1, field, 2, last),
+        rising2: action_with(rising2, field, 3, last),
+        falling2: action_with(falling2, field, 4, last),
+        clock,
+        value,
     }
 }

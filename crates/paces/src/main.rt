@@ -1,4 +1,4 @@
-// Puts the three calls by value through their paces, and prints all that they give.
+// Puts the calls by value through their paces, of the actuator, of the sensor and of the two joined, and prints all that they give.
 //
 // Standard input is a list of steps, each a letter and its octets. tests/make_paces.py writes it, and tests/paces.rs plays
 // the same steps on the independent model in Rust; what that prints is what this program has to print.
@@ -8,8 +8,13 @@
 //     S octets      a single input of eight octets
 //     C stamp       a clock move, the stamp in four octets
 //     U n octets    one field of the state is changed, by the list of `change`: so come states that no call gives
-//     K             the state is kept
-//     B             back to the state that was kept
+//     N n octets    a fresh sensor from n octets of actions; also where they are refused, the sensor given is used on
+//     E octets      one input of eight octets to the sensor alone
+//     J octets      one input of eight octets to the pair
+//     M stamp       a clock move of the pair, the stamp in four octets
+//     V n octets    one field of the sensor is changed, by the list of `change`
+//     K             state and sensor are kept
+//     B             back to those that were kept
 //
 // Octets that the input ends without are 0, and any other letter ends the play. What is printed, one line for each call:
 //
@@ -17,9 +22,15 @@
 //     S stamp kind value zero zero > code place answer count | state | record | record | record
 //     C stamp > code place count | state | record | record
 //     U field octet octet octet octet | state
+//     N octet-count > code place | sensor
+//     E stamp kind value zero zero > code place | sensor | eight octets sent
+//     J stamp kind value zero zero > code place answer count | state | sensor | record | record | record | eight octets sent
+//     M stamp > code place count | state | sensor | record | record
+//     V field octet octet octet octet | sensor
 //
 // A state is its clock, phase, deadline (- for none), night, lock, force, link, the output remembered at locking, the one
-// remembered at power failure; a record is stamp, value, attributes, cause. Parameters and scenes get a line where they
+// remembered at power failure; a sensor is its clock, its value and the numbers of its four actions; a record is stamp, value, attributes,
+// cause. Parameters and scenes get a line where they
 // differ from those of the line before: P, the four times in tenths, the modes and learning; K, eight times number, value
 // and taught.
 mod change;
@@ -27,13 +38,17 @@ mod play;
 mod read;
 mod show;
 
-// A proved loop has to end, so it counts its turns down, from a number that no run uses up. Parameters of no octets are refused,
-// and give the state to start from; its parameters and scenes are not all 0, so that they get their first lines.
+// A proved loop has to end, so it counts its turns down, from a number that no run uses up. Parameters and actions of no octets are refused,
+// and give what to start from; the parameters and scenes are not all 0, so that they get their first lines.
 fn main() {
-    let mut now = play::fresh(0);
+    let first = play::fresh(0);
+    let mut params = show::params_line([0; 10], first);
+    let mut scenes = show::scenes_line([0; 24], first);
+    let mut now = play::Pair {
+        state: first,
+        sensor: play::fresh_sensor(0),
+    };
     let mut kept = now;
-    let mut params = show::params_line([0; 10], now);
-    let mut scenes = show::scenes_line([0; 24], now);
     let mut letter = read::octet();
     let mut turns = u64::MAX;
     while turns > 0 && play::is_step(letter) {
@@ -41,8 +56,9 @@ fn main() {
             kept = now;
         }
         now = play::step(letter, now, kept);
-        let next_params = show::params_line(params, now);
-        let next_scenes = show::scenes_line(scenes, now);
+        let state = now.state;
+        let next_params = show::params_line(params, state);
+        let next_scenes = show::scenes_line(scenes, state);
         params = next_params;
         scenes = next_scenes;
         letter = read::octet();

@@ -1,6 +1,8 @@
 // What is printed of each value. A line is a letter and its items, each after a space. An item below DARK is a number, which
 // no field of 32 bits exceeds; any other is a word, DARK the first of the list in `word`.
 use crate::read::number;
+use pairs::call::Joint;
+use pairs::call::JointMove;
 use rules::call::Fresh;
 use rules::call::Move;
 use rules::call::Single;
@@ -11,6 +13,10 @@ use rules::phase::Phase;
 use rules::record::Record;
 use rules::state::Link;
 use rules::state::State;
+use sensor::action::Action;
+use sensor::call::FreshSensor;
+use sensor::call::Sensed;
+use sensor::state::Sensor;
 
 const DARK: u64 = 4294967296;
 
@@ -190,10 +196,7 @@ fn records(k: [Record; 3]) {
 pub(crate) fn single(b: [u8; 8], r: Single) {
     let s = r.state;
     let k = r.records;
-    mark(b'S');
-    item(number(b) as u64);
-    octets(b, 4, 8);
-    item(ARROW);
+    input_line(b'S', b);
     item(r.code as u64);
     item(r.place as u64);
     item(r.answer as u64);
@@ -223,6 +226,110 @@ pub(crate) fn changed(field: u8, b: [u8; 8], s: State) {
     item(field as u64);
     octets(b, 0, 4);
     state(s);
+    mark(b'\n');
+}
+
+fn action_number(a: Action) -> u64 {
+    match a {
+        Action::Nothing => 0,
+        Action::SendOff => 1,
+        Action::SendOn => 2,
+        Action::SendInverse => 3,
+    }
+}
+
+fn sensor(z: Sensor) {
+    let rising1 = z.rising1;
+    let falling1 = z.falling1;
+    let rising2 = z.rising2;
+    let falling2 = z.falling2;
+    items(
+        &[
+            BAR,
+            z.clock as u64,
+            z.value as u64,
+            action_number(rising1),
+            action_number(falling1),
+            action_number(rising2),
+            action_number(falling2),
+        ],
+    );
+}
+
+fn sent(b: [u8; 8]) {
+    item(BAR);
+    octets(b, 0, 8);
+}
+
+// The letter of a step and the eight octets of its input.
+fn input_line(letter: u8, b: [u8; 8]) {
+    mark(letter);
+    item(number(b) as u64);
+    octets(b, 4, 8);
+    item(ARROW);
+}
+
+pub(crate) fn fresh_sensor(n: u8, r: FreshSensor) {
+    let z = r.sensor;
+    mark(b'N');
+    item(n as u64);
+    item(ARROW);
+    item(r.code as u64);
+    item(r.place as u64);
+    sensor(z);
+    mark(b'\n');
+}
+
+pub(crate) fn sensed(b: [u8; 8], r: Sensed) {
+    let z = r.sensor;
+    let told = r.sent;
+    input_line(b'E', b);
+    item(r.code as u64);
+    item(r.place as u64);
+    sensor(z);
+    sent(told);
+    mark(b'\n');
+}
+
+pub(crate) fn sensor_changed(field: u8, b: [u8; 8], z: Sensor) {
+    mark(b'V');
+    item(field as u64);
+    octets(b, 0, 4);
+    sensor(z);
+    mark(b'\n');
+}
+
+pub(crate) fn joined(b: [u8; 8], r: Joint) {
+    let s = r.state;
+    let z = r.sensor;
+    let k = r.records;
+    let told = r.sent;
+    input_line(b'J', b);
+    item(r.code as u64);
+    item(r.place as u64);
+    item(r.answer as u64);
+    item(r.count as u64);
+    state(s);
+    sensor(z);
+    records(k);
+    sent(told);
+    mark(b'\n');
+}
+
+pub(crate) fn joined_move(stamp: u32, r: JointMove) {
+    let s = r.state;
+    let z = r.sensor;
+    let k = r.records;
+    mark(b'M');
+    item(stamp as u64);
+    item(ARROW);
+    item(r.code as u64);
+    item(r.place as u64);
+    item(r.count as u64);
+    state(s);
+    sensor(z);
+    record(k[0]);
+    record(k[1]);
     mark(b'\n');
 }
 

@@ -6,4 +6,3 @@ pub mod Strike
 pub mod Soundness
 pub mod Items
 pub mod Refusals
-pub mod EveryWall

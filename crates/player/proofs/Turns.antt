@@ -5,7 +5,7 @@ use mathlib.Core.List.{List, [], _∷_, _++_, append-nil}
 use mathlib.Core.Path.{_≡_, refl, sym, ap, _∙_}
 use native.Mathlib.Nat.{sub-zero}
 use native.Mathlib.Omega.{arith}
-use lib.ListN.{length, set, length-append, length-set}
+use lib.ListN.{length, set, length-append}
 use Rattle.rules.specs.declared.parameters.Params.{Params}
 use Rattle.rules.specs.declared.parameters.Scene.{Scene}
 use Rattle.rules.specs.declared.input.Decoded.{Decoded}
@@ -44,8 +44,8 @@ use Rattle.rules.proofs.Laws.Inputs.{input-number}
 use Rattle.rules.proofs.Laws.Soundness.{move-keeps, step-is-sound, step-clock}
 use Rattle.rules.proofs.Laws.Records.{an-input-writes-at-most-three}
 use Rattle.octets.specs.Splice.{splice}
-use Rattle.octets.proofs.Splices.{splice-none, octet-more}
 use Rattle.buffers.proofs.Splices.{records-none, records-more}
+use Rattle.buffers.proofs.Standing.{Standing, standing-first, standing-more}
 
 -- ---- one input
 
@@ -111,13 +111,7 @@ pub record Going (file : List ℕ) (n : ℕ) (start : State) (records₀ answers
   pub played : plays (listIn file) start ≡ andThen (record { state = s; answers = said; records = wrote }) (plays later)
   pub reads : readInputs (cueAt file) file (n - i) i (s .clock) (endTime file) ≡ cues later
   pub safe : sound s ≡ true
-  pub count : k ≡ 1 + length wrote
-  pub few : k ≤ 1 + 3 * i
-  pub asked : length said ≡ i
-  pub records : records₁ ≡ splice records₀ 8 (recordsOctets wrote)
-  pub answers : answers₁ ≡ splice answers₀ 0 said
-  pub room : length records₁ ≡ length records₀
-  pub places : length answers₁ ≡ length answers₀
+  pub stands : Standing records₀ answers₀ records₁ answers₁ wrote said k i
 
 module _ (file : List ℕ) (n : ℕ) (start : State) (r₀ a₀ : List ℕ) (ready : Ready file n start) where
   pub going-first : Going file n start r₀ a₀ r₀ a₀ start 1 0
@@ -130,13 +124,7 @@ module _ (file : List ℕ) (n : ℕ) (start : State) (r₀ a₀ : List ℕ) (rea
         played = refl;
         reads = rw (sub-zero n) (ready .reads);
         safe = ready .sound;
-        count = refl;
-        few = omega arith;
-        asked = refl;
-        records = records-none r₀ 8;
-        answers = splice-none a₀ 0;
-        room = refl;
-        places = refl;
+        stands = standing-first r₀ a₀;
       }
 
   module _ (r a : List ℕ) (s : State) (k i : ℕ) (g : Going file n start r₀ a₀ r a s k i) where
@@ -160,13 +148,7 @@ module _ (file : List ℕ) (n : ℕ) (start : State) (r₀ a₀ : List ℕ) (rea
           played = g .played ∙ one-played (record { state = s; answers = g .said; records = g .wrote }) (g .later) (f .later) t (f .input) (f .starts);
           reads = rw (step-clock s (f .input) t) (f .reads);
           safe = step-is-sound s (f .input) t (input-number file (inputPlace i) (f .input) (f .meant)) (g .safe) (f .risen) (omega (arith, f .timely, ready .timely));
-          count = rw length-append (omega (arith, g .count));
-          few = omega (arith, g .few, an-input-writes-at-most-three s (f .input) t);
-          asked = rw (length-append, g .asked);
-          records = p ∙ records-more r₀ r 8 (8 * k) (g .wrote) (d .records) some (omega (arith, g .count)) (g .records);
-          answers = octet-more a₀ a i (d .answer) (g .said) (g .answers) (g .asked) (omega (arith, g .places));
-          room = l ∙ g .room;
-          places = length-set a i (d .answer) ∙ g .places;
+          stands = standing-more r₀ a₀ r a (g .wrote) (d .records) (g .said) (d .answer) k i (g .stands) (an-input-writes-at-most-three s (f .input) t) some (omega arith) r₁ p l;
         }
 
     -- it is an input, so the code reads it
@@ -180,7 +162,7 @@ module _ (file : List ℕ) (n : ℕ) (start : State) (r₀ a₀ : List ℕ) (rea
         let none : n - i ≡ 0 = omega (arith, g .upto) in
         let left : g .later ≡ [] = sym (ap found (rw none at (g .reads))) in
         let whole : plays (listIn file) start ≡ record { state = s; answers = g .said; records = g .wrote } = g .played ∙ rw left (simp append-nil) in
-        record { state = rw whole; count = rw whole (g .count); records = rw whole (g .records); answers = rw whole (g .answers) }
+        record { state = rw whole; count = rw whole (g .stands .count); records = rw whole (g .stands .records); answers = rw whole (g .stands .answers) }
 
 -- the next turn, of what the code has
 module _ (file : List ℕ) (n : ℕ) (start : State) (r₀ a₀ : List ℕ) (ready : Ready file n start) (p : Params) (table : List Scene) (l : Lamp) (r a : List ℕ) (k i : ℕ)

@@ -1,6 +1,6 @@
 use borrow.Author.Needs.{needs}
-use Rattle.house.proofs.run.is_roomy.Statement.{statement}
-use Rattle.house.proofs.run.is_roomy.Tie as tie
+use Rattle.buffers.proofs.put.is_roomy.Statement.{statement}
+use Rattle.buffers.proofs.put.is_roomy.Tie as tie
 
 returns : tie.Need-returns
 returns c = simp (← c .both .ensures, ← c .before .records-room .ensures)

@@ -1,8 +1,8 @@
 use mathlib.Core.Path.{ap}
 use Rattle.rules.specs.Runs.{packed, answeredBy, houseRun}
 use borrow.Author.Needs.{needs}
-use Rattle.house.proofs.run.house_run.Statement.{statement}
-use Rattle.house.proofs.run.house_run.Tie as tie
+use Rattle.house.proofs.c.house_run.Statement.{statement}
+use Rattle.house.proofs.c.house_run.Tie as tie
 
 returns : tie.Need-returns
 unfolding houseRun answeredBy packed

@@ -38,7 +38,7 @@ advance-requires c κs =
     let g = c .before .before .before .before .loop .inv in
     let within = c .before .before .before .loop-test .taken in
     let f = turn _ _ _ _ _ ready _ _ _ _ _ g within in
-    (rw (c .stamp-at .ensures, c .before .before .input-place .ensures) (sound-room (stateOf (a .args .start .params) (c .before .before .before .before .loop .k) (c .before .before .before .before .loop .l)) _ (g .safe) (omega (arith, f .timely, ready .timely))), omega (arith, within, g .few, ready .few), omega (arith, within, g .few, g .room, a .pre .1))
+    (rw (c .stamp-at .ensures, c .before .before .input-place .ensures) (sound-room (stateOf (a .args .start .params) (c .before .before .before .before .loop .k) (c .before .before .before .before .loop .l)) _ (g .safe) (omega (arith, f .timely, ready .timely))), omega (arith, within, g .stands .few, ready .few), omega (arith, within, g .stands .few, g .stands .room, a .pre .1))
 
 kind-at-requires : tie.Need-kind-at-requires Inv-loop μ-loop
 kind-at-requires c κs =
@@ -77,19 +77,19 @@ put-note-requires c κs =
     let moves = c .before .before .before .before .before .before .before .before .before .before .advance in
     let few = a-move-writes-at-most-two (stateOf (a .args .start .params) k l) (c .before .before .before .before .before .before .before .before .before .before .before .stamp-at .result) in
     let own = listed-few (c .before .take .result .note) in
-    (omega (arith, within, few, moves .ensures k .count, g .few, ready .few), omega (arith, within, few, own, moves .ensures k .count, moves .kept .0, g .few, g .room, a .pre .1))
+    (omega (arith, within, few, moves .ensures k .count, g .stands .few, ready .few), omega (arith, within, few, own, moves .ensures k .count, moves .kept .0, g .stands .few, g .stands .room, a .pre .1))
 
 cast-answers : tie.Need-cast-answers Inv-loop μ-loop
 cast-answers c = omega (arith, c .before .before .before .before .before .before .before .before .before .before .before .before .before .before .before .before .before .loop-test .taken, ready-to (c .before .before .before .before .before .before .before .before .before .before .before .before .before .before .before .before .before .before .before) .few)
 
 slice-write-answers : tie.Need-slice-write-answers Inv-loop μ-loop
-slice-write-answers c = omega (arith, c .before .before .before .before .before .before .before .before .before .before .before .before .before .before .before .before .before .loop-test .taken, c .before .before .before .before .before .before .before .before .before .before .before .before .before .before .before .before .before .before .loop .inv .places, c .before .before .before .before .before .before .before .before .before .before .before .before .before .before .before .before .before .before .before .before .before .before .before .before .before .pre .2)
+slice-write-answers c = omega (arith, c .before .before .before .before .before .before .before .before .before .before .before .before .before .before .before .before .before .loop-test .taken, c .before .before .before .before .before .before .before .before .before .before .before .before .before .before .before .before .before .before .loop .inv .stands .places, c .before .before .before .before .before .before .before .before .before .before .before .before .before .before .before .before .before .before .before .before .before .before .before .before .before .pre .2)
 
 cast-answers-2 : tie.Need-cast-answers-2 Inv-loop μ-loop
 cast-answers-2 c = omega (arith, c .before .before .before .before .before .before .before .before .before .before .before .before .before .loop-test .taken, ready-to (c .before .before .before .before .before .before .before .before .before .before .before .before .before .before .before) .few)
 
 slice-write-answers-2 : tie.Need-slice-write-answers-2 Inv-loop μ-loop
-slice-write-answers-2 c = omega (arith, c .before .before .before .before .before .before .before .before .before .before .before .before .before .loop-test .taken, c .before .before .before .before .before .before .before .before .before .before .before .before .before .before .loop .inv .places, c .before .before .before .before .before .before .before .before .before .before .before .before .before .before .before .before .before .before .before .before .before .pre .2)
+slice-write-answers-2 c = omega (arith, c .before .before .before .before .before .before .before .before .before .before .before .before .before .loop-test .taken, c .before .before .before .before .before .before .before .before .before .before .before .before .before .before .loop .inv .stands .places, c .before .before .before .before .before .before .before .before .before .before .before .before .before .before .before .before .before .before .before .before .before .pre .2)
 
 add-i : tie.Need-add-i Inv-loop μ-loop
 add-i c = omega (arith, c .before .before .before .before .before .before .before .before .before .before .before .before .before .before .before .before .before .before .before .loop-test .taken, ready-to (c .before .before .before .before .before .before .before .before .before .before .before .before .before .before .before .before .before .before .before .before .before) .few)
@@ -111,7 +111,7 @@ loop-again c =
     let put = c .before .before .before .before .put-note in
     let means = c .before .before .before .before .before .before .before .known-input-at .ensures in
     let free = rw (c .before .before .before .before .before .before .before .before .before .before .before .kind-at .ensures _ means) at (sym (c .before .before .before .before .before .before .before .before .before .before .barrier-to .ensures) ∙ c .before .before .before .before .before .before .before .before .enum-told .given .1) in
-    going-taken _ _ _ _ _ ready (a .args .start .params) (loop .k) (loop .l) _ _ _ _ g within (omega (arith, a .pre .1)) (a .pre .2) _ (rw place at means) _ _ (rw stamp at (moves .ensures)) (omega (arith, within, g .few, g .room, a .pre .1)) free _ (c .before .before .before .before .before .before .take .ensures) _ (put .ensures .0) _ (put .ensures .1) (put .kept .0 ∙ moves .kept .0) _ (c .before .scenes-after .ensures)
+    going-taken _ _ _ _ _ ready (a .args .start .params) (loop .k) (loop .l) _ _ _ _ g within (omega (arith, a .pre .1)) (a .pre .2) _ (rw place at means) _ _ (rw stamp at (moves .ensures)) (omega (arith, within, g .stands .few, g .stands .room, a .pre .1)) free _ (c .before .before .before .before .before .before .take .ensures) _ (put .ensures .0) _ (put .ensures .1) (put .kept .0 ∙ moves .kept .0) _ (c .before .scenes-after .ensures)
 
 add-i-2 : tie.Need-add-i-2 Inv-loop μ-loop
 add-i-2 c = omega (arith, c .before .before .before .before .before .before .before .before .before .before .before .before .before .loop-test .taken, ready-to (c .before .before .before .before .before .before .before .before .before .before .before .before .before .before .before) .few)
@@ -133,19 +133,19 @@ loop-again-2 c =
     let f = turn _ _ _ _ _ ready _ _ _ _ _ g within in
     let bars = rw (c .before .before .before .before .before .kind-at .ensures (f .input) (rw place (f .meant))) at (sym (c .before .before .before .before .barrier-to .ensures) ∙ c .before .before .b .given .1) in
     rw (c .stopped-number .ensures)
-    (going-stopped _ _ _ _ _ ready (a .args .start .params) (loop .k) (loop .l) _ _ _ _ g within (omega (arith, a .pre .1)) (a .pre .2) (f .input) (f .meant) _ _ (rw stamp at (moves .ensures)) (omega (arith, within, g .few, g .room, a .pre .1)) (moves .kept .0) (c .before .before .b .given .0 .0) bars)
+    (going-stopped _ _ _ _ _ ready (a .args .start .params) (loop .k) (loop .l) _ _ _ _ g within (omega (arith, a .pre .1)) (a .pre .2) (f .input) (f .meant) _ _ (rw stamp at (moves .ensures)) (omega (arith, within, g .stands .few, g .stands .room, a .pre .1)) (moves .kept .0) (c .before .before .b .given .0 .0) bars)
 
 same-length : tie.Need-same-length Inv-loop μ-loop
-same-length c = c .before .before .loop .inv .room
+same-length c = c .before .before .loop .inv .stands .room
 
 same-length-2 : tie.Need-same-length-2 Inv-loop μ-loop
-same-length-2 c = c .before .before .loop .inv .places
+same-length-2 c = c .before .before .loop .inv .stands .places
 
 returns : tie.Need-returns Inv-loop μ-loop
 returns c =
     let g = c .before .before .loop .inv in
     let all = going-last _ _ _ _ _ (ready-to (c .before .before .before)) _ _ _ _ _ g (c .before .loop-test .left) in
-    rw (c .state-of .ensures) (rw (c .before .before .before .lamp-of .ensures) at all, g .safe, omega (arith, g .few, g .upto))
+    rw (c .state-of .ensures) (rw (c .before .before .before .lamp-of .ensures) at all, g .safe, omega (arith, g .stands .few, g .upto))
 
 pub play-inputs-spec : {M : Type 1} → statement M
 play-inputs-spec =

@@ -2,7 +2,7 @@
 -- sensor's over the records and edges, and so the promises of the actuator are the pair's.
 use Prim.Native.Nat.{ℕ, zero, suc, _+_, _-_, _≤_, _<_}
 use mathlib.Core.Bool.{Bool, true, false}
-use mathlib.Core.List.{List, [], _∷_}
+use mathlib.Core.List.{List, [], _∷_, _++_}
 use mathlib.Core.Option.{some}
 use mathlib.Core.Path.{_≡_, refl, sym, ap, _∙_}
 use native.Mathlib.Omega.{arith}
@@ -30,24 +30,26 @@ use Rattle.rules.proofs.Refusals.Files.{good-file, good-start, first-cue, param
 use Rattle.rules.proofs.Promises.Dark.{dark}
 use Rattle.rules.proofs.Promises.Light.{strong-light, light}
 use Rattle.sensor.specs.Sensors.{freshSensor}
+use Rattle.sensor.specs.Reactions.{reacts}
 use Rattle.sensor.specs.Refusals.{GoodActions}
 use Rattle.pairs.specs.declared.item.Item.{Item}
 use Rattle.pairs.specs.declared.item.Item.the-variants.{Plain}
 use Rattle.pairs.specs.declared.item.Read.{Read}
 use Rattle.pairs.specs.declared.item.Read.the-variants.{Known, Unknown}
 use Rattle.pairs.specs.Items.{itemAt}
 use Rattle.pairs.specs.Pairs.{Pair, pairStep}
-use Rattle.pairs.specs.Lists.{Listed, listed, pairPlaysTo, pairStart, playItems}
+use Rattle.pairs.specs.Lists.{Listed, listed, PairPlayed, pairPlaysTo, pairStart, playItems}
 use Rattle.pairs.specs.Calls.{pairSound}
-use Rattle.pairs.specs.Halves.{ItemsRise, cuesFor, given, ActuatorHalf}
+use Rattle.pairs.specs.Halves.{ItemsRise, ActuatorHalf, statuses, signalsFor, SensorHalf}
 use Rattle.pairs.specs.Refusals.{GoodWall}
 use Rattle.pairs.specs.Walls.{fileIn, actionsIn, stampedItem, itemIn, readWall, playWall}
+use Rattle.demands.specs.Walls.{wallParams, wallScenes, wallEnd, begun, cuesGiven}
 use Rattle.pairs.proofs.Playing.{pair-plays-to-next, pair-plays-to-end}
-use Rattle.pairs.proofs.Halves.{actuatorPart, plainItems, plain-items, cues-rise, the-run-is-the-actuators}
+use Rattle.pairs.proofs.Halves.{actuatorPart, plainItems, plain-items, cues-rise, the-run-is-the-actuators, the-run-is-the-sensors}
 use Rattle.pairs.proofs.Ties.{item-clock}
 use Rattle.pairs.proofs.Soundness.{SceneFits, pair-move-keeps-sound, pair-step-keeps-sound, pair-start-is-sound}
 use Rattle.pairs.proofs.Items.{plain-exactly-when, item-fits}
 use Rattle.pairs.proofs.Refusals.Walls.{file-length, file-octet, good-wall, a-good-start-is-read, good-wall-is-read}
 
 -- ---- items that are read without fault
 
@@ -110,45 +112,44 @@ module _ (wall : List ℕ) (items : List Listed) (read : readWall wall ≡ cues 
   pub items-rise : ItemsRise 0 items (endTime file)
   items-rise = in-order .0
 
-  -- the pair that its parameters start with
-  abbrev pub begun : Pair
-  begun = pairStart (paramsOf (parametersIn file)) (scenesOf (parametersIn file)) (freshSensor (actionsIn wall)) .pair
+  pub cues-given-rise : Rises 0 (cuesGiven wall items) (wallEnd wall)
+  cues-given-rise = cues-rise 0 (wallEnd wall) items (begun wall) items-rise
 
-  -- what its actuator is given
-  abbrev pub cuesGiven : List Cue
-  cuesGiven = given (cuesFor items begun)
-
-  pub cues-given-rise : Rises 0 cuesGiven (endTime file)
-  cues-given-rise = cues-rise 0 (endTime file) items begun items-rise
-
-  pub a-wall-has-some-time : 1 ≤ paramsOf (parametersIn file) .timedon
+  pub a-wall-has-some-time : 1 ≤ wallParams wall .timedon
   a-wall-has-some-time = passed-has-some-time (parametersIn file) (good .start .passed)
 
-  -- state, records and answers are the actuator's, over what it is given
-  pub a-wall-run-is-the-actuators : ActuatorHalf (endTime file) items begun (playWall wall items) (playList (paramsOf (parametersIn file)) (scenesOf (parametersIn file)) cuesGiven (endTime file))
+  -- demand 2 over the pair: state, records and answers are the actuator's, over what it is given
+  pub a-wall-run-is-the-actuators : ActuatorHalf (wallEnd wall) items (begun wall) (playWall wall items) (playList (wallParams wall) (wallScenes wall) (cuesGiven wall items) (wallEnd wall))
   unfolding playWall
-  a-wall-run-is-the-actuators = the-run-is-the-actuators (paramsOf (parametersIn file)) (scenesOf (parametersIn file)) (freshSensor (actionsIn wall)) items (endTime file) items-rise
+  a-wall-run-is-the-actuators = the-run-is-the-actuators (wallParams wall) (wallScenes wall) (freshSensor (actionsIn wall)) items (wallEnd wall) items-rise
 
-  -- "the demands read over the pair": an edge's On or Off counts as On or Off
-  pub dark-of-every-accepted-wall : DarkPromise (paramsOf (parametersIn file)) (scenesOf (parametersIn file)) cuesGiven (endTime file)
-  dark-of-every-accepted-wall = dark _ _ cuesGiven (endTime file) cues-given-rise
+  -- demand 3 over the pair: an edge's On or Off counts as On or Off
+  pub dark-of-every-accepted-wall : DarkPromise (wallParams wall) (wallScenes wall) (cuesGiven wall items) (wallEnd wall)
+  dark-of-every-accepted-wall = dark _ _ (cuesGiven wall items) (wallEnd wall) cues-given-rise
 
-  pub strong-light-of-every-accepted-wall : StrongLightPromise (paramsOf (parametersIn file)) (scenesOf (parametersIn file)) cuesGiven (endTime file)
-  strong-light-of-every-accepted-wall = strong-light _ _ cuesGiven (endTime file) cues-given-rise a-wall-has-some-time
+  pub strong-light-of-every-accepted-wall : StrongLightPromise (wallParams wall) (wallScenes wall) (cuesGiven wall items) (wallEnd wall)
+  strong-light-of-every-accepted-wall = strong-light _ _ (cuesGiven wall items) (wallEnd wall) cues-given-rise a-wall-has-some-time
 
-  pub light-of-every-accepted-wall : LightPromise (paramsOf (parametersIn file)) (scenesOf (parametersIn file)) cuesGiven (endTime file)
-  light-of-every-accepted-wall = light _ _ cuesGiven (endTime file) cues-given-rise a-wall-has-some-time
+  pub light-of-every-accepted-wall : LightPromise (wallParams wall) (wallScenes wall) (cuesGiven wall items) (wallEnd wall)
+  light-of-every-accepted-wall = light _ _ (cuesGiven wall items) (wallEnd wall) cues-given-rise a-wall-has-some-time
 
   -- a sound pair from the start to the end, where the octets are octets
   module _ (small : (j : ℕ) → octet wall j < 256) where
-    pub a-wall-starts-sound : pairSound begun ≡ true
+    pub a-wall-starts-sound : pairSound (begun wall) ≡ true
     a-wall-starts-sound =
         let ranges = passed-is-in-range (parametersIn file) (parameters-small file (file-small wall small)) (good .start .passed) in
-        pair-start-is-sound (paramsOf (parametersIn file)) (scenesOf (parametersIn file)) (freshSensor (actionsIn wall)) (ranges .0) (ranges .1)
+        pair-start-is-sound (wallParams wall) (wallScenes wall) (freshSensor (actionsIn wall)) (ranges .0) (ranges .1)
 
     pub a-wall-ends-sound : pairSound (playWall wall items .pair) ≡ true
     unfolding playWall playItems
-    a-wall-ends-sound = plays-keep-sound items begun 0 (endTime file) a-wall-starts-sound (unfold fresh in omega arith) items-rise (in-order .1) (good .start .header .layout .end)
+    a-wall-ends-sound = plays-keep-sound items (begun wall) 0 (wallEnd wall) a-wall-starts-sound (unfold fresh in omega arith) items-rise (in-order .1) (good .start .header .layout .end)
+
+-- and the sensor's half of demand 2: what it sends and ends in is its own, over the records and the edges. The start record is heard first.
+pub a-wall-run-is-the-sensors : (wall : List ℕ) (items : List Listed) →
+    let start : PairPlayed = pairStart (wallParams wall) (wallScenes wall) (freshSensor (actionsIn wall)) in
+    SensorHalf (playWall wall items) (reacts (statuses (start .records) ++ signalsFor (wallEnd wall) items (start .pair)) (freshSensor (actionsIn wall)))
+unfolding playWall
+a-wall-run-is-the-sensors wall items = the-run-is-the-sensors (wallParams wall) (wallScenes wall) (freshSensor (actionsIn wall)) items (wallEnd wall)
 
 -- ---- a cue file and four actions
 

@@ -1,0 +1,52 @@
+use mathlib.Core.Path.{_≡_, sym, _∙_}
+use native.Mathlib.Omega.{arith}
+use denote.Ref.{now}
+use borrow.Author.Needs.{needs}
+use Rattle.rules.specs.Refusals.{GoodStart}
+use Rattle.rules.proofs.Refusals.Files.{start-decides}
+use Rattle.cues.proofs.Inputs.{checked-as-read}
+use Rattle.walls.specs.Lists.{checkParts}
+use Rattle.walls.proofs.Items.{items-say}
+use Rattle.walls.proofs.list.check_parts.Statement.{statement}
+use Rattle.walls.proofs.list.check_parts.Tie as tie
+
+-- the header says how many inputs there are at most, and that they fill the file
+start : (c : tie.After-enum-told2) → GoodStart (now (c .before .before .before .before .before .before .before .before .args .file))
+start c = start-decides _ .passed .0 (sym (c .before .before .before .before .before .check-start .ensures) ∙ c .before .before .before .enum-told .given .1)
+
+check-inputs-requires : tie.Need-check-inputs-requires
+check-inputs-requires c κs =
+    let layout = start (c .before .before) .header .layout in
+    rw (c .before .input-count .ensures) (layout .few, omega (arith, layout .whole))
+
+returns : tie.Need-returns
+unfolding checkParts
+returns c = simp (sym (c .before .before .before .check-start .ensures) ∙ c .before .start .given .1)
+
+returns-2 : tie.Need-returns-2
+unfolding checkParts
+returns-2 c =
+    simp (sym (c .before .before .before .check-actions .ensures) ∙ c .before .edges .given .1, sym (c .before .before .before .before .before .before .check-start .ensures) ∙ c .before .before .before .before .enum-told .given .1)
+
+returns-3 : tie.Need-returns-3
+unfolding checkParts
+returns-3 c =
+    rw (c .check-inputs .ensures, c .before .end-time .ensures, c .before .before .input-count .ensures, sym (c .before .before .before .before .before .check-actions .ensures) ∙ c .before .before .before .enum-told2 .given .1, sym (c .before .before .before .before .before .before .before .before .check-start .ensures) ∙ c .before .before .before .before .before .before .enum-told .given .1)
+    (checked-as-read _ _ (items-say _) _ _ _ _ _)
+
+pub check-parts-spec : {M : Type 1} → statement M
+check-parts-spec =
+    tie.close
+    (tie.spec
+    (λ c κs. search needs)
+    (λ c. search needs)
+    (λ c. search needs)
+    (λ c κs. search needs)
+    (λ c. search needs)
+    (λ c. search needs)
+    (λ c κs. start c .header .long)
+    (λ c κs. start (c .before) .header .long)
+    check-inputs-requires
+    returns
+    returns-2
+    returns-3)
