@@ -1,14 +1,23 @@
 -- A run so far: what was written and said stands in the lent buffers, the records after the start record, the answers from the front on.
 use Prim.Native.Nat.{ℕ, _+_, _*_, _≤_, _<_}
+use mathlib.Core.Bool.{true, _&&_}
 use mathlib.Core.List.{List, [], _∷_, _++_}
 use mathlib.Core.Path.{_≡_, refl, _∙_}
 use native.Mathlib.Omega.{arith}
 use lib.ListN.{length, set, length-set, length-append}
+use lib.Dec.{leb}
+use borrow.Author.Tests.{leb-true}
+use Rattle.base.proofs.Tests.{both}
 use Rattle.octets.specs.Splice.{splice}
 use Rattle.octets.proofs.Splices.{splice-none, octet-more}
 use Rattle.rules.specs.declared.record.Record.{Record}
+use Rattle.rules.specs.Layout.{recordsRoom}
 use Rattle.rules.specs.Runs.{recordsOctets}
 use Rattle.buffers.proofs.Splices.{records-none, records-more}
+
+-- the room that the buffers are tested for
+pub enough-room : (n r a : ℕ) → (leb (recordsRoom n) r && leb n a) ≡ true → (recordsRoom n ≤ r) × (n ≤ a)
+enough-room n r a e = let t = both (leb (recordsRoom n) r) (leb n a) e in (leb-true (recordsRoom n) r (t .0), leb-true n a (t .1))
 
 -- after i inputs, with k records in all
 pub record Standing (records₀ answers₀ records₁ answers₁ : List ℕ) (wrote : List Record) (said : List ℕ) (k i : ℕ) : Type 0 where

@@ -1,12 +1,11 @@
 -- The whole run, one law for each way out.
-use Prim.Native.Nat.{ℕ, _≤_}
+use Prim.Native.Nat.{ℕ}
 use mathlib.Core.Bool.{true, false, _&&_}
 use mathlib.Core.List.{List}
 use mathlib.Core.Path.{_≡_, refl, sym}
 use native.Mathlib.Nat.{zero-add}
 use lib.ListN.{length}
 use lib.Dec.{leb}
-use borrow.Author.Tests.{leb-true}
 use Rattle.base.specs.declared.refusal.Refusal.{Refusal}
 use Rattle.base.specs.declared.refusal.Refusal.the-variants.{ShortBuffer}
 use Rattle.base.specs.declared.refusal.Check.the-variants.{Passed, Refused}
@@ -14,7 +13,6 @@ use Rattle.rules.specs.Layout.{recordsRoom}
 use Rattle.rules.specs.Readings.{cues, verdict}
 use Rattle.rules.specs.Files.{inputCount, readFile, lentEnough}
 use Rattle.rules.specs.Runs.{playFile, accepted, refused, runCall}
-use Rattle.base.proofs.Tests.{both}
 use Rattle.rules.proofs.Refusals.Readings.{bad-read, good-read}
 use Rattle.rules.proofs.Refusals.Runs.{a-bad-file-is-refused, a-short-buffer-is-refused, a-good-file-is-played}
 use Rattle.player.specs.declared.play.Ended.{Ended}
@@ -26,10 +24,6 @@ use Rattle.buffers.proofs.Splices.{splice-front}
 pub file-passed : (file : List ℕ) → verdict (readFile file) ≡ Passed → readFile file ≡ cues (listIn file)
 unfolding listIn
 file-passed file e = good-read (readFile file) e
-
--- the room that the buffers are tested for
-pub enough-room : (n r a : ℕ) → (leb (recordsRoom n) r && leb n a) ≡ true → (recordsRoom n ≤ r) × (n ≤ a)
-enough-room n r a e = let t = both (leb (recordsRoom n) r) (leb n a) e in (leb-true (recordsRoom n) r (t .0), leb-true n a (t .1))
 
 module _ (file r a : List ℕ) where
   pub run-refused : (why : Refusal) (place : ℕ) → verdict (readFile file) ≡ Refused why place → whole (refusal why place) r a ≡ runCall file r a

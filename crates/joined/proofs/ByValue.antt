@@ -73,11 +73,11 @@ module _ (s : State) (t : ℕ) (m : Clocked) (e : m ≡ clocked (clockMove s t))
   unfolding clocked
   moved-notes = rw e refl
 
-  module _ (z : Sensor) (x : Signal) (r : Reaction) (f : r ≡ react (hears (take (m .notes .count) (m .notes .records)) z) x t) where
+  module _ (z h : Sensor) (g : h ≡ hears (take (m .notes .count) (m .notes .records)) z) (x : Signal) (r : Reaction) (f : r ≡ react h x t) where
     -- by a sensor that has heard the timers
     decided : r ≡ react (pairMove (pairOf s z) t .pair .sensor) x t
     unfolding pairMove
-    decided = f ∙ rw (moved-notes, used-notes (clockMove s t .records) (omega (arith, a-move-writes-at-most-two s t))) refl
+    decided = f ∙ rw (g, moved-notes, used-notes (clockMove s t .records) (omega (arith, a-move-writes-at-most-two s t))) refl
 
     pub silent-step : r .telegram ≡ Silent →
         record { state = m .state; sensor = r .sensor; answer = 1; notes = m .notes; telegram = Silent } ≡ jointStep (pressed (pairOf s z) x t)

@@ -1,13 +1,15 @@
 -- The start and the end of a run over a wall list: what is read of an accepted one, and the whole that the start record, the items and the move
 -- to the end time come to; and the run, one law for each way out.
-use Prim.Native.Nat.{ℕ, _+_, _*_, _≤_, _<_}
+use Prim.Native.Nat.{ℕ, _+_, _*_, _-_, _≤_, _<_}
 use mathlib.Core.Bool.{true, false, _&&_}
 use mathlib.Core.List.{List, [], _∷_, _++_, append-nil}
 use mathlib.Core.Path.{_≡_, refl, sym, ap, _∙_}
 use native.Mathlib.Nat.{zero-add}
 use native.Mathlib.Omega.{arith}
 use lib.Dec.{leb}
-use lib.ListN.{length, getD, take, length-append}
+use lib.ListN.{length, getD, take, length-append, length-take, List·getD-eq-default}
+use lib.Seq.{getD-take}
+use Rattle.base.proofs.Tests.{by-order}
 use Rattle.base.specs.declared.refusal.Refusal.{Refusal}
 use Rattle.base.specs.declared.refusal.Refusal.the-variants.{ShortBuffer}
 use Rattle.base.specs.declared.refusal.Check.the-variants.{Passed, Refused}
@@ -39,6 +41,7 @@ use Rattle.pairs.specs.Walls.{fileIn, actionsIn, readWall, playWall, wallAccept
 use Rattle.pairs.specs.Refusals.{GoodWall}
 use Rattle.pairs.proofs.Soundness.{sound-pair-exactly-when}
 use Rattle.pairs.proofs.Refusals.Walls.{good-wall, good-wall-is-read, a-bad-wall-is-refused, a-short-wall-buffer-is-refused, a-good-wall-is-played}
+use Rattle.joined.specs.Joints.{heard}
 use Rattle.walls.specs.declared.play.WallEnded.{WallEnded}
 use Rattle.walls.specs.Playing.{itemsOf, itemsIn, WallFit, WallReady, WallFilled, wallRefusal, wallReport, wallWhole}
 
@@ -55,6 +58,22 @@ startPair wall = pairOf (freshIn (fileIn wall)) (hears (recordOf byItself (fresh
 pub same-items : (wall : List ℕ) → GoodWall wall → itemsIn wall ≡ itemsOf (fileIn wall)
 unfolding itemsIn itemsOf
 same-items wall good = rw (good-wall-is-read wall good) refl
+
+-- as the code comes to it
+pub start-heard : (wall : List ℕ) (r : Record) (z : Sensor) → r ≡ recordOf byItself (freshIn (fileIn wall)) → z ≡ heard r (freshSensor (actionsIn wall)) → z ≡ startPair wall .sensor
+unfolding heard hears
+start-heard wall r z e f = f ∙ rw e refl
+
+-- the octets of the file are octets of the list
+pub file-small : (wall : List ℕ) → ((i : ℕ) → getD wall i 0 < 256) → (i : ℕ) → getD (fileIn wall) i 0 < 256
+unfolding fileIn
+file-small wall small i = by-order (length wall - 4) i past within
+  where
+    past : length wall - 4 ≤ i → getD (take (length wall - 4) wall) i 0 < 256
+    past h = rw (List·getD-eq-default (take (length wall - 4) wall) 0 {n = i} (omega (arith, length-take (length wall - 4) wall))) (omega arith)
+
+    within : i < length wall - 4 → getD (take (length wall - 4) wall) i 0 < 256
+    within h = rw (getD-take (length wall - 4) wall i 0 h) (small i)
 
 -- its own parameters start a sound pair, and its items can be played from there on
 pub fit-ready : (wall : List ℕ) (n end : ℕ) → WallFit wall n end → ((i : ℕ) → getD (fileIn wall) i 0 < 256) → WallReady (fileIn wall) n (startPair wall)
@@ -89,7 +108,7 @@ module _ (wall : List ℕ) (end : ℕ) (ends : end ≡ endTime (fileIn wall)) (r
       → (m : Clocked) → m ≡ clocked (clockMove (e .state) end) → r₃ ≡ splice r₂ (8 * e .count) (recordsOctets (take (m .notes .count) (m .notes .records)))
       → (z : Sensor) → z ≡ hears (take (m .notes .count) (m .notes .records)) (e .sensor)
       → WallFilled 0 (playWall wall items) r a (record { state = m .state; sensor = z; count = e .count + m .notes .count }) r₃ a₂
-  unfolding clocked
+  unfolding clocked pairMove
   ended items a a₂ r₂ r₃ e f m g p z heard =
       let q : PairPlayed = pairPlays items (startPair wall) in
       let start : Record = recordOf byItself (freshIn (fileIn wall)) in
@@ -103,10 +122,10 @@ module _ (wall : List ℕ) (end : ℕ) (ends : end ≡ endTime (fileIn wall)) (r
       p ∙ rw (b .1) (records-more r r₂ 0 (8 * e .count) (start ∷ q .records) (last .records) (omega arith) (omega (arith, f .count)) two)
       in
       record {
-        state = rw whole (unfold pairMove in rw same refl);
-        sensor = rw whole (unfold pairMove in heard ∙ rw (b .1, f .sensor) refl);
-        count = rw whole (unfold pairMove in rw (b .0, length-append) (omega (arith, f .count)));
-        records = rw whole (unfold pairMove in three);
+        state = rw (whole, same) refl;
+        sensor = rw whole (heard ∙ rw (b .1, f .sensor) refl);
+        count = rw (whole, b .0, length-append) (omega (arith, f .count));
+        records = rw whole three;
         answers = rw whole (f .answers);
       }
 

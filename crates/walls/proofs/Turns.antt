@@ -6,7 +6,7 @@ use mathlib.Core.Option.{some}
 use mathlib.Core.Path.{_≡_, refl, sym, ap, _∙_}
 use native.Mathlib.Nat.{sub-zero}
 use native.Mathlib.Omega.{arith}
-use lib.ListN.{length, set}
+use lib.ListN.{length, set, take}
 use Rattle.octets.specs.Groups.{stampAt}
 use Rattle.octets.specs.Splice.{splice}
 use Rattle.rules.specs.declared.record.Record.{Record}
@@ -14,13 +14,14 @@ use Rattle.rules.specs.Layout.{inputPlace}
 use Rattle.rules.specs.Readings.{cues, found, readInputs}
 use Rattle.rules.specs.Files.{endTime}
 use Rattle.rules.specs.Runs.{recordsOctets}
+use Rattle.rules.proofs.Laws.Records.{used-places}
 use Rattle.rules.proofs.Refusals.Readings.{first-read}
 use Rattle.sensor.specs.declared.react.Telegram.{Telegram}
 use Rattle.pairs.specs.declared.item.Item.{Item}
 use Rattle.pairs.specs.declared.item.Read.{Read}
 use Rattle.pairs.specs.declared.item.Read.the-variants.{Known, Unknown}
 use Rattle.pairs.specs.Items.{itemAt}
-use Rattle.pairs.specs.Pairs.{Pair, PairStepped, pairStep}
+use Rattle.pairs.specs.Pairs.{Pair, pairOf, PairStepped, pairStep}
 use Rattle.pairs.specs.Lists.{Listed, listed, PairPlayed, pairThen, pairStepped, pairPlays}
 use Rattle.pairs.specs.Calls.{pairSound}
 use Rattle.pairs.specs.Walls.{stampedItem, itemIn}
@@ -30,7 +31,9 @@ use Rattle.pairs.proofs.Soundness.{pair-step-keeps-sound}
 use Rattle.pairs.proofs.Items.{item-fits}
 use Rattle.pairs.proofs.Refusals.Calls.{an-item-writes-at-most-three}
 use Rattle.buffers.proofs.Standing.{Standing, standing-first, standing-more}
-use Rattle.walls.specs.declared.play.WallEnded.{WallEnded}
+use Rattle.records.specs.Notes.{notes}
+use Rattle.joined.specs.declared.step.JointStep.{JointStep}
+use Rattle.joined.specs.Joints.{jointStep}
 use Rattle.walls.specs.Playing.{isItem, itemsOf, WallReady, WallFilled}
 
 -- ---- one item
@@ -74,6 +77,14 @@ one-played : (done : PairPlayed) (items later : List Listed) (t : ℕ) (i : Item
 unfolding pairPlays
 one-played done items later t i e = rw e (sym (pairThen-assoc done (λ u. pairStepped (pairStep u i t)) (pairPlays later)))
 
+-- what an item wrote, by value: its records, at most three
+pub step-notes : (p : Pair) (i : Item) (t : ℕ) (d : JointStep) → d ≡ jointStep (pairStep p i t) →
+    (d .notes .count ≡ length (pairStep p i t .records)) × (d .notes .count ≤ 3) × (take (d .notes .count) (d .notes .records) ≡ pairStep p i t .records)
+unfolding jointStep notes
+step-notes p i t d e =
+    let few = an-item-writes-at-most-three p i t in
+    rw e (refl, few, used-places 3 (pairStep p i t .records) few)
+
 -- ---- after the first i items
 
 -- the answers said and the records written stand in the buffers and have led to this pair, and the items that are left can be read
@@ -112,10 +123,10 @@ module _ (file : List ℕ) (n : ℕ) (start : Pair) (r₀ a₀ : List ℕ) (read
     turn-known h = rw (turn h .meant) refl
 
     -- it is played: its records come after those that were written, its answer after those that were given
-    pub going-on : (h : i < n) → 8 ≤ length r₀ → n ≤ length a₀ → (x : Item) → itemAt file (inputPlace i) ≡ Known x → let d = pairStep p x (stampAt file (inputPlace i)) in
+    going-on : (h : i < n) → 8 ≤ length r₀ → n ≤ length a₀ → (x : Item) → itemAt file (inputPlace i) ≡ Known x → let d = pairStep p x (stampAt file (inputPlace i)) in
         (r₁ : List ℕ) → r₁ ≡ splice r (8 * k) (recordsOctets (d .records)) → length r₁ ≡ length r
         → WallGoing file n start r₀ a₀ r₁ (set a i (d .answer)) (d .pair) (k + length (d .records)) (i + 1)
-    going-on h some enough x means r₁ writes long =
+    going-on h front enough x means r₁ writes long =
         let f = turn h in
         let t : ℕ = stampAt file (inputPlace i) in
         let same : x ≡ f .item = same-item (f .item) x (itemAt file (inputPlace i)) (f .meant) means in
@@ -129,8 +140,19 @@ module _ (file : List ℕ) (n : ℕ) (start : Pair) (r₀ a₀ : List ℕ) (read
           played = g .played ∙ one-played (record { pair = p; answers = g .said; records = g .wrote; telegrams = g .sent }) (g .later) (f .later) t x (f .starts ∙ ap (λ (y : Item). listed t y ∷ f .later) (sym same));
           reads = rw (item-clock p x t) (f .reads);
           safe = pair-step-keeps-sound p x t (g .safe) (f .risen) (omega (arith, f .timely, ready .timely)) (item-fits file (inputPlace i) x means);
-          stands = standing-more r₀ a₀ r a (g .wrote) (d .records) (g .said) (d .answer) k i (g .stands) (an-item-writes-at-most-three p x t) some (omega arith) r₁ writes long;
+          stands = standing-more r₀ a₀ r a (g .wrote) (d .records) (g .said) (d .answer) k i (g .stands) (an-item-writes-at-most-three p x t) front (omega arith) r₁ writes long;
         }
+
+    -- the same of what the code has, by value
+    pub going-by-value : (h : i < n) → 8 ≤ length r₀ → n ≤ length a₀ → (x : Item) → itemAt file (inputPlace i) ≡ Known x →
+        (d : JointStep) → d ≡ jointStep (pairStep p x (stampAt file (inputPlace i))) →
+        (r₁ : List ℕ) → r₁ ≡ splice r (8 * k) (recordsOctets (take (d .notes .count) (d .notes .records))) → length r₁ ≡ length r
+        → WallGoing file n start r₀ a₀ r₁ (set a i (d .answer)) (pairOf (d .state) (d .sensor)) (k + d .notes .count) (i + 1)
+    unfolding jointStep
+    going-by-value h front enough x means d e r₁ writes long =
+        let t : ℕ = stampAt file (inputPlace i) in
+        let wrote = step-notes p x t d e in
+        rw (wrote .0, e) (going-on h front enough x means r₁ (writes ∙ ap (λ (l : List Record). splice r (8 * k) (recordsOctets l)) (wrote .2)) long)
 
     -- and at the end no item is left
     pub going-last : n ≤ i → WallFilled 1 (pairPlays (itemsOf file) start) r₀ a₀ (record { state = p .actuator; sensor = p .sensor; count = k }) r a

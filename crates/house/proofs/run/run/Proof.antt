@@ -5,7 +5,8 @@ use Rattle.rules.specs.Files.{readFile}
 use Rattle.rules.specs.Refusals.{GoodHeader}
 use Rattle.rules.proofs.Refusals.Files.{good-file}
 use Rattle.player.specs.Playing.{listIn}
-use Rattle.house.proofs.Runs.{file-passed, enough-room, run-refused, run-short, run-accepted}
+use Rattle.buffers.proofs.Standing.{enough-room}
+use Rattle.house.proofs.Runs.{file-passed, run-refused, run-short, run-accepted}
 use native.Mathlib.Omega.{arith}
 use borrow.Author.Needs.{needs}
 use Rattle.house.proofs.run.run.Statement.{statement}

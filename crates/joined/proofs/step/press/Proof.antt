@@ -24,14 +24,14 @@ switched-requires c κs =
 returns : tie.Need-returns
 returns c =
     let a = c .before .before .before .before .before .before .before .before .args in
-    silent-step (a .s) (a .t) _ (c .before .before .before .before .before .before .before .move-clock .ensures) (a .z) (a .signal) _ (rw (c .before .before .before .before .hear-notes .ensures) at (c .before .before .before .react .ensures)) (c .enum-told .given .1)
+    silent-step (a .s) (a .t) _ (c .before .before .before .before .before .before .before .move-clock .ensures) (a .z) _ (c .before .before .before .before .hear-notes .ensures) (a .signal) _ (c .before .before .before .react .ensures) (c .enum-told .given .1)
 
 returns-2 : tie.Need-returns-2
 returns-2 c =
     let a = c .before .before .before .before .before .before .before .before .before .before .args in
     let e = c .before .before .before .before .before .before .before .before .before .move-clock .ensures in
     c .switched .ensures (clockMove (a .s) (a .t) .records) (moved-notes (a .s) (a .t) _ e) ∙
-    telling-step (a .s) (a .t) _ e (a .z) (a .signal) _ (rw (c .before .before .before .before .before .before .hear-notes .ensures) at (c .before .before .before .before .before .react .ensures)) _ (c .before .before .telegram .given .1)
+    telling-step (a .s) (a .t) _ e (a .z) _ (c .before .before .before .before .before .before .hear-notes .ensures) (a .signal) _ (c .before .before .before .before .before .react .ensures) _ (c .before .before .telegram .given .1)
 
 pub press-spec : {M : Type 1} → statement M
 press-spec =

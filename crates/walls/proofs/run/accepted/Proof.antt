@@ -1,0 +1,11 @@
+use borrow.Author.Needs.{needs}
+use Rattle.walls.specs.Playing.{wallReport}
+use Rattle.walls.proofs.run.accepted.Statement.{statement}
+use Rattle.walls.proofs.run.accepted.Tie as tie
+
+returns : tie.Need-returns
+unfolding wallReport
+returns c = search needs
+
+pub accepted-spec : {M : Type 1} → statement M
+accepted-spec = tie.close (tie.spec returns)

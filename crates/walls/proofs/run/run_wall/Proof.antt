@@ -1,0 +1,63 @@
+use mathlib.Core.Path.{_≡_, sym, _∙_}
+use native.Mathlib.Omega.{arith}
+use denote.Ref.{now}
+use borrow.Author.Needs.{needs}
+use Rattle.rules.specs.Readings.{cues}
+use Rattle.buffers.proofs.Standing.{enough-room}
+use Rattle.pairs.specs.Walls.{fileIn, readWall}
+use Rattle.pairs.specs.Refusals.{GoodWall}
+use Rattle.pairs.proofs.Refusals.Walls.{good-wall}
+use Rattle.walls.specs.Playing.{itemsIn}
+use Rattle.walls.proofs.Ends.{wall-passed, run-refused, run-short, run-accepted}
+use Rattle.walls.proofs.run.run_wall.Statement.{statement}
+use Rattle.walls.proofs.run.run_wall.Tie as tie
+
+-- the list is accepted, so its header is as it must be
+read : (c : tie.After-enum-told) → let wall = now (c .before .before .before .before .before .before .args .wall) in readWall wall ≡ cues (itemsIn wall)
+read c = wall-passed _ (sym (c .before .before .check-wall .ensures) ∙ c .enum-told .given .1)
+
+good : (c : tie.After-enum-told) → GoodWall (now (c .before .before .before .before .before .before .args .wall))
+good c = good-wall _ _ (read c)
+
+is-roomy-requires : tie.Need-is-roomy-requires
+is-roomy-requires c κs = rw (c .input-count .ensures, c .before .file-in .ensures) (good (c .before .before) .start .header .layout .few)
+
+play-requires : tie.Need-play-requires
+play-requires c κs =
+    let room = enough-room _ _ _ (sym (c .before .before .before .before .is-roomy .ensures) ∙ c .before .before .before .if1 .taken) in
+    let file = c .before .before .before .before .before .before .file-in .ensures in
+    (record { accepted = read (c .before .before .before .before .before .before .before); inputs = rw file at (c .before .before .before .before .before .input-count .ensures); ends = rw file at (c .before .before .end-time .ensures) }, room .0, room .1)
+
+returns : tie.Need-returns
+returns c = rw (c .refused .ensures) (run-refused _ _ _ _ _ (sym (c .before .before .before .before .check-wall .ensures) ∙ c .before .before .checked .given .1))
+
+returns-2 : tie.Need-returns-2
+returns-2 c =
+    rw (c .accepted .ensures)
+    (run-accepted _ _ _ _ (rw (c .before .before .before .before .before .before .before .before .before .before .before .before .file-in .ensures) at (c .before .before .before .before .before .before .before .before .before .before .before .input-count .ensures)) (read (c .before .before .before .before .before .before .before .before .before .before .before .before .before)) (sym (c .before .before .before .before .before .before .before .before .before .before .is-roomy .ensures) ∙ c .before .before .before .before .before .before .before .before .before .if1 .taken) _ _ _ (c .before .before .before .before .before .play .ensures))
+
+returns-3 : tie.Need-returns-3
+returns-3 c =
+    rw (c .refused2 .ensures)
+    (run-short _ _ _ _ (rw (c .before .before .before .before .file-in .ensures) at (c .before .before .before .input-count .ensures)) (read (c .before .before .before .before .before)) (sym (c .before .before .is-roomy .ensures) ∙ c .before .if1 .left))
+
+pub run-wall-spec : {M : Type 1} → statement M
+run-wall-spec =
+    tie.close
+    (tie.spec
+    (λ c κs. search needs)
+    (λ c. search needs)
+    (λ c κs. search needs)
+    (λ c. search needs)
+    (λ c κs. omega (arith, good c .long))
+    (λ c κs. rw (c .file-in .ensures) (good (c .before) .start .header .long))
+    is-roomy-requires
+    (λ c κs. rw (c .before .before .before .file-in .ensures) (good (c .before .before .before .before) .start .header .long))
+    play-requires
+    (λ c κs. search needs)
+    (λ c κs. search needs)
+    returns
+    (λ c. search needs)
+    (λ c. search needs)
+    returns-2
+    returns-3)
