@@ -1,0 +1,14 @@
+use mathlib.Core.Path.{ap}
+use borrow.Author.Needs.{needs}
+use Rattle.rules.specs.Runs.{packed}
+use Rattle.pairs.specs.Walls.{wallAnsweredBy, houseWallRun}
+use Rattle.house.proofs.c.house_wall_run.Statement.{statement}
+use Rattle.house.proofs.c.house_wall_run.Tie as tie
+
+returns : tie.Need-returns
+unfolding houseWallRun wallAnsweredBy packed
+returns c = rw (c .pack .ensures) (ap wallAnsweredBy (c .before .before .before .before .before .run-wall .ensures))
+
+pub house-wall-run-spec : {M : Type 1} → statement M
+house-wall-run-spec =
+    tie.close (tie.spec (λ c κs. search needs) (λ c κs. search needs) (λ c. search needs) (λ c. search needs) returns)
