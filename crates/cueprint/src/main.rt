@@ -54,27 +54,32 @@ fn print_record(r: Record) {
     );
 }
 
+fn print_if(wanted: bool, r: Record) {
+    if wanted {
+        print_record(r);
+    }
+}
+
 // Of three records those from one place on, up to another.
 fn print_records(k: [Record; 3], from: u8, to: u8) {
-    let mut j = from;
-    while j < to && j < 3 {
-        let r = k[j as usize];
-        print_record(r);
-        j += 1;
-    }
+    print_if(from == 0 && to > 0, k[0]);
+    print_if(from <= 1 && to > 1, k[1]);
+    print_if(from <= 2 && to > 2, k[2]);
+}
+
+// All of so many, or all but the last, which an input or a telegram wrote itself.
+fn but_its_own(last: Record, all: u8, others: u8) -> u8 {
+    if last.cause == 0 { all } else { others }
 }
 
 // How many of the first n records are of timers: they come before the one that an input or a telegram wrote itself.
 fn by_timers(k: [Record; 3], n: u8) -> u8 {
-    let mut j: u8 = 0;
-    while j < n && j < 3 {
-        let r = k[j as usize];
-        if r.cause != 0 {
-            return j;
-        }
-        j += 1;
+    match n {
+        1 => but_its_own(k[0], 1, 0),
+        2 => but_its_own(k[1], 2, 1),
+        3 => but_its_own(k[2], 3, 2),
+        _ => 0,
     }
-    j
 }
 
 // OK: count of inputs.

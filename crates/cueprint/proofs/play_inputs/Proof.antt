@@ -6,10 +6,10 @@ use Rattle.cueprint.proofs.play_inputs.Statement.{statement}
 use Rattle.cueprint.proofs.play_inputs.Tie as tie
 
 abbrev Inv-loop : tie.InvT-loop
-Inv-loop file n s₀ count₀ i₀ s count i = (i ≤ n) × (n ≤ mostInputs) × (inputPlace n ≤ length file) × (count ≤ 255 * i)
+Inv-loop file n s₀ z₀ count₀ i₀ s z count i = (i ≤ n) × (n ≤ mostInputs) × (inputPlace n ≤ length file) × (count ≤ 255 * i)
 
 abbrev μ-loop : tie.MeasureT-loop
-μ-loop file n s₀ count₀ i₀ s count i = n - i
+μ-loop file n s₀ z₀ count₀ i₀ s z count i = n - i
 
 pub play-inputs-spec : {M : Type 1} → statement M
 play-inputs-spec =

@@ -6,7 +6,7 @@ use Rattle.cueprint.proofs.print_file.Tie as tie
 
 play-file-requires : tie.Need-play-file-requires
 play-file-requires c κs =
-    let good = passed-is-good _ (sym (c .before .before .check-file .ensures) ∙ c .enum-told .given .1) in
+    let good = passed-is-good _ (sym (c .before .before .before .check-file .ensures) ∙ c .before .enum-told .given .1) in
     let layout = good .start .header .layout in
     (layout .few, layout .whole)
 
@@ -16,13 +16,10 @@ print-file-spec =
     (tie.spec
     (λ c κs. search needs)
     (λ c. search needs)
+    (λ c κs. search needs)
     play-file-requires
     (λ c. search needs)
-    (λ c. search needs)
     (λ c κs. search needs)
-    (λ c. search needs)
-    (λ c. search needs)
-    (λ c. search needs)
     (λ c κs. search needs)
     (λ c. search needs)
     (λ c. search needs))
