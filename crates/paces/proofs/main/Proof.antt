@@ -4,10 +4,10 @@ use Rattle.paces.proofs.main.Tie as tie
 
 -- nothing has to hold from turn to turn
 abbrev Inv-loop : tie.InvT-loop
-Inv-loop now₀ kept₀ params₀ scenes₀ letter₀ turns₀ now kept params scenes letter turns = Unit {0}
+Inv-loop params₀ scenes₀ now₀ kept₀ letter₀ turns₀ params scenes now kept letter turns = Unit {0}
 
 abbrev μ-loop : tie.MeasureT-loop
-μ-loop now₀ kept₀ params₀ scenes₀ letter₀ turns₀ now kept params scenes letter turns = turns
+μ-loop params₀ scenes₀ now₀ kept₀ letter₀ turns₀ params scenes now kept letter turns = turns
 
 pub main-spec : {M : Type 1} → statement M
 main-spec =
@@ -15,6 +15,7 @@ main-spec =
     (tie.spec
     Inv-loop
     μ-loop
+    (λ c κs. search needs)
     (λ c κs. search needs)
     (λ c κs. search needs)
     (λ c κs. search needs)
