@@ -13,7 +13,7 @@ use Rattle.rules.specs.declared.input.Input.the-variants.{SwitchOnOff}
 use Rattle.rules.specs.declared.state.State.{State}
 use Rattle.rules.specs.declared.record.Record.{Record}
 use Rattle.rules.specs.Steps.{Moved, Stepped, clockMove, act, step}
-use Rattle.rules.specs.Lists.{Cue, cue, Played, andThen, moved, stepped, plays, playsTo, playList, still}
+use Rattle.rules.specs.Lists.{Cue, cue, Played, andThen, stepped, plays, playsTo, playList, still}
 use Rattle.rules.specs.Promises.{Rises}
 use Rattle.rules.proofs.Laws.Lists.{acts-after-the-move, plays-to-next}
 use Rattle.sensor.specs.declared.signal.Edge.{Edge}

@@ -1,6 +1,6 @@
 -- What else is claimed of the pair: timers before presses, ties in list order, dropped telegrams that still toggle, silent edges that may be
 -- struck. Proved in proofs/Ties.antt, Toggles.antt and Strike.antt.
-use Prim.Native.Nat.{ℕ, _≤_}
+use Prim.Native.Nat.{ℕ}
 use mathlib.Core.Bool.{Bool, not}
 use mathlib.Core.List.{List, [], _∷_, _++_}
 use mathlib.Core.Path.{_≡_}
@@ -10,9 +10,7 @@ use Rattle.rules.specs.declared.input.Input.the-variants.{SwitchOnOff}
 use Rattle.rules.specs.Barriers.{barrier}
 use Rattle.rules.specs.Steps.{clockMove, act}
 use Rattle.rules.specs.Lists.{still}
-use Rattle.sensor.specs.declared.action.Action.{Action}
 use Rattle.sensor.specs.declared.action.Action.the-variants.{SendInverse}
-use Rattle.sensor.specs.declared.signal.Signal.{Signal}
 use Rattle.sensor.specs.declared.signal.Signal.the-variants as signal
 use Rattle.sensor.specs.declared.state.Sensor.{Sensor}
 use Rattle.sensor.specs.declared.react.Telegram.{Telegram}

@@ -16,8 +16,8 @@ use Rattle.sensor.specs.declared.react.Telegram.the-variants.{Silent, Switch}
 use Rattle.sensor.specs.Reactions.{Stamped, at, Heard, reacts}
 use Rattle.pairs.specs.declared.item.Item.{Item}
 use Rattle.pairs.specs.declared.item.Item.the-variants.{Plain, Button1, Button2}
-use Rattle.pairs.specs.Pairs.{Pair, shows, PairMoved, pairMove, PairStepped, pairStep}
-use Rattle.pairs.specs.Lists.{Listed, listed, PairPlayed, pairPlays, pairPlaysTo}
+use Rattle.pairs.specs.Pairs.{Pair, shows, PairMoved, pairMove, pairStep}
+use Rattle.pairs.specs.Lists.{Listed, listed, PairPlayed, pairPlaysTo}
 
 -- 01: "Stamps never fall, and none passes the end time." (from `last` on)
 abbrev pub ItemsRise : ℕ → List Listed → ℕ → Type 0

@@ -1,7 +1,7 @@
 -- What the code of the run knows of a checked file, and what it leaves in the lent buffers.
 use Prim.Native.Nat.{ℕ, _+_, _≤_}
 use mathlib.Core.Bool.{true}
-use mathlib.Core.List.{List, []}
+use mathlib.Core.List.{List}
 use mathlib.Core.Path.{_≡_}
 use lib.ListN.{length}
 use Rattle.rules.specs.declared.parameters.Params.{Params}

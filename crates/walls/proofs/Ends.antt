@@ -15,12 +15,10 @@ use Rattle.base.specs.declared.refusal.Refusal.the-variants.{ShortBuffer}
 use Rattle.base.specs.declared.refusal.Check.the-variants.{Passed, Refused}
 use Rattle.octets.specs.Splice.{splice}
 use Rattle.rules.specs.declared.record.Record.{Record}
-use Rattle.rules.specs.declared.state.State.{State}
 use Rattle.rules.specs.Layout.{recordsRoom}
-use Rattle.rules.specs.Parameters.{paramsOf, scenesOf}
 use Rattle.rules.specs.Steps.{Moved, fresh, clockMove}
 use Rattle.rules.specs.Status.{recordOf, byItself}
-use Rattle.rules.specs.Readings.{cues, verdict, readInputs}
+use Rattle.rules.specs.Readings.{cues, verdict}
 use Rattle.rules.specs.Files.{inputCount, endTime, parametersIn, lentEnough}
 use Rattle.rules.specs.Runs.{recordOctets, recordsOctets}
 use Rattle.rules.proofs.Laws.Parameters.{passed-is-sound}
@@ -35,7 +33,6 @@ use Rattle.sensor.specs.declared.state.Sensor.{Sensor}
 use Rattle.sensor.specs.Reactions.{hear}
 use Rattle.sensor.specs.Sensors.{freshSensor}
 use Rattle.pairs.specs.Pairs.{Pair, pairOf, hears, pairMove}
-use Rattle.pairs.specs.Calls.{pairSound}
 use Rattle.pairs.specs.Lists.{Listed, PairPlayed, pairPlays, pairPlaysTo, playItems}
 use Rattle.pairs.specs.Walls.{fileIn, actionsIn, readWall, playWall, wallAccepted, wallRefused, wallCall}
 use Rattle.pairs.specs.Refusals.{GoodWall}

@@ -1,6 +1,5 @@
 -- A wall list as the code checks it.
 use Prim.Native.Nat.{ℕ}
-use mathlib.Core.Bool.{true}
 use mathlib.Core.List.{List}
 use Rattle.base.specs.declared.refusal.Check.{Check}
 use Rattle.base.specs.Refusals.{orElse}

@@ -27,7 +27,7 @@ use Rattle.rules.proofs.Refusals.Files.{start-decides, good-start-passes}
 use Rattle.rules.proofs.Refusals.Runs.{lent-enough-exactly-when, records-length}
 use Rattle.sensor.specs.Actions.{checkActions}
 use Rattle.sensor.specs.Sensors.{freshSensor, ownSensor}
-use Rattle.sensor.specs.Refusals.{ActionsWhen, GoodActions}
+use Rattle.sensor.specs.Refusals.{GoodActions}
 use Rattle.sensor.proofs.Actions.{actions-decide}
 use Rattle.pairs.specs.Pairs.{Pair, pairStep}
 use Rattle.pairs.specs.Lists.{Listed, listed, pairPlays, pairPlaysTo, pairStart, playItems}

@@ -1,11 +1,9 @@
 use Rattle.records.specs.Notes.{notes}
 use Rattle.timers.specs.Ticks.{clocked}
-use Rattle.rules.specs.Steps.{clockMove}
 use Rattle.phases.proofs.Rooms.{sound-room, moved-roomy}
 use Rattle.rules.proofs.Laws.Records.{a-move-writes-at-most-two}
 use Rattle.rules.proofs.Laws.Soundness.{move-clock, move-params}
 use Rattle.actuator.proofs.Taken.{step-is-the-move-and-the-act}
-use borrow.Author.Needs.{needs}
 use Rattle.actuator.proofs.step.step_input.Statement.{statement}
 use Rattle.actuator.proofs.step.step_input.Tie as tie
 

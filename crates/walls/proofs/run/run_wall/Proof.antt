@@ -4,7 +4,7 @@ use denote.Ref.{now}
 use borrow.Author.Needs.{needs}
 use Rattle.rules.specs.Readings.{cues}
 use Rattle.buffers.proofs.Standing.{enough-room}
-use Rattle.pairs.specs.Walls.{fileIn, readWall}
+use Rattle.pairs.specs.Walls.{readWall}
 use Rattle.pairs.specs.Refusals.{GoodWall}
 use Rattle.pairs.proofs.Refusals.Walls.{good-wall}
 use Rattle.walls.specs.Playing.{itemsIn}
