@@ -113,7 +113,7 @@ enum house_attribute {
 /* An answer to an input. A stopped input is dropped for good. */
 enum house_answer {
     HOUSE_CHANGED = 0,         /* it changed something */
-    HOUSE_UNCHANGED = 1,       /* it was taken, and changed nothing but the clock */
+    HOUSE_UNCHANGED = 1,       /* it was taken, and changed nothing but the clock; or an edge that sends nothing */
     HOUSE_STOPPED_BY_FORCE = 2,
     HOUSE_STOPPED_BY_LOCK = 3,
     HOUSE_STOPPED_BY_BUS = 4,  /* the bus is down */
