@@ -1,17 +1,17 @@
 #!/usr/bin/env bash
 # Instructions and time of the proved runs against the second model in Rust, over the kinds of show of shows.rs.
 # Needs valgrind and rustc. Both sides are compiled for this machine's own processor: the proved run from the very code that
-# `rt staticlib house` compiles, at -O3.
+# `rt staticlib house` and `rt staticlib walls` compile, at -O3.
 set -eu
 cd "$(dirname "$0")/.."
 . tests/kit.sh
 out=target/bench
 mkdir -p "$out"
 
-# An object of the proved library for this machine: the kit's compiler is asked for the archive, and what it hands to its back
-# end (LLVM bitcode) is compiled for this processor.
+# native_object CRATE: an object of a proved library for this machine: the kit's compiler is asked for the archive, and what it hands to
+# its back end (LLVM bitcode) is compiled for this processor.
 native_object() {
-    local work=$out/object words=() crate
+    local name=$1 work=$out/object words=() crate
     rm -rf "$work"
     mkdir -p "$work/bin"
     ln -s "$kit_tools/lib" "$work/lib"
@@ -19,11 +19,11 @@ native_object() {
     printf '#!/bin/bash\nfor a in "$@"; do case "$a" in *.bc) cp "$a" %q ;; esac; done\nexec %q "$@"\n' \
         "$PWD/$work/module.bc" "$kit_tools/bin/clang" >"$work/bin/clang"
     chmod +x "$work/bin/clang"
-    for crate in $(sed -n 's/^house: *//p' crates.txt); do words+=(--extern "$crate=target/rlib/$crate.rlib"); done
-    "$kit_own/bin/rattle" build --crate-name house crates/house/src/lib.rt --extern "std=$kit_own/rlib/std.rlib" "${words[@]}" \
+    for crate in $(sed -n "s/^$name: *//p" crates.txt); do words+=(--extern "$crate=target/rlib/$crate.rlib"); done
+    "$kit_own/bin/rattle" build --crate-name "$name" "crates/$name/src/lib.rt" --extern "std=$kit_own/rlib/std.rlib" "${words[@]}" \
         -L dependency=target/rlib -L "dependency=$kit_own/rlib" --antt-project "$kit_home/logic/antt-project.json" \
-        --logic-built "$kit_own/logic-built" --toolchain "$work" --crate-type staticlib -o "$work/house.a" >"$work/log" 2>&1
-    "$kit_tools/bin/clang" "--target=$(uname -m)-unknown-linux-gnu" -O3 -fPIC -x ir -c "$work/module.bc" -o "$out/house.o" \
+        --logic-built "$kit_own/logic-built" --toolchain "$work" --crate-type staticlib -o "$work/$name.a" >"$work/log" 2>&1
+    "$kit_tools/bin/clang" "--target=$(uname -m)-unknown-linux-gnu" -O3 -fPIC -x ir -c "$work/module.bc" -o "$out/$name.o" \
         -Wno-override-module 2>/dev/null
 }
 
@@ -47,9 +47,10 @@ ratio() {
     awk "BEGIN { printf \"%.2f\", $1 / $2 }"
 }
 
-rt check house >"$out/check" 2>&1
-native_object
-rustc --edition 2021 -C opt-level=3 -C codegen-units=1 bench/bench.rs -o "$out/bench" -C link-arg="$out/house.o"
+rt check house walls >"$out/check" 2>&1
+native_object house
+native_object walls
+rustc --edition 2021 -C opt-level=3 -C codegen-units=1 bench/bench.rs -o "$out/bench" -C link-arg="$out/house.o" -C link-arg="$out/walls.o"
 "$out/bench" shows >"$out/shows"
 
 echo "| show | inputs | change | change nothing | stopped | records | of timers |"

@@ -1,5 +1,5 @@
 /* Plays the wall list on standard input and says in words what the house does and what becomes of each press.
- * x86-64: cc -I include examples/wall.c target/staticlib/libhouse.a -o wall && ./wall < shows/foyer.wall */
+ * x86-64: cc -I include examples/wall.c target/staticlib/libwalls.a -o wall && ./wall < shows/foyer.wall */
 #include <stdio.h>
 
 #include "house.h"

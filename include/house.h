@@ -6,7 +6,8 @@
  * rules say, for every octet string and every pair of buffers. They have no state of their own, allocate nothing, print nothing
  * and always return: they may be called from any thread, and from several at once, as long as they lend different buffers.
  *
- * Link with libhouse.a (x86-64 Linux; `rt staticlib house` makes it in target/staticlib).
+ * Link with libhouse.a and, for wall lists, libwalls.a (x86-64 Linux; `rt staticlib house` and `rt staticlib walls` make them in
+ * target/staticlib).
  */
 #ifndef HOUSE_H
 #define HOUSE_H

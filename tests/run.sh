@@ -12,6 +12,7 @@ cd "$(dirname "$0")/.." || exit 2
 passed=0
 failed=0
 out=target/tests
+archives=(target/staticlib/libhouse.a target/staticlib/libwalls.a)
 mkdir -p "$out"
 
 # counted NAME COMMAND..: a command whose last line is 'N passed, M failed'.
@@ -70,13 +71,13 @@ rust() {
 # compared NAME WORDS: tests/NAME.rs, which compares the archive with the second model.
 compared() {
     local name=$1 words=$2 linked=()
-    [ "$way" != linked ] || linked=(--cfg linked -L target/staticlib -l static=house)
+    [ "$way" != linked ] || linked=(--cfg linked -L target/staticlib -l static=house -l static=walls)
     done_or_not "tests/$name.rs is built${linked[*]:+ and linked with the archive}" rust "$name" "${linked[@]}"
     counted "$words" "${run[@]}" "$out/$name" "${kit_run[@]}" "$out/bridge"
 }
 
 build_bridge() {
-    kit_cc "$out/bridge.o" tests/bridge.c && kit_link "$out/bridge" "$out/bridge.o" target/staticlib/libhouse.a
+    kit_cc "$out/bridge.o" tests/bridge.c && kit_link "$out/bridge" "$out/bridge.o" "${archives[@]}"
 }
 
 # build_example NAME: examples/NAME.c, with warnings as errors: by a C compiler for x86-64 where there is one, else by the kit's
@@ -89,7 +90,7 @@ build_example() {
     else
         kit_cc "$out/$name.o" "examples/$name.c" -std=c99 -Iinclude -isystem "$(cc -print-file-name=include)" \
             -isystem /usr/include -isystem "/usr/include/$(uname -m)-linux-gnu"
-    fi && kit_link "$out/$name" "$out/$name.o" target/staticlib/libhouse.a
+    fi && kit_link "$out/$name" "$out/$name.o" "${archives[@]}"
 }
 
 # example_says NAME SHOW: it writes examples/NAME.txt of a show.
@@ -105,8 +106,13 @@ example() {
     done_or_not "examples/$name.c says what the house does in shows/$show" example_says "$name" "$show"
 }
 
-# The archive is made beside what needs neither it nor rt: making it proves its crate once more.
-rt staticlib house >"$out/staticlib" 2>&1 &
+# make_archives: one for each run. Making one proves its crate once more.
+make_archives() {
+    rt staticlib house && rt staticlib walls
+}
+
+# The archives are made beside what needs neither them nor rt.
+make_archives >"$out/staticlib" 2>&1 &
 archive=$!
 choose_way
 if command -v rustc >/dev/null; then
@@ -119,7 +125,7 @@ else
     echo "FAILED: there is no Rust compiler"
 fi
 
-done_or_not "the archive for C is built (rt staticlib house)" wait "$archive"
+done_or_not "the archives for C are built (rt staticlib house, rt staticlib walls)" wait "$archive"
 tail -n 1 "$out/staticlib"
 done_or_not "the bridge is built by the kit alone" build_bridge
 if command -v rustc >/dev/null; then

@@ -1,3 +1,3 @@
-// The run over a cue file: checked, then played into the two lent buffers; and the calls from C, of this run and of the one over a wall list.
+// The run over a cue file, for Rattle and for C: checked, then played into the two lent buffers.
 pub mod c;
 pub mod run;

@@ -12,7 +12,7 @@ use Rattle.rules.specs.Layout.{mostInputs, inputPlace, recordPlace}
 use Rattle.rules.specs.Calls.{ownState}
 use Rattle.rules.specs.Readings.{cues, found, readInputs}
 use Rattle.rules.specs.Files.{inputCount, endTime}
-use Rattle.rules.specs.Runs.{recordsOctets}
+use Rattle.rules.specs.Runs.{recordsOctets, Answered}
 use Rattle.sensor.specs.Sensors.{ownSensor}
 use Rattle.pairs.specs.declared.item.Read.{Read}
 use Rattle.pairs.specs.declared.item.Read.the-variants.{Known, Unknown}
@@ -66,3 +66,7 @@ wallReport e = record { state = e .state; sensor = e .sensor; code = 0; place = 
 
 abbrev pub wallWhole : WallRan → List ℕ → List ℕ → WallWhole
 wallWhole r records answers = record { report = r; records = records; answers = answers }
+
+-- the number to C, and both buffers at the end
+abbrev pub answered : ℕ → List ℕ → List ℕ → Answered
+answered n records answers = record { number = n; records = records; answers = answers }

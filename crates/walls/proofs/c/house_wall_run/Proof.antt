@@ -2,8 +2,8 @@ use mathlib.Core.Path.{ap}
 use borrow.Author.Needs.{needs}
 use Rattle.rules.specs.Runs.{packed}
 use Rattle.pairs.specs.Walls.{wallAnsweredBy, houseWallRun}
-use Rattle.house.proofs.c.house_wall_run.Statement.{statement}
-use Rattle.house.proofs.c.house_wall_run.Tie as tie
+use Rattle.walls.proofs.c.house_wall_run.Statement.{statement}
+use Rattle.walls.proofs.c.house_wall_run.Tie as tie
 
 returns : tie.Need-returns
 unfolding houseWallRun wallAnsweredBy packed
