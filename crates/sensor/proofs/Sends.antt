@@ -19,7 +19,7 @@ use Rattle.sensor.specs.Claims.{EdgeWith, first-rises, first-falls, seco
 
 -- ---- by its action
 
-sends-by : (a : Action) (last : Bool) → SendsBy a last (sends a last)
+pub sends-by : (a : Action) (last : Bool) → SendsBy a last (sends a last)
 sends-by Nothing last = refl
 sends-by SendOff last = refl
 sends-by SendOn last = refl
@@ -35,6 +35,14 @@ an-edge-sends-by-its-action z a s t second-falls = sends-by (z .falling2) (z .va
 pub a-status-sends-nothing : (z : Sensor) (value : Bool) (t : ℕ) → react z (Status value) t .telegram ≡ Silent
 unfolding react
 a-status-sends-nothing z value t = refl
+
+-- a reaction to an edge is the press of its action
+pub an-edge-is-a-press : (z : Sensor) (a : Action) (s : Signal) (t : ℕ) → EdgeWith z a s → react z s t ≡ press z a t
+unfolding react
+an-edge-is-a-press z a s t first-rises = refl
+an-edge-is-a-press z a s t first-falls = refl
+an-edge-is-a-press z a s t second-rises = refl
+an-edge-is-a-press z a s t second-falls = refl
 
 -- ---- exactly one, or none
 

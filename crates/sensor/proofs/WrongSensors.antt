@@ -5,7 +5,7 @@ use mathlib.Core.List.{List, [], _∷_}
 use mathlib.Core.Logic.{inr}
 use mathlib.Core.Path.{_≡_, refl, sym, _∙_}
 use native.Mathlib.Omega.{arith}
-use Rattle.octets.specs.BigEndian.{octet}
+use Rattle.octets.specs.BigEndian.{octet, octets32}
 use Rattle.octets.specs.Groups.{stampAt}
 use Rattle.base.specs.declared.refusal.Refusal.the-variants.{BadAction}
 use Rattle.sensor.specs.declared.action.Action.the-variants.{Nothing, SendInverse}
@@ -13,12 +13,12 @@ use Rattle.sensor.specs.declared.signal.Edge.the-variants.{Rising}
 use Rattle.sensor.specs.declared.signal.Signal.the-variants.{Button1, Status}
 use Rattle.sensor.specs.declared.signal.Signalled.the-variants.{Meant}
 use Rattle.sensor.specs.declared.state.Sensor.{Sensor}
-use Rattle.sensor.specs.declared.react.Telegram.the-variants.{Silent}
 use Rattle.sensor.specs.Signals.{zeroOrOne, signalled, signalAt}
 use Rattle.sensor.specs.Calls.{telegramOctets}
 use Rattle.sensor.specs.Refusals.{GoodActions, FirstBadAction}
-use Rattle.sensor.specs.Claims.{first-rises, SwitchInput, lastOf}
-use Rattle.sensor.specs.Asked.{Maker, JudgesActions, StartsFresh, Taker, JudgesInputs, Accepted, EdgesSend, StatusesSendNothing, KeepsLast}
+use Rattle.sensor.specs.Claims.{first-rises, SwitchInput}
+use Rattle.sensor.specs.Asked.{Maker, JudgesActions, StartsFresh, Taker, JudgesInputs, Accepted, EdgesSend, KeepsSent, KeepsReceived}
+use Rattle.sensor.proofs.Telegrams.{what-is-sent}
 
 -- ---- four octets
 
@@ -75,6 +75,14 @@ pressed-is-accepted : (value : Bool) → Accepted (toggling value) pressed (Butt
 unfolding signalAt signalled zeroOrOne stampAt
 pressed-is-accepted value = record { sound = omega arith; meant = refl; timely = (omega arith, omega arith) }
 
+-- that edge at 256
+abbrev late : List ℕ
+late = 0 ∷ 0 ∷ 1 ∷ 0 ∷ 11 ∷ 1 ∷ 0 ∷ 0 ∷ []
+
+late-is-accepted : Accepted (toggling false) late (Button1 Rising)
+unfolding signalAt signalled zeroOrOne stampAt
+late-is-accepted = record { sound = omega arith; meant = refl; timely = (omega arith, omega arith) }
+
 reported-is-accepted : (value : Bool) → Accepted (toggling value) reported (Status true)
 unfolding signalAt signalled zeroOrOne stampAt
 reported-is-accepted value = record { sound = omega arith; meant = refl; timely = (omega arith, omega arith) }
@@ -86,13 +94,25 @@ the-sensor-that-refuses-all-inputs-breaks-the-table m refuses judges =
 
 -- one that only ever sends On
 pub the-sensor-that-never-sends-off-breaks-the-toggle : (m : Taker) → ((z : Sensor) (octets : List ℕ) (t : ℕ) → SwitchInput (m z octets .sent) t false → ⊥) → EdgesSend m → ⊥
-the-sensor-that-never-sends-off-breaks-the-toggle m only sends = only (toggling true) pressed _ (sends (toggling true) pressed (Button1 Rising) (pressed-is-accepted true) SendInverse first-rises)
+the-sensor-that-never-sends-off-breaks-the-toggle m only sends =
+    only (toggling true) pressed (stampAt pressed 0) (rw (sends (toggling true) pressed (Button1 Rising) (pressed-is-accepted true) SendInverse first-rises) (what-is-sent (stampAt pressed 0) false))
 
 -- one that keeps its value whatever status it hears
 pub the-sensor-that-ignores-statuses-breaks-the-last-value : (m : Taker) → ((z : Sensor) (octets : List ℕ) (value : Bool) → signalAt octets 0 ≡ Meant (Status value) → m z octets .sensor .value ≡ z .value) →
-    StatusesSendNothing m → KeepsLast m → ⊥
-the-sensor-that-ignores-statuses-breaks-the-last-value m ignores quiet keeps =
+    KeepsReceived m → ⊥
+the-sensor-that-ignores-statuses-breaks-the-last-value m ignores keeps =
     let a = reported-is-accepted false in
-    let sent : m (toggling false) reported .sent ≡ telegramOctets (stampAt reported 0) Silent = quiet (toggling false) reported (Status true) a true refl ∙ unfold telegramOctets in refl in
-    let heard : m (toggling false) reported .sensor .value ≡ true = keeps (toggling false) reported (Status true) a Silent sent ∙ unfold lastOf in refl in
+    let heard = keeps (toggling false) reported (Status true) a true refl in
     true≢false (sym heard ∙ ignores (toggling false) reported true (a .meant))
+
+-- one that keeps its value whatever it sends
+pub the-sensor-that-forgets-what-it-sent-breaks-the-last-value : (m : Taker) → ((z : Sensor) (octets : List ℕ) → m z octets .sensor .value ≡ z .value) → KeepsSent m → ⊥
+the-sensor-that-forgets-what-it-sent-breaks-the-last-value m forgets keeps =
+    true≢false (sym (keeps (toggling false) pressed (Button1 Rising) (pressed-is-accepted false) SendInverse first-rises) ∙ forgets (toggling false) pressed)
+
+-- one that writes a stamp into one octet, above 255: it reads as the same stamp, and the octets are others
+pub the-sensor-that-writes-a-stamp-into-one-octet-breaks-what-is-sent : (m : Taker) →
+    ((z : Sensor) (octets : List ℕ) → octet (m z octets .sent) 2 ≡ 0) → EdgesSend m → ⊥
+the-sensor-that-writes-a-stamp-into-one-octet-breaks-what-is-sent m short sends =
+    let third : octet (m (toggling false) late .sent) 2 ≡ 1 = rw (sends (toggling false) late (Button1 Rising) late-is-accepted SendInverse first-rises) (unfold telegramOctets octets32 stampAt in refl) in
+    omega (arith, short (toggling false) late, third)

@@ -1,5 +1,5 @@
--- What is asked of any sensor, of the call with four octets and of the call with one input. Ours meets it (proofs/Meets.antt); wrong ones
--- break it (proofs/WrongSensors.antt).
+-- What is asked of any sensor, of the call with four octets and of the call with one input. Ours meets it and no
+-- other does (proofs/Meets.antt); wrong ones break it (proofs/WrongSensors.antt).
 use Prim.Native.Nat.{ℕ, _≤_}
 use mathlib.Core.Bool.{Bool, false}
 use mathlib.Core.List.{List, [], _∷_}
@@ -12,14 +12,14 @@ use Rattle.sensor.specs.declared.signal.Signal.{Signal}
 use Rattle.sensor.specs.declared.signal.Signal.the-variants.{Status}
 use Rattle.sensor.specs.declared.signal.Signalled.the-variants.{Meant}
 use Rattle.sensor.specs.declared.state.Sensor.{Sensor}
-use Rattle.sensor.specs.declared.react.Telegram.{Telegram}
 use Rattle.sensor.specs.declared.call.FreshSensor.{FreshSensor}
 use Rattle.sensor.specs.declared.call.Sensed.{Sensed}
 use Rattle.sensor.specs.Actions.{actionNumber}
 use Rattle.sensor.specs.Signals.{signalAt}
+use Rattle.sensor.specs.Reactions.{sends, lastAfter}
 use Rattle.sensor.specs.Calls.{telegramOctets}
 use Rattle.sensor.specs.Refusals.{GoodActions, FreshSensorCodes, SensorCodes}
-use Rattle.sensor.specs.Claims.{EdgeWith, silence, SentBy, valueOf, lastOf}
+use Rattle.sensor.specs.Claims.{EdgeWith, silence}
 
 -- ---- four octets
 
@@ -46,6 +46,12 @@ StartsFresh m = (octets : List ℕ) → GoodActions octets → FreshWith octets 
 abbrev pub RefusesIdle : Maker → Type 0
 RefusesIdle m = (octets : List ℕ) → (m octets .code ≡ 0 → ⊥) → FreshWith (0 ∷ 0 ∷ 0 ∷ 0 ∷ []) (m octets .sensor)
 
+-- all of it
+pub record MakerMeets (m : Maker) : Type 0 where
+  pub judges : JudgesActions m
+  pub starts-fresh : StartsFresh m
+  pub refuses-idle : RefusesIdle m
+
 -- ---- one input
 
 abbrev pub Taker : Type 0
@@ -64,16 +70,19 @@ pub record Accepted (z : Sensor) (octets : List ℕ) (s : Signal) : Type 0 where
 abbrev pub OfEveryAccepted : (Sensor → List ℕ → Signal → Type 0) → Type 0
 OfEveryAccepted Claim = (z : Sensor) (octets : List ℕ) (s : Signal) → Accepted z octets s → Claim z octets s
 
--- an edge sends exactly by its action, with its own stamp; a status sends nothing
+-- an edge sends exactly by its action, with its own stamp, in these octets and no others; a status sends nothing
 abbrev pub EdgesSend : Taker → Type 0
-EdgesSend m = OfEveryAccepted (λ z octets s. (a : Action) → EdgeWith z a s → SentBy a (z .value) (stampAt octets 0) (m z octets .sent))
+EdgesSend m = OfEveryAccepted (λ z octets s. (a : Action) → EdgeWith z a s → m z octets .sent ≡ telegramOctets (stampAt octets 0) (sends a (z .value)))
 
 abbrev pub StatusesSendNothing : Taker → Type 0
 StatusesSendNothing m = OfEveryAccepted (λ z octets s. (value : Bool) → s ≡ Status value → m z octets .sent ≡ silence)
 
--- what is sent or received is the value from then on
-abbrev pub KeepsLast : Taker → Type 0
-KeepsLast m = OfEveryAccepted (λ z octets s. (sent : Telegram) → m z octets .sent ≡ telegramOctets (stampAt octets 0) sent → m z octets .sensor .value ≡ lastOf (z .value) (valueOf s sent))
+-- what is sent or received is the value from then on; an edge that sends nothing leaves it
+abbrev pub KeepsSent : Taker → Type 0
+KeepsSent m = OfEveryAccepted (λ z octets s. (a : Action) → EdgeWith z a s → m z octets .sensor .value ≡ lastAfter (sends a (z .value)) (z .value))
+
+abbrev pub KeepsReceived : Taker → Type 0
+KeepsReceived m = OfEveryAccepted (λ z octets s. (value : Bool) → s ≡ Status value → m z octets .sensor .value ≡ value)
 
 -- the clock is the stamp, and no action changes
 pub record MovedTo (t : ℕ) (z later : Sensor) : Type 0 where
@@ -89,3 +98,13 @@ KeepsActions m = OfEveryAccepted (λ z octets s. MovedTo (stampAt octets 0) z (m
 -- "A refused call .. hands back the state it was given", and sends nothing
 abbrev pub RefusesCleanly : Taker → Type 0
 RefusesCleanly m = (z : Sensor) (octets : List ℕ) → (m z octets .code ≡ 0 → ⊥) → (m z octets .sensor ≡ z) × (m z octets .place ≡ 0) × (m z octets .sent ≡ silence)
+
+-- all of it
+pub record TakerMeets (m : Taker) : Type 0 where
+  pub judges : JudgesInputs m
+  pub edges-send : EdgesSend m
+  pub statuses-send-nothing : StatusesSendNothing m
+  pub keeps-sent : KeepsSent m
+  pub keeps-received : KeepsReceived m
+  pub keeps-actions : KeepsActions m
+  pub refuses-cleanly : RefusesCleanly m
