@@ -1,30 +1,37 @@
 -- What eight octets of a joined list mean: an input as the actuator takes it, or an edge as the sensor does.
 use Prim.Native.Nat.{ℕ, _≤_}
-use mathlib.Core.Bool.{Bool, true, false}
-use mathlib.Core.List.{List}
+use mathlib.Core.Bool.{Bool, true, false, cond}
+use mathlib.Core.List.{List, _++_}
 use mathlib.Core.Logic.{_↔_}
-use mathlib.Core.Path.{_≡_, refl}
+use mathlib.Core.Path.{_≡_, refl, sym, _∙_}
 use native.Mathlib.Omega.{arith}
+use Rattle.octets.specs.Groups.{stampAt}
 use Rattle.base.proofs.Tests.{no}
 use Rattle.rules.specs.declared.input.Input.{Input}
 use Rattle.rules.specs.declared.input.Input.the-variants.{SwitchOnOff, TimedStartStop, NumberedSceneControl, SwitchOnOffForced, LockDevice, NightMode, Bus, Power}
 use Rattle.rules.specs.declared.input.Decoded.{Decoded}
 use Rattle.rules.specs.declared.input.Decoded.the-variants as input
-use Rattle.rules.specs.Inputs.{kind, inputAt}
+use Rattle.rules.specs.Inputs.{kind, zeroOrOne, decoded, inputAt}
+use Rattle.rules.specs.Steps.{act}
+use Rattle.rules.specs.Lists.{still}
 use Rattle.rules.proofs.Laws.Inputs.{input-kind, input-number}
 use Rattle.sensor.specs.declared.signal.Edge.{Edge}
 use Rattle.sensor.specs.declared.signal.Signal.{Signal}
 use Rattle.sensor.specs.declared.signal.Signal.the-variants as signal
 use Rattle.sensor.specs.declared.signal.Signalled.{Signalled}
 use Rattle.sensor.specs.declared.signal.Signalled.the-variants as signalled
+use Rattle.sensor.specs.declared.state.Sensor.{Sensor}
+use Rattle.sensor.specs.declared.react.Telegram.the-variants.{Switch}
 use Rattle.sensor.specs.Signals.{signalKind, signalAt}
+use Rattle.sensor.specs.Calls.{telegramOctets}
 use Rattle.sensor.proofs.Signals.{signal-exactly-when}
+use Rattle.sensor.proofs.Telegrams.{what-is-sent}
 use Rattle.pairs.specs.declared.item.Item.{Item}
 use Rattle.pairs.specs.declared.item.Item.the-variants.{Plain, Button1, Button2}
-use Rattle.pairs.specs.declared.item.Item.the-variants.{Button1, Button2}
 use Rattle.pairs.specs.declared.item.Read.{Read}
 use Rattle.pairs.specs.declared.item.Read.the-variants.{Known, Unknown}
 use Rattle.pairs.specs.Items.{itemOf, itemAt}
+use Rattle.pairs.specs.Pairs.{hears, PairMoved, PairStepped, tell}
 use Rattle.pairs.proofs.Soundness.{SceneFits}
 
 -- whether they mean anything
@@ -105,3 +112,33 @@ pub item-fits : (octets : List ℕ) (at : ℕ) (i : Item) → itemAt octets at �
 item-fits octets at (Plain i) e = input-number octets at i (plain-exactly-when octets at i .0 e)
 item-fits octets at (Button1 edge) e = tt
 item-fits octets at (Button2 edge) e = tt
+
+-- ---- what an edge sends is one of the actuator's own inputs
+
+-- read back from its octets, a telegram is the switch input of its value, at its stamp
+pub record ReadsAsSwitch (octets : List ℕ) (t : ℕ) (value : Bool) : Type 0 where
+  pub stamp : stampAt octets 0 ≡ t
+  pub meant : inputAt octets 0 ≡ input.Meant (SwitchOnOff value)
+
+switch-meant : (value : Bool) → decoded 1 (cond value 1 0) ≡ input.Meant (SwitchOnOff value)
+unfolding decoded zeroOrOne
+switch-meant true = refl
+switch-meant false = refl
+
+pub a-telegram-is-a-switch-input : (t : ℕ) (value : Bool) → ReadsAsSwitch (telegramOctets t (Switch value)) t value
+a-telegram-is-a-switch-input t value = let sent = what-is-sent t value in record { stamp = sent .stamp; meant = unfold inputAt in rw (sent .zeros, sent .kind, sent .value) (switch-meant value) }
+
+-- The pair plays exactly that input: what the octets of a telegram mean to the actuator is what acts when the telegram is told, while the
+-- clock stands at the edge's stamp; state, answer and records are those of that input.
+pub record PlayedAs (i : Input) (m : PairMoved) (z : Sensor) (d : PairStepped) : Type 0 where
+  pub state : d .pair .actuator ≡ act (still (m .pair .actuator)) i .state
+  pub sensor : d .pair .sensor ≡ hears (act (still (m .pair .actuator)) i .records) z
+  pub answer : d .answer ≡ act (still (m .pair .actuator)) i .answer
+  pub records : d .records ≡ m .records ++ act (still (m .pair .actuator)) i .records
+
+pub a-telegram-is-played-as-its-octets-mean : (t : ℕ) (value : Bool) (i : Input) → inputAt (telegramOctets t (Switch value)) 0 ≡ input.Meant i → (m : PairMoved) (z : Sensor) →
+    PlayedAs i m z (tell (Switch value) m z)
+a-telegram-is-played-as-its-octets-mean t value i e m z =
+    let read = sym e ∙ a-telegram-is-a-switch-input t value .meant in
+    let same : i ≡ SwitchOnOff value = cc in
+    rw same (unfold tell in record { state = refl; sensor = refl; answer = refl; records = refl })
