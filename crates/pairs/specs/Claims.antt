@@ -42,7 +42,7 @@ unfoldable pub itemTies : ℕ → List Item → List Listed
 itemTies t [] = []
 itemTies t (i ∷ is) = listed t i ∷ itemTies t is
 
--- "a press at the very stamp of a timer comes after it; ties keep list order": the clock of the pair moves to t, by every timer due at or before it,
+-- a press at the very stamp of a timer comes after it; ties keep list order: the clock of the pair moves to t, by every timer due at or before it,
 -- each record heard; then the items act in list order, while the clock stands
 abbrev pub TiesAfterTimers : Pair → ℕ → Item → List Item → Type 0
 TiesAfterTimers p t i is = pairPlays (itemTies t (i ∷ is)) p ≡ pairThen (pairMoved (pairMove p t)) (pairActs t (i ∷ is))
@@ -55,7 +55,7 @@ Toggles z (Plain i) = ⊥
 Toggles z (Button1 edge) = actionOfEdge1 z edge ≡ SendInverse
 Toggles z (Button2 edge) = actionOfEdge2 z edge ≡ SendInverse
 
--- "a dropped telegram still toggles the next press": where nothing is recorded between the two
+-- a dropped telegram still toggles the next press: where nothing is recorded between the two
 abbrev pub DroppedStillToggles : Pair → Type 0
 DroppedStillToggles p =
     (i j : Item) (t u : ℕ) (why : Why) → Toggles (p .sensor) i → Toggles (p .sensor) j →
@@ -86,7 +86,7 @@ pub record Struck (before whole struck : PairPlayed) : Type 0 where
   pub whole-telegrams : whole .telegrams ≡ before .telegrams ++ (Silent ∷ telegrams-later)
   pub struck-telegrams : struck .telegrams ≡ before .telegrams ++ telegrams-later
 
--- "a silent edge (action 0) may be struck and nothing else changes"
+-- a silent edge (action 0) may be struck and nothing else changes
 abbrev pub SilentMayBeStruck : ℕ → List Listed → Pair → Type 0
 SilentMayBeStruck end items p =
     (before : List Listed) (t : ℕ) (i : Item) (later : List Listed) → before ++ (listed t i ∷ later) ≡ items → IsSilent (pairPlays before p .pair) t i →

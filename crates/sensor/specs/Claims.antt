@@ -28,14 +28,14 @@ pub data EdgeWith (z : Sensor) : Action → Signal → Type 0 where
   second-rises : EdgeWith z (z .rising2) (Button2 Rising)
   second-falls : EdgeWith z (z .falling2) (Button2 Falling)
 
--- "an edge sends nothing, Off, On or the inverse of the last value .. exactly by its action"
+-- an edge sends nothing, Off, On or the inverse of the last value, exactly by its action
 abbrev pub SendsBy : Action → Bool → Telegram → Type 0
 SendsBy Nothing last sent = sent ≡ Silent
 SendsBy SendOff last sent = sent ≡ Switch false
 SendsBy SendOn last sent = sent ≡ Switch true
 SendsBy SendInverse last sent = sent ≡ Switch (not last)
 
--- how many are sent: "every edge whose action is not 0 sends exactly one", and nothing else sends
+-- how many are sent: every edge whose action is not 0 sends exactly one, and nothing else sends
 abbrev pub asksFor : Action → ℕ
 asksFor action = cond (eqb (actionNumber action) 0) 0 1
 
@@ -91,7 +91,7 @@ pub record SwitchInput (octets : List ℕ) (t : ℕ) (on : Bool) : Type 0 where
 abbrev pub silence : List ℕ
 silence = 0 ∷ 0 ∷ 0 ∷ 0 ∷ 0 ∷ 0 ∷ 0 ∷ 0 ∷ []
 
--- what an action sends at t; "what is sent has the edge's stamp"
+-- what an action sends at t; what is sent has the edge's stamp
 abbrev pub SentBy : Action → Bool → ℕ → List ℕ → Type 0
 SentBy Nothing last t octets = octets ≡ silence
 SentBy SendOff last t octets = SwitchInput octets t false
