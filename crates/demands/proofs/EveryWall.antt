@@ -119,7 +119,7 @@ module _ (wall : List ℕ) (items : List Listed) (read : readWall wall ≡ cues 
   a-wall-has-some-time = passed-has-some-time (parametersIn file) (good .start .passed)
 
   -- demand 2 over the pair: state, records and answers are the actuator's, over what it is given
-  pub a-wall-run-is-the-actuators : ActuatorHalf (wallEnd wall) items (begun wall) (playWall wall items) (playList (wallParams wall) (wallScenes wall) (cuesGiven wall items) (wallEnd wall))
+  pub a-wall-run-is-the-actuators : ActuatorHalf items (begun wall) (playWall wall items) (playList (wallParams wall) (wallScenes wall) (cuesGiven wall items) (wallEnd wall))
   unfolding playWall
   a-wall-run-is-the-actuators = the-run-is-the-actuators (wallParams wall) (wallScenes wall) (freshSensor (actionsIn wall)) items (wallEnd wall) items-rise
 

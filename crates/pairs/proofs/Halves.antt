@@ -200,7 +200,7 @@ the-actuator-is-itself end last items p r = let h = halves end last items p r in
 -- the whole run, from the start record on
 pub the-run-is-the-actuators : (k : Params) (scenes : List Scene) (z : Sensor) (items : List Listed) (end : ℕ) → ItemsRise 0 items end →
     let begun : Pair = pairStart k scenes z .pair in
-    ActuatorHalf end items begun (playItems k scenes z items end) (playList k scenes (given (cuesFor items begun)) end)
+    ActuatorHalf items begun (playItems k scenes z items end) (playList k scenes (given (cuesFor items begun)) end)
 unfolding playItems playList
 the-run-is-the-actuators k scenes z items end r =
     let h = the-actuator-is-itself end 0 items (pairStart k scenes z .pair) r in

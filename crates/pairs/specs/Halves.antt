@@ -52,13 +52,13 @@ answered (none ∷ later) answers = 1 ∷ answered later answers
 answered (some c ∷ later) [] = []
 answered (some c ∷ later) (a ∷ answers) = a ∷ answered later answers
 
-pub record ActuatorHalf (end : ℕ) (items : List Listed) (p : Pair) (pair : PairPlayed) (alone : Played) : Type 0 where
+pub record ActuatorHalf (items : List Listed) (p : Pair) (pair : PairPlayed) (alone : Played) : Type 0 where
   pub state : pair .pair .actuator ≡ alone .state
   pub records : pair .records ≡ alone .records
   pub answers : pair .answers ≡ answered (cuesFor items p) (alone .answers)
 
 abbrev pub ActuatorAlone : ℕ → List Listed → Pair → Type 0
-ActuatorAlone end items p = ActuatorHalf end items p (pairPlaysTo end items p) (playsTo end (given (cuesFor items p)) (p .actuator))
+ActuatorAlone end items p = ActuatorHalf items p (pairPlaysTo end items p) (playsTo end (given (cuesFor items p)) (p .actuator))
 
 -- ---- the sensor's half
 
@@ -86,7 +86,8 @@ unfoldable pub signalsFor : ℕ → List Listed → Pair → List Stamped
 signalsFor end [] p = statuses (pairMove p end .records)
 signalsFor end (listed t i ∷ later) p = signalsOf p t i ++ signalsFor end later (pairStep p i t .pair)
 
--- the values that were sent
+-- The values that were sent, compared in the order in which they were sent. Where and when each was sent is the actuator's half, whose cues have
+-- the stamps.
 unfoldable pub spoken : List Telegram → List Bool
 spoken [] = []
 spoken (Silent ∷ later) = spoken later
