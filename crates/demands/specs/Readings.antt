@@ -1,5 +1,7 @@
--- Sentences of 02, [1], that can be read in two ways over the pair: for each a short list that tells the readings apart, with every answer,
--- record and telegram of its run by the reading that is taken. (Checked: proofs/Readings.antt.)
+-- Sentences of 02, [1], that can be read in two ways over the pair. In the table here are those that a short list from the start tells apart:
+-- what was sent and what is heard, in which order, and what an edge is answered; with every answer, record and telegram of its run by the
+-- reading that is taken. (Checked: proofs/Readings.antt.) In proofs/Readings.antt alone: a pair that is handed in, the stamps, kinds and end
+-- of a list, and what counts as a cue. In crates/sensor/proofs/Readings.antt: those of the sensor alone, its octets, codes and edges.
 use Prim.Native.Nat.{ℕ}
 use mathlib.Core.Bool.{true, false}
 use mathlib.Core.List.{List, [], _∷_}

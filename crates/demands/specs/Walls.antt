@@ -47,7 +47,8 @@ cuesGiven wall items = given (cuesFor items (begun wall))
 abbrev pub WallModel : Type 0
 WallModel = List ℕ → List ℕ → List ℕ → WallWhole
 
--- 1: "Every octet string .. gets a numbered answer": 1 to 8, or 11 for an action above 3 (9 is for a state that was handed in)
+-- 1: "Every octet string .. gets a numbered answer": 0 where it is accepted, 1 to 8, or 11 for an action above 3 (9 is for a state that was
+-- handed in)
 abbrev pub WallAnswersAll : WallModel → Type 0
 WallAnswersAll m = (wall records answers : List ℕ) → (m wall records answers .report .code ≤ 8) ⊎ (m wall records answers .report .code ≡ 11)
 

@@ -1,5 +1,5 @@
--- Runs over a wall list that are shut out. Each judges a list as the table does and plays it by a step of its own. What each breaks is proved
--- in proofs/WrongWalls.antt.
+-- Runs over a wall list that are shut out. Two judge a list as the table does, and each plays it by a step of its own; the third judges
+-- otherwise: it refuses lists that the table accepts. What each breaks is proved in proofs/WrongWalls.antt.
 use Prim.Native.Nat.{ℕ}
 use mathlib.Core.List.{List, [], _∷_}
 use mathlib.Core.Logic.{_⊎_}
