@@ -40,18 +40,18 @@ use Rattle.demands.specs.Joined.{inputIn, inputsIn, singlePlayed, movePl
 -- ---- one call
 
 -- the eight octets say what the file says at their place
-input-octet : (file : List ℕ) (i j : ℕ) → j < 8 → octet (inputIn file i) j ≡ octet file (inputPlace i + j)
+pub input-octet : (file : List ℕ) (i j : ℕ) → j < 8 → octet (inputIn file i) j ≡ octet file (inputPlace i + j)
 unfolding inputIn
 input-octet file i j h = getD-take 8 (drop (inputPlace i) file) j 0 h ∙ getD-drop (inputPlace i) file j 0
 
-same-stamp : (file : List ℕ) (i : ℕ) → stampAt (inputIn file i) 0 ≡ stampAt file (inputPlace i)
+pub same-stamp : (file : List ℕ) (i : ℕ) → stampAt (inputIn file i) 0 ≡ stampAt file (inputPlace i)
 unfolding stampAt
 same-stamp file i =
     let e3 : inputPlace i + 3 ≡ inputPlace i + 2 + 1 = omega arith in
     let e0 : inputPlace i + 0 ≡ inputPlace i = omega arith in
     rw (input-octet file i 0 (omega arith), input-octet file i 1 (omega arith), input-octet file i 2 (omega arith), input-octet file i 3 (omega arith), e3, e0)
 
-same-input : (file : List ℕ) (i : ℕ) → inputAt (inputIn file i) 0 ≡ inputAt file (inputPlace i)
+pub same-input : (file : List ℕ) (i : ℕ) → inputAt (inputIn file i) 0 ≡ inputAt file (inputPlace i)
 unfolding inputAt
 same-input file i =
     rw (input-octet file i 4 (omega arith), input-octet file i 5 (omega arith), input-octet file i 6 (omega arith), input-octet file i 7 (omega arith))
@@ -105,11 +105,11 @@ joins file (suc left) i s list timely safe early read =
     )
 
 -- accepted parameters give the fresh state
-fresh-played : (octets : List ℕ) → checkParameters octets ≡ Passed → freshCall octets ≡ record { state = fresh (paramsOf octets) (scenesOf octets); code = 0; place = 0 }
+pub fresh-played : (octets : List ℕ) → checkParameters octets ≡ Passed → freshCall octets ≡ record { state = fresh (paramsOf octets) (scenesOf octets); code = 0; place = 0 }
 unfolding freshCall freshBy
 fresh-played octets passed = rw passed
 
-start-is-fresh : (file : List ℕ) → checkParameters (parametersIn file) ≡ Passed → startOf file ≡ fresh (paramsOf (parametersIn file)) (scenesOf (parametersIn file))
+pub start-is-fresh : (file : List ℕ) → checkParameters (parametersIn file) ≡ Passed → startOf file ≡ fresh (paramsOf (parametersIn file)) (scenesOf (parametersIn file))
 unfolding startOf
 start-is-fresh file passed = ap (λ (r : Fresh). r .state) (fresh-played (parametersIn file) passed)
 

@@ -9,6 +9,7 @@ pub mod Meets
 pub mod WrongModels
 -- with a sensor beside the actuator: for every accepted wall list, of any model, by value and over a list
 pub mod EveryWall
+pub mod WallJoined
 pub mod WallShown
 pub mod WallMeets
 pub mod PairMeets

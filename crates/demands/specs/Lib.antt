@@ -3,6 +3,7 @@ pub mod Joined
 pub mod WrongModels
 -- with a sensor beside the actuator
 pub mod Walls
+pub mod WallJoined
 pub mod WrongWalls
 pub mod Pairs
 pub mod Readings

@@ -1,13 +1,13 @@
 -- What is sent, in octets: a switch input with the stamp of its edge, or eight zeros.
 use Prim.Native.Nat.{ℕ, _+_, _*_, _/_, _%_, _<_}
-use mathlib.Core.Bool.{Bool, true, false, cond, not}
+use mathlib.Core.Bool.{Bool, true, false, not}
 use mathlib.Core.List.{List, [], _∷_}
 use mathlib.Core.Path.{_≡_, refl, sym, ap, _∙_}
 use native.Mathlib.Omega.{arith}
 use lib.Dec.{eqb}
 use borrow.Author.Tests.{eqb-true}
 use Rattle.octets.specs.BigEndian.{octet, octets32}
-use Rattle.octets.specs.Groups.{stampAt, kindAt, valueAt}
+use Rattle.octets.specs.Groups.{stampAt}
 use Rattle.octets.proofs.BothWays.{what-is-written-is-read}
 use Rattle.base.proofs.Tests.{both}
 use Rattle.sensor.specs.declared.action.Action.{Action}
@@ -15,7 +15,7 @@ use Rattle.sensor.specs.declared.action.Action.the-variants.{Nothing, Se
 use Rattle.sensor.specs.declared.react.Telegram.{Telegram}
 use Rattle.sensor.specs.declared.react.Telegram.the-variants.{Silent, Switch}
 use Rattle.sensor.specs.Calls.{telegramOctets}
-use Rattle.sensor.specs.Claims.{SendsBy, SwitchInput, silence, SentBy}
+use Rattle.sensor.specs.Claims.{SendsBy, SwitchInput, silence, toldBy, SentBy}
 
 pub what-is-sent : (t : ℕ) (value : Bool) → SwitchInput (telegramOctets t (Switch value)) t value
 unfolding telegramOctets
@@ -63,10 +63,7 @@ sent-in-octets SendOn last t sent e = rw e (what-is-sent t true)
 sent-in-octets SendInverse last t sent e = rw e (what-is-sent t (not last))
 
 -- the octets tell what was sent
-toldBy : List ℕ → Telegram
-toldBy octets = cond (eqb (kindAt octets 0) 0) Silent (Switch (eqb (valueAt octets 0) 1))
-
-told-back : (t : ℕ) (sent : Telegram) → toldBy (telegramOctets t sent) ≡ sent
+pub told-back : (t : ℕ) (sent : Telegram) → toldBy (telegramOctets t sent) ≡ sent
 unfolding toldBy telegramOctets octets32
 told-back t Silent = refl
 told-back t (Switch true) = refl

@@ -91,6 +91,10 @@ pub record SwitchInput (octets : List ℕ) (t : ℕ) (on : Bool) : Type 0 where
 abbrev pub silence : List ℕ
 silence = 0 ∷ 0 ∷ 0 ∷ 0 ∷ 0 ∷ 0 ∷ 0 ∷ 0 ∷ []
 
+-- what eight octets tell that was sent
+unfoldable pub toldBy : List ℕ → Telegram
+toldBy octets = cond (eqb (kindAt octets 0) 0) Silent (Switch (eqb (valueAt octets 0) 1))
+
 -- what an action sends at t; what is sent has the edge's stamp
 abbrev pub SentBy : Action → Bool → ℕ → List ℕ → Type 0
 SentBy Nothing last t octets = octets ≡ silence

@@ -1,0 +1,143 @@
+-- The run over a wall list is the public calls by value, joined in order.
+use Prim.Native.Nat.{ℕ, zero, suc, _+_, _≤_, _<_}
+use mathlib.Core.Bool.{true}
+use mathlib.Core.List.{List, [], _∷_}
+use mathlib.Core.Path.{_≡_, refl, sym, ap, _∙_}
+use native.Mathlib.Omega.{arith}
+use Rattle.octets.specs.BigEndian.{octet}
+use Rattle.octets.specs.Groups.{stampAt}
+use Rattle.base.specs.Time.{lastStamp}
+use Rattle.base.specs.Refusals.{Timely}
+use Rattle.base.proofs.Codes.{timely-exactly-when}
+use Rattle.rules.specs.declared.parameters.Params.{Params}
+use Rattle.rules.specs.declared.parameters.Scene.{Scene}
+use Rattle.rules.specs.Status.{value, recordOf, byItself}
+use Rattle.rules.specs.Steps.{fresh}
+use Rattle.rules.specs.Layout.{inputPlace}
+use Rattle.rules.specs.Readings.{cues, readInputs}
+use Rattle.rules.specs.Files.{inputCount, endTime, parametersIn, lentEnough}
+use Rattle.rules.proofs.Laws.Records.{used-places}
+use Rattle.rules.proofs.Refusals.Readings.{first-read}
+use Rattle.sensor.specs.Reactions.{hear}
+use Rattle.sensor.specs.Signals.{signalAt}
+use Rattle.sensor.specs.Sensors.{freshSensor}
+use Rattle.sensor.specs.Calls.{freshSensorBy, freshSensorCall}
+use Rattle.sensor.specs.Refusals.{GoodActions}
+use Rattle.sensor.proofs.Actions.{good-is-passed}
+use Rattle.sensor.proofs.Telegrams.{told-back}
+use Rattle.pairs.specs.declared.item.Item.{Item}
+use Rattle.pairs.specs.declared.item.Read.the-variants.{Known}
+use Rattle.pairs.specs.declared.call.JointMove.{JointMove}
+use Rattle.pairs.specs.Items.{itemAt}
+use Rattle.pairs.specs.Pairs.{Pair, hears, pairMove, pairStep}
+use Rattle.pairs.specs.Lists.{Listed, PairPlayed, pairThen, pairMoved, pairStepped, pairPlaysTo, pairStart, playItems}
+use Rattle.pairs.specs.Calls.{pairSound, jointDone, jointCall, jointMoveDone, jointMoveCall}
+use Rattle.pairs.specs.Walls.{fileIn, actionsIn, itemIn, readWall, playWall, wallAccepted, wallCall}
+use Rattle.pairs.proofs.Ties.{item-clock}
+use Rattle.pairs.proofs.Soundness.{pair-step-keeps-sound}
+use Rattle.pairs.proofs.Items.{item-fits}
+use Rattle.pairs.proofs.Playing.{pairThen-from, pair-plays-to-next, pair-plays-to-end}
+use Rattle.pairs.proofs.Refusals.Calls.{an-item-writes-at-most-three, a-pair-move-writes-at-most-two, a-good-item-is-played, a-good-move-is-made}
+use Rattle.pairs.proofs.Refusals.Walls.{good-wall, good-wall-is-read, a-good-wall-is-played}
+use Rattle.demands.specs.Joined.{inputIn, inputsIn}
+use Rattle.demands.specs.Walls.{wallParams, wallScenes, wallEnd, begun}
+use Rattle.demands.specs.WallJoined.{jointPlayed, jointMovePlayed, jointCalls, NoJointRefused, wallStartOf, wallInputsIn, wallCallsOf, WallJoined}
+use Rattle.demands.proofs.Joined.{input-octet, same-stamp, same-input, fresh-played, start-is-fresh}
+use Rattle.demands.proofs.EveryWall.{item-said, a-wall-starts-sound}
+
+-- ---- one call
+
+-- the eight octets say what the list says at their place
+same-signal : (file : List ℕ) (i : ℕ) → signalAt (inputIn file i) 0 ≡ signalAt file (inputPlace i)
+unfolding signalAt
+same-signal file i =
+    rw (input-octet file i 4 (omega arith), input-octet file i 5 (omega arith), input-octet file i 6 (omega arith), input-octet file i 7 (omega arith))
+
+same-item : (file : List ℕ) (i : ℕ) → itemAt (inputIn file i) 0 ≡ itemAt file (inputPlace i)
+unfolding itemAt
+same-item file i = rw (same-input file i, same-signal file i)
+
+-- an item that is read without fault is a joined input that is not refused
+an-item-is-a-call : (file : List ℕ) (i : ℕ) (p : Pair) (x : Item) → pairSound p ≡ true → itemAt file (inputPlace i) ≡ Known x → Timely (p .actuator .clock) (stampAt file (inputPlace i)) →
+    jointCall p (inputIn file i) ≡ jointDone (stampAt file (inputPlace i)) (pairStep p x (stampAt file (inputPlace i)))
+an-item-is-a-call file i p x safe known timely =
+    a-good-item-is-played p (inputIn file i) x safe (same-item file i ∙ known) (rw (same-stamp file i) (timely-exactly-when (p .actuator .clock) (stampAt file (inputPlace i)) .1 timely)) ∙ rw (same-stamp file i)
+
+-- what it gives by value is what the step gives
+item-played : (p : Pair) (x : Item) (t : ℕ) → jointPlayed (jointDone t (pairStep p x t)) ≡ pairStepped (pairStep p x t)
+unfolding jointDone
+item-played p x t = rw (used-places 3 (pairStep p x t .records) (an-item-writes-at-most-three p x t), told-back t (pairStep p x t .telegram))
+
+-- the move to the end is a clock move that is not refused
+pair-move-played : (p : Pair) (end : ℕ) → jointMovePlayed (jointMoveDone (pairMove p end)) ≡ pairMoved (pairMove p end)
+unfolding jointMoveDone
+pair-move-played p end = rw (used-places 2 (pairMove p end .records) (a-pair-move-writes-at-most-two p end))
+
+the-end-is-a-call : (p : Pair) (end : ℕ) → pairSound p ≡ true → Timely (p .actuator .clock) end → jointMoveCall p end ≡ jointMoveDone (pairMove p end)
+the-end-is-a-call p end safe timely = a-good-move-is-made p end safe (timely-exactly-when (p .actuator .clock) end .1 timely)
+
+-- ---- all of them
+
+wall-joins : (file : List ℕ) (left i : ℕ) (p : Pair) (items : List Listed) → endTime file ≤ lastStamp → pairSound p ≡ true → p .actuator .clock ≤ endTime file →
+    readInputs (itemIn file) file left i (p .actuator .clock) (endTime file) ≡ cues items →
+    (pairPlaysTo (endTime file) items p ≡ jointCalls (endTime file) (inputsIn file left i) p) × NoJointRefused (endTime file) (inputsIn file left i) p
+unfolding jointCalls inputsIn jointDone
+wall-joins file zero i p items timely safe early read =
+    let none : items ≡ [] = unfold readInputs in cc in
+    let call = the-end-is-a-call p (endTime file) safe (early, timely) in (
+      ap (λ l. pairPlaysTo (endTime file) l p) none ∙ pair-plays-to-end (endTime file) p ∙ sym (ap jointMovePlayed call ∙ pair-move-played p (endTime file)),
+      ap (λ (r : JointMove). r .code) call ∙ unfold jointMoveDone in refl,
+    )
+wall-joins file (suc left) i p items timely safe early read =
+    let f = first-read (itemIn file) file left i (p .actuator .clock) (endTime file) items read in
+    let x = item-said file i (f .input) (f .means) in
+    let t : ℕ = stampAt file (inputPlace i) in
+    let d = pairStep p (x .0) t in
+    let call = an-item-is-a-call file i p (x .0) safe (x .1) (f .risen, omega (arith, f .timely, timely)) in
+    let clock = item-clock p (x .0) t in
+    let safely = pair-step-keeps-sound p (x .0) t safe (f .risen) (omega (arith, f .timely, timely)) (item-fits file (inputPlace i) (x .0) (x .1)) in
+    let rest = wall-joins file left (i + 1) (d .pair) (f .later) timely safely (rw clock (f .timely)) (rw clock (f .reads)) in
+    let same : jointPlayed (jointCall p (inputIn file i)) ≡ pairStepped d = ap jointPlayed call ∙ item-played p (x .0) t in (
+      ap (λ l. pairPlaysTo (endTime file) l p) (f .starts ∙ ap (λ (y : Listed). y ∷ f .later) (x .2))
+          ∙ pair-plays-to-next (endTime file) t (x .0) (f .later) p
+          ∙ pairThen-from (pairStepped d) (pairPlaysTo (endTime file) (f .later)) (jointCalls (endTime file) (inputsIn file left (i + 1))) (rest .0)
+          ∙ sym (ap (λ (a : PairPlayed). pairThen a (jointCalls (endTime file) (inputsIn file left (i + 1)))) same),
+      (rw call, rw call (rest .1)),
+    )
+
+-- ---- the start
+
+-- the start record says off at 0: the fresh sensor knows it
+pub the-start-record-is-known : (k : Params) (scenes : List Scene) (octets : List ℕ) → hears (recordOf byItself (fresh k scenes) ∷ []) (freshSensor octets) ≡ freshSensor octets
+unfolding hears hear freshSensor recordOf fresh value
+the-start-record-is-known k scenes octets = refl
+
+fresh-sensor-made : (octets : List ℕ) → GoodActions octets → freshSensorCall octets ≡ record { sensor = freshSensor octets; code = 0; place = 0 }
+unfolding freshSensorCall freshSensorBy
+fresh-sensor-made octets g = rw (good-is-passed octets g)
+
+-- for any wall list of octets, which are below 256
+pub wall-is-the-calls-joined : (wall : List ℕ) (items : List Listed) → ((j : ℕ) → octet wall j < 256) → readWall wall ≡ cues items → WallJoined wall items
+unfolding wallCallsOf wallInputsIn playWall playItems
+wall-is-the-calls-joined wall items small read =
+    let good = good-wall wall items read in
+    let file : List ℕ = fileIn wall in
+    let made = fresh-sensor-made (actionsIn wall) (good .actions) in
+    let state = start-is-fresh file (good .start .passed) in
+    let known = the-start-record-is-known (wallParams wall) (wallScenes wall) (actionsIn wall) in
+    let first : wallStartOf wall ≡ begun wall = unfold wallStartOf in rw (state, made, known) refl in
+    let all = wall-joins file (inputCount file) 0 (begun wall) items (good .start .header .layout .end) (a-wall-starts-sound wall items read small) (unfold fresh in omega arith) (unfold fresh in sym (good-wall-is-read wall good) ∙ read) in
+    record {
+      fresh = rw (fresh-played (parametersIn file) (good .start .passed));
+      fresh-sensor = rw made;
+      accepted = rw first (all .1);
+      joined =
+          rw (first, state)
+          (pairThen-from (pairStart (wallParams wall) (wallScenes wall) (freshSensor (actionsIn wall))) (pairPlaysTo (wallEnd wall) items) (jointCalls (wallEnd wall) (inputsIn file (inputCount file) 0)) (all .0));
+    }
+
+-- the accepted run, whole: report and both buffers are those of the calls
+pub wall-run-is-the-calls-joined : (wall records answers : List ℕ) (items : List Listed) → ((j : ℕ) → octet wall j < 256) → readWall wall ≡ cues items → lentEnough (fileIn wall) records answers ≡ true →
+    wallCall wall records answers ≡ wallAccepted (wallCallsOf wall) records answers
+wall-run-is-the-calls-joined wall records answers items small read room =
+    a-good-wall-is-played wall records answers items read room ∙ ap (λ (p : PairPlayed). wallAccepted p records answers) (wall-is-the-calls-joined wall items small read .joined)
