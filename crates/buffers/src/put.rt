@@ -17,7 +17,7 @@ use rules::record::Record;
 const RECORD_SIZE: usize = 8;
 
 // Where a record stands that so many others come before.
-fn record_place(count: u32) -> usize
+pub fn record_place(count: u32) -> usize
     ensures { λ r. ⌜ r ≡ recordPlace count ⌝ }
 {
     RECORD_SIZE * (count as usize)

@@ -1,0 +1,71 @@
+-- An item's turn, as the code has it: what the sensor has heard by then, and what the item asks of the actuator.
+use Prim.Native.Nat.{ℕ, _+_, _-_, _≤_}
+use mathlib.Core.Bool.{cond}
+use mathlib.Core.List.{List}
+use mathlib.Core.Option.{Option, some, none}
+use mathlib.Core.Path.{_≡_}
+use lib.Dec.{eqb}
+use Rattle.octets.specs.BigEndian.{octet, be32}
+use Rattle.rules.specs.declared.input.Input.{Input}
+use Rattle.rules.specs.declared.input.Input.the-variants.{SwitchOnOff}
+use Rattle.rules.specs.declared.input.Decoded.the-variants.{Meant}
+use Rattle.rules.specs.Inputs.{decoded}
+use Rattle.rules.specs.Layout.{recordPlace}
+use Rattle.sensor.specs.declared.signal.Signal.the-variants as signal
+use Rattle.sensor.specs.declared.state.Sensor.{Sensor}
+use Rattle.sensor.specs.declared.react.Telegram.{Telegram}
+use Rattle.sensor.specs.declared.react.Telegram.the-variants.{Silent, Switch}
+use Rattle.sensor.specs.declared.react.Reaction.{Reaction}
+use Rattle.sensor.specs.Reactions.{hear, react}
+use Rattle.pairs.specs.declared.item.Item.{Item}
+use Rattle.pairs.specs.declared.item.Item.the-variants.{Plain, Button1, Button2}
+use Rattle.turns.specs.declared.turn.Asked.{Asked}
+use Rattle.turns.specs.declared.turn.Asked.the-variants.{Nothing, Order}
+use Rattle.turns.specs.declared.turn.Turn.{Turn}
+
+-- ---- what the sensor has heard
+
+-- A sensor that has heard the first so many of the records in a buffer, once it has heard all of them: the last one tells.
+unfoldable pub listened : List ℕ → ℕ → Sensor → ℕ → Sensor
+listened records count z heard =
+    let last : ℕ = recordPlace (count - 1) in
+    cond (eqb heard count) z (hear z (be32 records last) (eqb (octet records (last + 4)) 255))
+
+-- ---- what an item asks
+
+-- what the sensor makes of an item: of an input nothing, so that it stays as it is
+abbrev pub decides : Sensor → Item → ℕ → Reaction
+decides z (Plain i) t = record { sensor = z; telegram = Silent }
+decides z (Button1 edge) t = react z (signal.Button1 edge) t
+decides z (Button2 edge) t = react z (signal.Button2 edge) t
+
+-- what the actuator is asked: an input of its own, what an edge sends, or nothing
+abbrev pub sentAs : Telegram → Option Input
+sentAs Silent = none
+sentAs (Switch value) = some (SwitchOnOff value)
+
+abbrev pub asksFor : Item → Telegram → Option Input
+asksFor (Plain i) sent = some i
+asksFor (Button1 edge) sent = sentAs sent
+asksFor (Button2 edge) sent = sentAs sent
+
+-- the same by kind and value
+abbrev pub Asks : Asked → Option Input → Type 0
+Asks Nothing wanted = wanted ≡ none
+Asks (Order kind value) wanted = (x : Input) × (wanted ≡ some x) × (decoded kind value ≡ Meant x)
+
+-- ---- a turn
+
+-- of an edge, where so many records were heard
+abbrev pub askedBy : Telegram → Asked
+askedBy Silent = Nothing
+askedBy (Switch value) = Order 1 (cond value 1 0)
+
+unfoldable pub pressed : Reaction → ℕ → Turn
+pressed r count = record { asked = askedBy (r .telegram); sensor = r .sensor; heard = count }
+
+-- of any item, at t
+pub record Turned (i : Item) (t : ℕ) (records : List ℕ) (count : ℕ) (z : Sensor) (heard : ℕ) (r : Turn) : Type 0 where
+  pub asks : Asks (r .asked) (asksFor i (decides (listened records count z heard) i t .telegram))
+  pub sensor : listened records count (r .sensor) (r .heard) ≡ decides (listened records count z heard) i t .sensor
+  pub behind : r .heard ≤ count
