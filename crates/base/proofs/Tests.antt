@@ -6,6 +6,12 @@ use mathlib.Core.Path.{_≡_, refl, sym}
 use native.Mathlib.Omega.{arith}
 use lib.Dec.{eqb, leb}
 use borrow.Author.Tests.{eq-eqb, eqb-false, leb-true, leb-false}
+use mir.Val.{boolByte}
+
+-- true is stored as 1, false as 0
+pub stored : (b : Bool) → boolByte b ≡ cond b 1 0
+stored true = refl
+stored false = refl
 
 -- a test that both failed and passed
 pub no : {A : Type 0} → false ≡ true → A

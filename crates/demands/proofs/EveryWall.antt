@@ -26,7 +26,7 @@ use Rattle.rules.specs.Files.{inputCount, endTime, parametersIn, cueAt, readFil
 use Rattle.rules.specs.Promises.{Rises, DarkPromise, LightPromise, StrongLightPromise}
 use Rattle.rules.proofs.Laws.Parameters.{passed-has-some-time, passed-is-in-range}
 use Rattle.rules.proofs.Refusals.Readings.{first-read}
-use Rattle.rules.proofs.Refusals.Files.{good-file, good-start, first-cue, parameters-small}
+use Rattle.rules.proofs.Refusals.Files.{good-file, good-start, parameters-small}
 use Rattle.rules.proofs.Promises.Dark.{dark}
 use Rattle.rules.proofs.Promises.Light.{strong-light, light}
 use Rattle.sensor.specs.Sensors.{freshSensor}
@@ -45,22 +45,14 @@ use Rattle.pairs.specs.Refusals.{GoodWall}
 use Rattle.pairs.specs.Walls.{fileIn, actionsIn, stampedItem, itemIn, readWall, playWall}
 use Rattle.demands.specs.Walls.{wallParams, wallScenes, wallEnd, begun, cuesGiven}
 use Rattle.pairs.proofs.Playing.{pair-plays-to-next, pair-plays-to-end}
-use Rattle.pairs.proofs.Halves.{actuatorPart, plainItems, plain-items, cues-rise, the-run-is-the-actuators, the-run-is-the-sensors}
+use Rattle.pairs.proofs.Halves.{actuatorPart, plainItems, cues-rise, the-run-is-the-actuators, the-run-is-the-sensors}
 use Rattle.pairs.proofs.Ties.{item-clock}
 use Rattle.pairs.proofs.Soundness.{SceneFits, pair-move-keeps-sound, pair-step-keeps-sound, pair-start-is-sound}
-use Rattle.pairs.proofs.Items.{plain-exactly-when, item-fits}
+use Rattle.pairs.proofs.Items.{item-fits}
+use Rattle.pairs.proofs.Reading.{item-said, reads-plain, a-plain-list-is-the-actuators}
 use Rattle.pairs.proofs.Refusals.Walls.{file-length, file-octet, good-wall, a-good-start-is-read, good-wall-is-read}
 
 -- ---- items that are read without fault
-
--- what an item of a list is made of
-pub item-said : (file : List ℕ) (j : ℕ) (x : Listed) → itemIn file j ≡ some x → (i : Item) × (itemAt file (inputPlace j) ≡ Known i) × (x ≡ listed (stampAt file (inputPlace j)) i)
-unfolding itemIn
-item-said file j x e = by (itemAt file (inputPlace j)) refl e
-  where
-    by : (r : Read) → itemAt file (inputPlace j) ≡ r → stampedItem (stampAt file (inputPlace j)) r ≡ some x → (i : Item) × (itemAt file (inputPlace j) ≡ Known i) × (x ≡ listed (stampAt file (inputPlace j)) i)
-    by (Known i) m e = (i, m, cc)
-    by Unknown m e = absurd (let z : _≡_ {A = ℕ} 0 1 = cc in omega arith)
 
 -- scenes have numbers up to 63
 abbrev pub AllFit : List Listed → Type 0
@@ -153,22 +145,6 @@ a-wall-run-is-the-sensors wall items = the-run-is-the-sensors (wallParams wall) 
 
 -- ---- a cue file and four actions
 
-one-more : (file : List ℕ) (left j last end : ℕ) (i : Input) (later : List Cue) → inputAt file (inputPlace j) ≡ Meant i → last ≤ stampAt file (inputPlace j) → stampAt file (inputPlace j) ≤ end →
-    readInputs (itemIn file) file left (j + 1) (stampAt file (inputPlace j)) end ≡ cues (plainItems later) →
-    readInputs (itemIn file) file (suc left) j last end ≡ cues (listed (stampAt file (inputPlace j)) (Plain i) ∷ plainItems later)
-unfolding readInputs readOne itemIn
-one-more file left j last end i later meant risen timely rest =
-    rw (plain-exactly-when file (inputPlace j) i .1 meant, le-leb last (stampAt file (inputPlace j)) risen, le-leb (stampAt file (inputPlace j)) end timely, rest) refl
-
--- what the actuator reads without fault is read the same here
-reads-plain : (file : List ℕ) (left j last end : ℕ) (list : List Cue) → readInputs (cueAt file) file left j last end ≡ cues list → readInputs (itemIn file) file left j last end ≡ cues (plainItems list)
-unfolding plainItems
-reads-plain file zero j last end list read = let none : list ≡ [] = unfold readInputs in cc in rw none (unfold readInputs in refl)
-reads-plain file (suc left) j last end list read =
-    let f = first-cue file left j last end list read in
-    let rest = reads-plain file left (j + 1) (stampAt file (inputPlace j)) end (f .later) (f .reads) in
-    rw (f .starts) (one-more file left j last end (f .input) (f .later) (f .meant) (f .risen) (f .timely) rest)
-
 -- so a cue file with four actions is a wall list, and its run is the file's own
 pub a-cue-file-is-a-wall-list : (wall : List ℕ) (list : List Cue) → GoodActions (actionsIn wall) → readFile (fileIn wall) ≡ cues list → readWall wall ≡ cues (plainItems list)
 a-cue-file-is-a-wall-list wall list actions read =
@@ -178,8 +154,5 @@ a-cue-file-is-a-wall-list wall list actions read =
     ∙ reads-plain file (inputCount file) 0 0 (endTime file) list (sym (good-start file start) ∙ read)
 
 pub its-run-is-the-files : (wall : List ℕ) (list : List Cue) → actuatorPart (playWall wall (plainItems list)) ≡ playFile (fileIn wall) list
-unfolding playWall playItems playFile playList
-its-run-is-the-files wall list =
-    let k : Params = paramsOf (parametersIn (fileIn wall)) in
-    let scenes : List Scene = scenesOf (parametersIn (fileIn wall)) in
-    ap (λ (a : Played). andThen (start k scenes) (λ x. a)) (plain-items (endTime (fileIn wall)) list (pairStart k scenes (freshSensor (actionsIn wall)) .pair))
+unfolding playWall playFile
+its-run-is-the-files wall list = a-plain-list-is-the-actuators (wallParams wall) (wallScenes wall) (freshSensor (actionsIn wall)) list (wallEnd wall)

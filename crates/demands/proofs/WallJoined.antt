@@ -43,7 +43,8 @@ use Rattle.demands.specs.Joined.{inputIn, inputsIn}
 use Rattle.demands.specs.Walls.{wallParams, wallScenes, wallEnd, begun}
 use Rattle.demands.specs.WallJoined.{jointPlayed, jointMovePlayed, jointCalls, NoJointRefused, wallStartOf, wallInputsIn, wallCallsOf, WallJoined}
 use Rattle.demands.proofs.Joined.{input-octet, same-stamp, same-input, fresh-played, start-is-fresh}
-use Rattle.demands.proofs.EveryWall.{item-said, a-wall-starts-sound}
+use Rattle.pairs.proofs.Reading.{item-said}
+use Rattle.demands.proofs.EveryWall.{a-wall-starts-sound}
 
 -- ---- one call
 

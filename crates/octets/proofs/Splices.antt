@@ -5,13 +5,21 @@ use mathlib.Core.Path.{_≡_, refl, sym, ap, _∙_}
 use native.Mathlib.Nat.{add-zero, add-assoc}
 use native.Mathlib.Numerals.{add-one}
 use native.Mathlib.Omega.{arith}
-use lib.ListN.{length, take, drop, getD, set, length-append, take-append-drop}
-use lib.Seq.{sets, sets-eq, take-at, drop-at, drop-drop, length-take-le, set-at, drop-cons, append-snoc}
+use lib.ListN.{length, take, drop, getD, set, length-append, take-append-drop, List·getD-append}
+use lib.Seq.{sets, sets-eq, take-at, drop-at, drop-drop, length-take-le, set-at, drop-cons, append-snoc, getD-append-add}
+use Rattle.octets.specs.BigEndian.{octet}
 use Rattle.octets.specs.Splice.{splice}
 
 pub splice-none : (b : List ℕ) (at : ℕ) → b ≡ splice b at []
 unfolding splice
 splice-none b at = simp (add-zero, append-nil, take-append-drop)
+
+-- what was put is found there
+pub splice-octet : (b : List ℕ) (at : ℕ) (xs : List ℕ) (j : ℕ) → at ≤ length b → j < length xs → octet (splice b at xs) (at + j) ≡ octet xs j
+unfolding splice
+splice-octet b at xs j within inside =
+    let d : List ℕ = drop (at + length xs) b in
+    ap (λ (n : ℕ). octet (take at b ++ xs ++ d) (n + j)) (sym (length-take-le at b within)) ∙ rw (append-assoc (take at b) xs d) (getD-append-add (take at b) (xs ++ d) j 0 ∙ List·getD-append xs d 0 j inside)
 
 -- a second piece right after a first
 pub splice-splice : (b : List ℕ) (at to : ℕ) (xs ys : List ℕ) → at ≤ length b → to ≡ at + length xs → splice (splice b at xs) to ys ≡ splice b at (xs ++ ys)

@@ -8,13 +8,13 @@ use native.Mathlib.Omega.{arith}
 use Rattle.octets.specs.Groups.{stampAt}
 use Rattle.base.proofs.Tests.{no}
 use Rattle.rules.specs.declared.input.Input.{Input}
-use Rattle.rules.specs.declared.input.Input.the-variants.{SwitchOnOff, TimedStartStop, NumberedSceneControl, SwitchOnOffForced, LockDevice, NightMode, Bus, Power}
+use Rattle.rules.specs.declared.input.Input.the-variants.{SwitchOnOff}
 use Rattle.rules.specs.declared.input.Decoded.{Decoded}
 use Rattle.rules.specs.declared.input.Decoded.the-variants as input
-use Rattle.rules.specs.Inputs.{kind, zeroOrOne, decoded, inputAt}
+use Rattle.rules.specs.Inputs.{zeroOrOne, decoded, inputAt}
 use Rattle.rules.specs.Steps.{act}
 use Rattle.rules.specs.Lists.{still}
-use Rattle.rules.proofs.Laws.Inputs.{input-kind, input-number}
+use Rattle.rules.proofs.Laws.Inputs.{input-kind, input-number, kind-range}
 use Rattle.sensor.specs.declared.signal.Edge.{Edge}
 use Rattle.sensor.specs.declared.signal.Signal.{Signal}
 use Rattle.sensor.specs.declared.signal.Signal.the-variants as signal
@@ -48,18 +48,8 @@ known-exactly-when Unknown = (λ h. no h, λ g. not-known (g .1))
 
 -- ---- each as its own device takes it
 
--- no kind of the actuator is a button's
-kind-is-small : (i : Input) → kind i ≤ 8
-kind-is-small (SwitchOnOff on) = omega arith
-kind-is-small (TimedStartStop start) = omega arith
-kind-is-small (NumberedSceneControl learns number) = omega arith
-kind-is-small (SwitchOnOffForced force) = omega arith
-kind-is-small (LockDevice lock) = omega arith
-kind-is-small (NightMode night) = omega arith
-kind-is-small (Bus event) = omega arith
-kind-is-small (Power event) = omega arith
-
-signal-kind-is-large : (s : Signal) → 11 ≤ signalKind s
+-- no kind of the sensor's is one of the actuator's
+pub signal-kind-is-large : (s : Signal) → 11 ≤ signalKind s
 signal-kind-is-large (signal.Button1 edge) = omega arith
 signal-kind-is-large (signal.Button2 edge) = omega arith
 signal-kind-is-large (signal.Status value) = omega arith
@@ -70,7 +60,7 @@ module _ (octets : List ℕ) (at : ℕ) where
   a-signal-is-no-input s e = by (inputAt octets at) refl
     where
       by : (d : Decoded) → inputAt octets at ≡ d → d ≡ input.Wrong
-      by (input.Meant i) m = absurd (omega (arith, input-kind octets at i m, kind-is-small i, signal-exactly-when octets at s .0 e .kind, signal-kind-is-large s))
+      by (input.Meant i) m = absurd (omega (arith, input-kind octets at i m, kind-range i, signal-exactly-when octets at s .0 e .kind, signal-kind-is-large s))
       by input.Wrong m = refl
 
   -- what a reading is, by the item

@@ -5,4 +5,5 @@ pub mod Toggles
 pub mod Strike
 pub mod Soundness
 pub mod Items
+pub mod Reading
 pub mod Refusals

@@ -1,11 +1,8 @@
 -- The turn of an item: an input is told from an edge by its kind, and either asks for what it should.
 use Prim.Native.Nat.{ℕ, _≤_, _<_}
-use mathlib.Core.Bool.{Bool, true, false, cond}
 use mathlib.Core.List.{List}
-use mathlib.Core.Option.{Option, some, none}
 use mathlib.Core.Path.{_≡_, refl, sym, ap, _∙_}
 use native.Mathlib.Omega.{arith}
-use mir.Val.{boolByte}
 use Rattle.octets.specs.Groups.{kindAt, valueAt}
 use Rattle.base.proofs.Tests.{eqb-same}
 use Rattle.rules.specs.declared.input.Input.{Input}
@@ -22,32 +19,21 @@ use Rattle.sensor.specs.declared.react.Telegram.{Telegram}
 use Rattle.sensor.specs.declared.react.Telegram.the-variants.{Silent, Switch}
 use Rattle.sensor.specs.declared.react.Reaction.{Reaction}
 use Rattle.sensor.specs.Reactions.{react}
-use Rattle.sensor.specs.Signals.{signalKind, signalAt}
+use Rattle.sensor.specs.Signals.{signalAt}
 use Rattle.sensor.proofs.Signals.{signal-exactly-when, not-meant}
-use Rattle.inputs.specs.Meaning.{isMeant}
 use Rattle.inputs.proofs.Meaning.{known-at}
 use Rattle.pairs.specs.declared.item.Item.{Item}
 use Rattle.pairs.specs.declared.item.Item.the-variants.{Plain, Button1, Button2}
 use Rattle.pairs.specs.declared.item.Read.the-variants.{Known}
 use Rattle.pairs.specs.Items.{itemAt}
-use Rattle.pairs.proofs.Items.{plain-exactly-when, button1-exactly-when, button2-exactly-when}
+use Rattle.pairs.proofs.Items.{signal-kind-is-large, plain-exactly-when, button1-exactly-when, button2-exactly-when}
 use Rattle.turns.specs.declared.turn.Asked.the-variants.{Nothing, Order}
 use Rattle.turns.specs.Turns.{listened, sentAs, Asks, askedBy, pressed, Turned}
-
--- true is stored as 1, false as 0
-pub stored : (on : Bool) → boolByte on ≡ cond on 1 0
-stored true = refl
-stored false = refl
 
 -- what an edge sends is asked as a SwitchOnOff
 sent-is-asked : (sent : Telegram) → Asks (askedBy sent) (sentAs sent)
 sent-is-asked Silent = refl
 sent-is-asked (Switch value) = (SwitchOnOff value, refl, an-input-is-what-its-octets-mean (SwitchOnOff value) (omega arith))
-
-signal-kind-is-large : (s : Signal) → 11 ≤ signalKind s
-signal-kind-is-large (signal.Button1 edge) = omega arith
-signal-kind-is-large (signal.Button2 edge) = omega arith
-signal-kind-is-large (signal.Status value) = omega arith
 
 -- the signal that the code reads is the one that stands there
 same-signal : (x y : Signal) (d : Signalled) → d ≡ signalled.Meant x → d ≡ signalled.Meant y → x ≡ y

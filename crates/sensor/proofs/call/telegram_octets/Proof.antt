@@ -1,16 +1,9 @@
-use mathlib.Core.Bool.{Bool, true, false, cond}
-use mathlib.Core.Path.{_≡_, refl}
-use mir.Val.{boolByte}
 use Rattle.octets.specs.BigEndian.{octets32}
+use Rattle.base.proofs.Tests.{stored}
 use Rattle.sensor.specs.Calls.{telegramOctets}
 use borrow.Author.Needs.{needs}
 use Rattle.sensor.proofs.call.telegram_octets.Statement.{statement}
 use Rattle.sensor.proofs.call.telegram_octets.Tie as tie
-
--- true is stored as 1, false as 0
-stored : (on : Bool) → boolByte on ≡ cond on 1 0
-stored true = refl
-stored false = refl
 
 returns : tie.Need-returns
 unfolding telegramOctets

@@ -1,7 +1,6 @@
-use mathlib.Core.Path.{sym, _∙_}
 use borrow.Author.Needs.{needs}
+use Rattle.base.proofs.Tests.{stored}
 use Rattle.turns.specs.Turns.{pressed}
-use Rattle.turns.proofs.Turning.{stored}
 use Rattle.turns.proofs.turn.press.Statement.{statement}
 use Rattle.turns.proofs.turn.press.Tie as tie
 
