@@ -2,13 +2,15 @@
 use Prim.Native.Nat.{ℕ, _+_, _*_, _≤_, _<_}
 use mathlib.Core.List.{List, [], _∷_, _++_, append-assoc, append-nil}
 use mathlib.Core.Path.{_≡_, refl, sym, ap, _∙_}
-use native.Mathlib.Nat.{zero-add}
+use native.Mathlib.Nat.{add-zero, zero-add}
 use native.Mathlib.Numerals.{add-one}
 use native.Mathlib.Omega.{arith}
 use lib.ListN.{length, take, getD}
 use lib.Seq.{take-suc, length-take-le}
+use Rattle.octets.specs.BigEndian.{octet, be32, octets32}
 use Rattle.octets.specs.Splice.{splice}
-use Rattle.octets.proofs.Splices.{splice-none, splice-splice}
+use Rattle.octets.proofs.Splices.{splice-none, splice-octet, splice-splice}
+use Rattle.octets.proofs.BothWays.{what-is-written-is-read}
 use Rattle.rules.specs.declared.record.Record.{Record}
 use Rattle.rules.specs.Layout.{recordPlace}
 use Rattle.rules.specs.Runs.{recordOctets, recordsOctets, over}
@@ -31,6 +33,17 @@ records-one r = append-nil (recordOctets r)
 pub records-none : (b : List ℕ) (at : ℕ) → b ≡ splice b at (recordsOctets [])
 unfolding recordsOctets
 records-none b at = splice-none b at
+
+-- the stamp and the value of a record that stands in a buffer are read back
+pub a-record-is-read-back : (b : List ℕ) (at : ℕ) (r : Record) → at ≤ length b → let s : List ℕ = splice b at (recordOctets r) in (be32 s at ≡ r .stamp) × (octet s (at + 4) ≡ r .value)
+unfolding recordOctets octets32
+a-record-is-read-back b at r within =
+    let xs : List ℕ = octets32 (r .stamp) ++ (r .value ∷ r .attributes ∷ r .cause ∷ 0 ∷ []) in
+    let s : List ℕ = splice b at xs in
+    let first : octet s at ≡ octet xs 0 = ap (octet s) (sym (add-zero at)) ∙ splice-octet b at xs 0 within (omega arith) in
+    let last : octet s (at + 2 + 1) ≡ octet xs 3 = ap (octet s) (omega arith) ∙ splice-octet b at xs 3 within (omega arith) in
+    (rw (first, splice-octet b at xs 1 within (omega arith), splice-octet b at xs 2 within (omega arith), last) (what-is-written-is-read (r .stamp) (r .value ∷ r .attributes ∷ r .cause ∷ 0 ∷ [])),
+      splice-octet b at xs 4 within (omega arith))
 
 -- more records right after others
 pub records-more : (b c : List ℕ) (at to : ℕ) (k l : List Record) → at ≤ length b → to ≡ at + 8 * length k
