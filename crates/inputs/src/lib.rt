@@ -53,7 +53,7 @@ fn known_force(value: u8) -> Force
 }
 
 // The input that a kind and a value mean, where they mean one: nothing is tested but the kind.
-fn known_input(kind: u8, value: u8) -> Input
+pub fn known_input(kind: u8, value: u8) -> Input
     requires { ⌜ isMeant (decoded kind value) ≡ true ⌝ }
     ensures { λ r. ⌜ decoded kind value ≡ Meant r ⌝ }
 {

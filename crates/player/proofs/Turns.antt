@@ -1,55 +1,141 @@
--- The inputs of a checked file, one after the other: what is known after the first of them, and how the next one keeps it.
+-- The items of a checked list, one after the other: what is known after the first of them, and how the next one keeps it.
 use Prim.Native.Nat.{ℕ, suc, _+_, _*_, _-_, _≤_, _<_}
 use mathlib.Core.Bool.{true}
 use mathlib.Core.List.{List, [], _∷_, _++_, append-nil}
+use mathlib.Core.Option.{some}
 use mathlib.Core.Path.{_≡_, refl, sym, ap, _∙_}
 use native.Mathlib.Nat.{sub-zero}
 use native.Mathlib.Omega.{arith}
 use lib.ListN.{length, set, length-append}
+use Rattle.octets.specs.Groups.{stampAt}
+use Rattle.octets.specs.Splice.{splice}
 use Rattle.rules.specs.declared.parameters.Params.{Params}
 use Rattle.rules.specs.declared.parameters.Scene.{Scene}
+use Rattle.rules.specs.declared.input.Input.{Input}
 use Rattle.rules.specs.declared.input.Decoded.{Decoded}
 use Rattle.rules.specs.declared.input.Decoded.the-variants.{Meant, Wrong}
-use Rattle.rules.specs.Inputs.{inputAt}
-use Rattle.octets.specs.Groups.{stampAt}
 use Rattle.rules.specs.declared.barrier.Why.{Why}
 use Rattle.rules.specs.declared.barrier.Barrier.the-variants.{Open, Stopped}
+use Rattle.rules.specs.declared.state.State.{State}
+use Rattle.rules.specs.declared.record.Record.{Record}
+use Rattle.rules.specs.Inputs.{decoded}
 use Rattle.rules.specs.Orders.{order}
 use Rattle.rules.specs.Answers.{stoppedNumber}
 use Rattle.rules.specs.Barriers.{barrier}
-use Rattle.rules.specs.Steps.{Stepped, clockMove, act, step}
-use Rattle.rules.proofs.Laws.Lists.{andThen-assoc}
-use Rattle.inputs.specs.Meaning.{isMeant}
+use Rattle.rules.specs.Steps.{clockMove, act}
+use Rattle.rules.specs.Lists.{still}
+use Rattle.rules.specs.Layout.{inputPlace}
+use Rattle.rules.specs.Readings.{cues, found, readInputs}
+use Rattle.rules.specs.Files.{endTime}
+use Rattle.rules.specs.Runs.{recordsOctets}
+use Rattle.rules.proofs.Laws.Soundness.{move-keeps}
+use Rattle.sensor.specs.declared.state.Sensor.{Sensor}
+use Rattle.sensor.specs.declared.react.Telegram.{Telegram}
+use Rattle.pairs.specs.declared.item.Item.{Item}
+use Rattle.pairs.specs.declared.item.Read.the-variants.{Known}
+use Rattle.pairs.specs.Items.{itemAt}
+use Rattle.pairs.specs.Pairs.{Pair, pairOf, hears, pairMove, PairStepped, pairStep}
+use Rattle.pairs.specs.Lists.{Listed, listed, PairPlayed, pairThen, pairStepped, pairPlays}
+use Rattle.pairs.specs.Calls.{pairSound}
+use Rattle.pairs.specs.Walls.{itemIn}
+use Rattle.pairs.proofs.Playing.{pairThen-assoc}
+use Rattle.pairs.proofs.Ties.{item-clock}
+use Rattle.pairs.proofs.Soundness.{pair-step-keeps-sound}
+use Rattle.pairs.proofs.Items.{item-fits}
+use Rattle.pairs.proofs.Reading.{FirstItem, first-item}
+use Rattle.pairs.proofs.Refusals.Calls.{an-item-writes-at-most-three}
 use Rattle.lamps.specs.declared.lamp.Lamp.{Lamp}
 use Rattle.lamps.specs.Lamps.{stateOf}
 use Rattle.actuator.specs.declared.step.Done.{Done}
-use Rattle.records.specs.Notes.{listed}
 use Rattle.actuator.specs.Acts.{done, doneBy, stoppedBy}
+use Rattle.records.specs.Notes as noted
 use Rattle.records.proofs.Written.{listed-first}
 use Rattle.timers.proofs.Moves.{joined}
-use Rattle.actuator.proofs.Taken.{open-is-taken, open-teaches, barred-is-stopped, barred-keeps, acting-keeps, later, step-splits, later-joined}
-use Rattle.player.specs.declared.play.Moment.{Moment}
-use Rattle.player.specs.Playing.{listIn, Ready, Filled, Advanced}
-use Rattle.rules.specs.declared.input.Input.{Input}
-use Rattle.rules.specs.declared.state.State.{State}
-use Rattle.rules.specs.declared.record.Record.{Record}
-use Rattle.rules.specs.Soundness.{sound}
-use Rattle.rules.specs.Lists.{Cue, cue, Played, andThen, stepped, plays, still}
-use Rattle.rules.specs.Layout.{inputPlace}
-use Rattle.rules.specs.Readings.{cues, found, readInputs}
-use Rattle.rules.specs.Files.{endTime, cueAt}
-use Rattle.rules.specs.Runs.{recordsOctets}
-use Rattle.rules.proofs.Refusals.Files.{FirstCue, first-cue}
-use Rattle.rules.proofs.Laws.Inputs.{input-number}
-use Rattle.rules.proofs.Laws.Soundness.{move-keeps, step-is-sound, step-clock}
-use Rattle.rules.proofs.Laws.Records.{an-input-writes-at-most-three}
-use Rattle.octets.specs.Splice.{splice}
+use Rattle.actuator.proofs.Taken.{open-is-taken, open-teaches, barred-is-stopped, barred-keeps, acting-keeps, later, later-joined}
 use Rattle.buffers.proofs.Splices.{records-none, records-more}
 use Rattle.buffers.proofs.Standing.{Standing, standing-first, standing-more}
+use Rattle.turns.specs.declared.turn.Asked.the-variants.{Nothing, Order}
+use Rattle.turns.specs.declared.turn.Turn.{Turn}
+use Rattle.turns.specs.Turns.{listened, decides, asksFor, Turned}
+use Rattle.turns.proofs.Hearing.{put-is-heard}
+use Rattle.turns.proofs.Steps.{Rested, Acted, resting-step, acting-step}
+use Rattle.player.specs.declared.play.Moment.{Moment}
+use Rattle.player.specs.Playing.{itemsIn, Ready, Filled, Advanced}
 
--- ---- one input
+-- ---- after the first i items
 
--- the input that the code reads is the one that is listed
+-- the answers said and the records written stand in the buffers and have led to this pair, and the items that are left can be read
+pub record Going (file : List ℕ) (n : ℕ) (start : Pair) (records₀ answers₀ records₁ answers₁ : List ℕ) (p : Pair) (k i : ℕ) : Type 0 where
+  pub upto : i ≤ n
+  pub said : List ℕ
+  pub wrote : List Record
+  pub sent : List Telegram
+  pub later : List Listed
+  pub played : pairPlays (itemsIn file) start ≡ pairThen (record { pair = p; answers = said; records = wrote; telegrams = sent }) (pairPlays later)
+  pub reads : readInputs (itemIn file) file (n - i) i (p .actuator .clock) (endTime file) ≡ cues later
+  pub safe : pairSound p ≡ true
+  pub stands : Standing records₀ answers₀ records₁ answers₁ wrote said k i
+
+-- the first item is played before the others
+one-played : (done : PairPlayed) (items later : List Listed) (t : ℕ) (i : Item) → items ≡ listed t i ∷ later →
+    pairThen done (pairPlays items) ≡ pairThen (pairThen done (λ u. pairStepped (pairStep u i t))) (pairPlays later)
+unfolding pairPlays
+one-played done items later t i e = rw e (sym (pairThen-assoc done (λ u. pairStepped (pairStep u i t)) (pairPlays later)))
+
+module _ (file : List ℕ) (n : ℕ) (start : Pair) (r₀ a₀ : List ℕ) (ready : Ready file n start) where
+  pub going-first : Going file n start r₀ a₀ r₀ a₀ start 1 0
+  going-first =
+      record {
+        upto = omega arith;
+        said = [];
+        wrote = [];
+        sent = [];
+        later = itemsIn file;
+        played = refl;
+        reads = rw (sub-zero n) (ready .reads);
+        safe = ready .sound;
+        stands = standing-first r₀ a₀;
+      }
+
+  module _ (r a : List ℕ) (p : Pair) (k i : ℕ) (g : Going file n start r₀ a₀ r a p k i) where
+    -- the next item, where there is one
+    pub turn : i < n → FirstItem file (n - (i + 1)) i (p .actuator .clock) (endTime file) (g .later)
+    turn h = let left : n - i ≡ suc (n - (i + 1)) = omega arith in first-item file _ i _ _ _ (rw left at (g .reads))
+
+    -- it is played: its records come after those that were written, its answer after those that were given
+    going-step : (h : i < n) → 8 ≤ length r₀ → n ≤ length a₀ → let d = pairStep p (turn h .item) (stampAt file (inputPlace i)) in
+        (answer : ℕ) → answer ≡ d .answer → (q : Pair) → q ≡ d .pair → (count : ℕ) → count ≡ k + length (d .records)
+        → (r₁ : List ℕ) → r₁ ≡ splice r (8 * k) (recordsOctets (d .records)) → length r₁ ≡ length r
+        → Going file n start r₀ a₀ r₁ (set a i answer) q count (i + 1)
+    going-step h front enough answer answers q leads count counts r₁ writes long =
+        let f = turn h in
+        let t : ℕ = stampAt file (inputPlace i) in
+        let d : PairStepped = pairStep p (f .item) t in
+        rw (answers, leads, counts)
+        (record {
+          upto = omega arith;
+          said = g .said ++ (d .answer ∷ []);
+          wrote = g .wrote ++ d .records;
+          sent = g .sent ++ (d .telegram ∷ []);
+          later = f .later;
+          played = g .played ∙ one-played (record { pair = p; answers = g .said; records = g .wrote; telegrams = g .sent }) (g .later) (f .later) t (f .item) (f .starts);
+          reads = rw (item-clock p (f .item) t) (f .reads);
+          safe = pair-step-keeps-sound p (f .item) t (g .safe) (f .risen) (omega (arith, f .timely, ready .timely)) (item-fits file (inputPlace i) (f .item) (f .meant));
+          stands = standing-more r₀ a₀ r a (g .wrote) (d .records) (g .said) (d .answer) k i (g .stands) (an-item-writes-at-most-three p (f .item) t) front (omega arith) r₁ writes long;
+        })
+
+    -- and at the end no item is left
+    pub going-last : n ≤ i → Filled 1 (pairPlays (itemsIn file) start) r₀ a₀ (p .actuator) (p .sensor) k r a
+    unfolding pairPlays readInputs
+    going-last h =
+        let none : n - i ≡ 0 = omega (arith, g .upto) in
+        let left : g .later ≡ [] = sym (ap found (rw none at (g .reads))) in
+        let whole : pairPlays (itemsIn file) start ≡ record { pair = p; answers = g .said; records = g .wrote; telegrams = g .sent } = g .played ∙ rw left (simp append-nil) in
+        record { state = rw whole; sensor = rw whole; count = rw whole (g .stands .count); records = rw whole (g .stands .records); answers = rw whole (g .stands .answers) }
+
+-- ---- one item, as the code has it
+
+-- the input that the code builds is the one that is asked for
 abbrev inputIn : Decoded → Input → Input
 inputIn (Meant i) other = i
 inputIn Wrong other = other
@@ -57,148 +143,146 @@ inputIn Wrong other = other
 same-input : (x y : Input) (d : Decoded) → d ≡ Meant x → d ≡ Meant y → y ≡ x
 same-input x y d e f = ap (λ (z : Decoded). inputIn z x) (sym f ∙ e)
 
--- what the code has after the clock move and after the input, part by part, is what the step of the rules gives
-module _ (p : Params) (k : List Scene) (l : Lamp) (x : Input) (t before : ℕ) (r r₁ : List ℕ) (m : Moment) (moves : Advanced p l t before r m r₁) where
-  abbrev met : State
-  met = stateOf p k l
+-- the clock has moved and the item has had its turn: what the code has, part by part
+module _ (p : Params) (table : List Scene) (l : Lamp) (z : Sensor) (heard t before : ℕ) (r r₁ : List ℕ) (m : Moment) (moves : Advanced p l t before r m r₁)
+    (behind : heard ≤ before) (room : 8 * before ≤ length r) (i : Item) (u : Turn) (took : Turned i t r₁ (m .count) z heard u) where
+  abbrev met : Pair
+  met = pairOf (stateOf p table l) (listened r before z heard)
 
-  abbrev gives : Stepped
-  gives = step met x t
+  abbrev gives : PairStepped
+  gives = pairStep met i t
 
-  at-the-move : stateOf p k (m .lamp) ≡ clockMove met t .state
+  at-the-move : stateOf p table (m .lamp) ≡ clockMove (stateOf p table l) t .state
   at-the-move =
-      let kept = move-keeps met t in
-      rw (moves k .lamp) (joined (clockMove met t .state) p k (ap (λ (u : State). u .params) kept) (ap (λ (u : State). u .scenes) kept))
+      let kept = move-keeps (stateOf p table l) t in
+      rw (moves table .lamp) (joined (clockMove (stateOf p table l) t .state) p table (ap (λ (x : State). x .params) kept) (ap (λ (x : State). x .scenes) kept))
 
-  module _ (d : Done) (acts : d ≡ done (act (still (stateOf p k (m .lamp))) x)) where
-    acts-there : d ≡ done (later met x t)
-    acts-there = rw at-the-move at acts
+  -- the sensor has heard the timers
+  heard-there : listened r₁ (m .count) z heard ≡ pairMove met t .pair .sensor
+  unfolding pairMove
+  heard-there = rw (moves table .count) (put-is-heard (clockMove (stateOf p table l) t .records) r r₁ before z heard behind room (moves table .records))
 
-    notes-there : listed (d .note) ≡ later met x t .records
-    unfolding done
-    notes-there = rw acts-there (listed-first (later met x t .records) (acting-keeps (clockMove met t .state) x .1))
+  sensor-there : listened r₁ (m .count) (u .sensor) (u .heard) ≡ decides (pairMove met t .pair .sensor) i t .sensor
+  sensor-there = took .sensor ∙ ap (λ (y : Sensor). decides y i t .sensor) heard-there
 
-    pub answers-there : d .answer ≡ gives .answer
-    unfolding done
-    answers-there = rw acts-there (sym (step-splits met x t .1))
+  -- nothing is asked
+  module _ (silent : u .asked ≡ Nothing) where
+    rests : Rested (pairMove met t) (decides (pairMove met t .pair .sensor) i t .sensor) gives
+    rests = resting-step met t i (rw (silent, heard-there) at (took .asks))
 
-    pub state-there : (table : List Scene) → table ≡ act (still (stateOf p k (m .lamp))) x .state .scenes → stateOf p table (d .lamp) ≡ gives .state
-    unfolding done
-    state-there table teaches = rw (rw at-the-move at teaches, acts-there) (later-joined met x t ∙ sym (step-splits met x t .0))
+    pub pair-rests : pairOf (stateOf p table (m .lamp)) (listened r₁ (m .count) (u .sensor) (u .heard)) ≡ gives .pair
+    unfolding pairMove
+    pair-rests = rw (rests .pair, at-the-move, sensor-there) refl
 
-    pub count-there : (count : ℕ) → count ≡ m .count + length (listed (d .note)) → count ≡ before + length (gives .records)
-    count-there count e =
-        let own : length (listed (d .note)) ≡ length (later met x t .records) = ap (λ (z : List Record). length z) notes-there in
-        rw (step-splits met x t .2, length-append) (omega (arith, e, own, moves k .count))
+    pub answer-rests : 1 ≡ gives .answer
+    answer-rests = sym (rests .answer)
 
-    pub records-there : before * 8 ≤ length r → (r₂ : List ℕ) → r₂ ≡ splice r₁ (8 * m .count) (recordsOctets (listed (d .note))) → r₂ ≡ splice r (8 * before) (recordsOctets (gives .records))
-    records-there room r₂ e =
-        e ∙ rw (notes-there, step-splits met x t .2) (records-more r r₁ (8 * before) (8 * m .count) (clockMove met t .records) (later met x t .records) (omega (arith, room)) (omega (arith, moves k .count)) (moves k .records))
+    pub count-rests : m .count ≡ before + length (gives .records)
+    unfolding pairMove
+    count-rests = rw (rests .records) (moves table .count)
 
--- the first cue is played before the others
-one-played : (done : Played) (list later : List Cue) (t : ℕ) (i : Input) → list ≡ cue t i ∷ later → andThen done (plays list) ≡ andThen (andThen done (λ u. stepped (step u i t))) (plays later)
-unfolding plays
-one-played done list later t i e = rw e (sym (andThen-assoc done (λ u. stepped (step u i t)) (plays later)))
+    pub records-rest : r₁ ≡ splice r (8 * before) (recordsOctets (gives .records))
+    unfolding pairMove
+    records-rest = rw (rests .records) (moves table .records)
 
--- ---- after the first i inputs
+  -- an input is asked for
+  module _ (kind value : ℕ) (orders : u .asked ≡ Order kind value) where
+    pub asked-for : (x : Input) × (asksFor i (decides (pairMove met t .pair .sensor) i t .telegram) ≡ some x) × (decoded kind value ≡ Meant x)
+    asked-for = rw (orders, heard-there) at (took .asks)
 
--- the answers said and the records written stand in the buffers and have led to this state, and the cues that are left can be read
-pub record Going (file : List ℕ) (n : ℕ) (start : State) (records₀ answers₀ records₁ answers₁ : List ℕ) (s : State) (k i : ℕ) : Type 0 where
-  pub upto : i ≤ n
-  pub said : List ℕ
-  pub wrote : List Record
-  pub later : List Cue
-  pub played : plays (listIn file) start ≡ andThen (record { state = s; answers = said; records = wrote }) (plays later)
-  pub reads : readInputs (cueAt file) file (n - i) i (s .clock) (endTime file) ≡ cues later
-  pub safe : sound s ≡ true
-  pub stands : Standing records₀ answers₀ records₁ answers₁ wrote said k i
+    module _ (x : Input) (means : decoded kind value ≡ Meant x) where
+      acts : Acted (pairMove met t) (decides (pairMove met t .pair .sensor) i t .sensor) x gives
+      acts = acting-step met t i x (rw (same-input (asked-for .0) x (decoded kind value) (asked-for .2) means) (asked-for .1))
 
-module _ (file : List ℕ) (n : ℕ) (start : State) (r₀ a₀ : List ℕ) (ready : Ready file n start) where
-  pub going-first : Going file n start r₀ a₀ r₀ a₀ start 1 0
-  going-first =
-      record {
-        upto = omega arith;
-        said = [];
-        wrote = [];
-        later = listIn file;
-        played = refl;
-        reads = rw (sub-zero n) (ready .reads);
-        safe = ready .sound;
-        stands = standing-first r₀ a₀;
-      }
+      module _ (d : Done) (does : d ≡ done (act (still (stateOf p table (m .lamp))) x)) where
+        does-there : d ≡ done (later (stateOf p table l) x t)
+        does-there = rw at-the-move at does
 
-  module _ (r a : List ℕ) (s : State) (k i : ℕ) (g : Going file n start r₀ a₀ r a s k i) where
-    -- the next input, where there is one
-    pub turn : i < n → FirstCue file (n - (i + 1)) i (s .clock) (endTime file) (g .later)
-    turn h = let left : n - i ≡ suc (n - (i + 1)) = omega arith in first-cue file _ i _ _ _ (rw left at (g .reads))
+        note-there : noted.listed (d .note) ≡ later (stateOf p table l) x t .records
+        unfolding done
+        note-there = rw does-there (listed-first (later (stateOf p table l) x t .records) (acting-keeps (clockMove (stateOf p table l) t .state) x .1))
 
-    -- it is played: its records come after those that were written, its answer after those that were given
-    going-step : (h : i < n) → let d = step s (turn h .input) (stampAt file (inputPlace i)) in 8 ≤ length r₀ → n ≤ length a₀
-        → (r₁ : List ℕ) → r₁ ≡ splice r (8 * k) (recordsOctets (d .records)) → length r₁ ≡ length r
-        → Going file n start r₀ a₀ r₁ (set a i (d .answer)) (d .state) (k + length (d .records)) (i + 1)
-    going-step h some enough r₁ p l =
-        let f = turn h in
-        let t : ℕ = stampAt file (inputPlace i) in
-        let d : Stepped = step s (f .input) t in
-        record {
-          upto = omega arith;
-          said = g .said ++ (d .answer ∷ []);
-          wrote = g .wrote ++ d .records;
-          later = f .later;
-          played = g .played ∙ one-played (record { state = s; answers = g .said; records = g .wrote }) (g .later) (f .later) t (f .input) (f .starts);
-          reads = rw (step-clock s (f .input) t) (f .reads);
-          safe = step-is-sound s (f .input) t (input-number file (inputPlace i) (f .input) (f .meant)) (g .safe) (f .risen) (omega (arith, f .timely, ready .timely));
-          stands = standing-more r₀ a₀ r a (g .wrote) (d .records) (g .said) (d .answer) k i (g .stands) (an-input-writes-at-most-three s (f .input) t) some (omega arith) r₁ p l;
-        }
+        pub answer-acts : d .answer ≡ gives .answer
+        unfolding done pairMove
+        answer-acts = rw does-there (sym (acts .answer))
 
-    -- it is an input, so the code reads it
-    pub turn-meant : (h : i < n) → isMeant (inputAt file (inputPlace i)) ≡ true
-    turn-meant h = rw (turn h .meant) refl
+        module _ (count : ℕ) (counts : count ≡ m .count + length (noted.listed (d .note))) (r₂ : List ℕ) (writes : r₂ ≡ splice r₁ (8 * m .count) (recordsOctets (noted.listed (d .note)))) where
+          pub count-acts : count ≡ before + length (gives .records)
+          unfolding pairMove
+          count-acts =
+              let own : length (noted.listed (d .note)) ≡ length (later (stateOf p table l) x t .records) = ap (λ (w : List Record). length w) note-there in
+              rw (acts .records, length-append) (omega (arith, counts, own, moves table .count))
 
-    -- and at the end no cue is left
-    pub going-last : n ≤ i → Filled 1 (plays (listIn file) start) r₀ a₀ (record { state = s; count = k }) r a
-    unfolding plays readInputs
-    going-last h =
-        let none : n - i ≡ 0 = omega (arith, g .upto) in
-        let left : g .later ≡ [] = sym (ap found (rw none at (g .reads))) in
-        let whole : plays (listIn file) start ≡ record { state = s; answers = g .said; records = g .wrote } = g .played ∙ rw left (simp append-nil) in
-        record { state = rw whole; count = rw whole (g .stands .count); records = rw whole (g .stands .records); answers = rw whole (g .stands .answers) }
+          pub records-act : r₂ ≡ splice r (8 * before) (recordsOctets (gives .records))
+          unfolding pairMove
+          records-act =
+              writes
+              ∙ rw (note-there, acts .records) (records-more r r₁ (8 * before) (8 * m .count) (clockMove (stateOf p table l) t .records) (later (stateOf p table l) x t .records) room (omega (arith, moves table .count)) (moves table .records))
 
--- the next turn, of what the code has
-module _ (file : List ℕ) (n : ℕ) (start : State) (r₀ a₀ : List ℕ) (ready : Ready file n start) (p : Params) (table : List Scene) (l : Lamp) (r a : List ℕ) (k i : ℕ)
-    (g : Going file n start r₀ a₀ r a (stateOf p table l) k i) where
-  going-on : i < n → 8 ≤ length r₀ → n ≤ length a₀ → (x : Input) → inputAt file (inputPlace i) ≡ Meant x
-      → (m : Moment) (r₁ : List ℕ) → Advanced p l (stampAt file (inputPlace i)) k r m r₁ → 8 * k ≤ length r
-      → (d : Done) → d ≡ done (act (still (stateOf p table (m .lamp))) x)
-      → (count : ℕ) → count ≡ m .count + length (listed (d .note))
-      → (r₂ : List ℕ) → r₂ ≡ splice r₁ (8 * m .count) (recordsOctets (listed (d .note))) → length r₂ ≡ length r
-      → (left : List Scene) → left ≡ act (still (stateOf p table (m .lamp))) x .state .scenes
-      → Going file n start r₀ a₀ r₂ (set a i (d .answer)) (stateOf p left (d .lamp)) count (i + 1)
-  going-on h some enough x means m r₁ moves room d acts count counts r₂ writes long left teaches =
-      let f = turn file n start r₀ a₀ ready r a (stateOf p table l) k i g h in
-      let t : ℕ = stampAt file (inputPlace i) in
-      let same : x ≡ f .input = same-input (f .input) x (inputAt file (inputPlace i)) (f .meant) means in
-      let step-on = going-step file n start r₀ a₀ ready r a (stateOf p table l) k i g h some enough r₂ in
-      rw (state-there p table l x t k r r₁ m moves d acts left teaches, answers-there p table l x t k r r₁ m moves d acts, count-there p table l x t k r r₁ m moves d acts count counts, same)
-      (step-on (rw same at (records-there p table l x t k r r₁ m moves d acts (omega (arith, room)) r₂ writes)) long)
+          -- its own record is heard after the turn
+          sensor-acts : 8 * m .count ≤ length r₁ → listened r₂ count (u .sensor) (u .heard) ≡ hears (later (stateOf p table l) x t .records) (decides (pairMove met t .pair .sensor) i t .sensor)
+          sensor-acts enough =
+              rw (counts, ← note-there, ← sensor-there) (put-is-heard (noted.listed (d .note)) r₁ r₂ (m .count) (u .sensor) (u .heard) (took .behind) enough writes)
 
-  -- an input that is taken, and one that is stopped
-  pub going-taken : i < n → 8 ≤ length r₀ → n ≤ length a₀ → (x : Input) → inputAt file (inputPlace i) ≡ Meant x
-      → (m : Moment) (r₁ : List ℕ) → Advanced p l (stampAt file (inputPlace i)) k r m r₁ → 8 * k ≤ length r
-      → barrier (stateOf p table (m .lamp)) x ≡ Open
-      → (d : Done) → d ≡ doneBy (stateOf p table (m .lamp)) x (order (stateOf p table (m .lamp)) x)
-      → (count : ℕ) → count ≡ m .count + length (listed (d .note))
-      → (r₂ : List ℕ) → r₂ ≡ splice r₁ (8 * m .count) (recordsOctets (listed (d .note))) → length r₂ ≡ length r
-      → (left : List Scene) → left ≡ order (stateOf p table (m .lamp)) x .scenes
-      → Going file n start r₀ a₀ r₂ (set a i (d .answer)) (stateOf p left (d .lamp)) count (i + 1)
-  going-taken h some enough x means m r₁ moves room free d takes count counts r₂ writes long left teaches =
-      going-on h some enough x means m r₁ moves room d (takes ∙ open-is-taken (stateOf p table (m .lamp)) x free) count counts r₂ writes long left (teaches ∙ open-teaches (stateOf p table (m .lamp)) x free)
+          pub pair-acts : 8 * m .count ≤ length r₁ → (left : List Scene) → left ≡ act (still (stateOf p table (m .lamp))) x .state .scenes →
+              pairOf (stateOf p left (d .lamp)) (listened r₂ count (u .sensor) (u .heard)) ≡ gives .pair
+          unfolding done pairMove
+          pair-acts enough left teaches =
+              let state : stateOf p left (d .lamp) ≡ later (stateOf p table l) x t .state = rw (rw at-the-move at teaches, does-there) (later-joined (stateOf p table l) x t) in
+              rw (state, sensor-acts enough, acts .pair) refl
 
-  pub going-stopped : i < n → 8 ≤ length r₀ → n ≤ length a₀ → (x : Input) → inputAt file (inputPlace i) ≡ Meant x
-      → (m : Moment) (r₁ : List ℕ) → Advanced p l (stampAt file (inputPlace i)) k r m r₁ → 8 * k ≤ length r → length r₁ ≡ length r
-      → (why : Why) → barrier (stateOf p table (m .lamp)) x ≡ Stopped why
-      → Going file n start r₀ a₀ r₁ (set a i (stoppedNumber why)) (stateOf p table (m .lamp)) (m .count) (i + 1)
-  unfolding stoppedBy
-  going-stopped h some enough x means m r₁ moves room long why bars =
-      let met : State = stateOf p table (m .lamp) in
-      going-on h some enough x means m r₁ moves room (stoppedBy met why) (barred-is-stopped met x why bars) (m .count) (omega arith) r₁ (records-none r₁ (8 * m .count)) long table (barred-keeps met x why bars)
+-- ---- the next item, of what the code has
+
+module _ (file : List ℕ) (n : ℕ) (start : Pair) (r₀ a₀ : List ℕ) (ready : Ready file n start) (p : Params) (table : List Scene) (l : Lamp) (z : Sensor) (heard : ℕ) (r a : List ℕ) (k i : ℕ)
+    (g : Going file n start r₀ a₀ r a (pairOf (stateOf p table l) (listened r k z heard)) k i) (behind : heard ≤ k) (h : i < n) (front : 8 ≤ length r₀) (enough : n ≤ length a₀) (room : 8 * k ≤ length r)
+    (m : Moment) (r₁ : List ℕ) (moves : Advanced p l (stampAt file (inputPlace i)) k r m r₁) (long : length r₁ ≡ length r) (room₁ : 8 * m .count ≤ length r₁)
+    (u : Turn) (took : (j : Item) → itemAt file (inputPlace i) ≡ Known j → Turned j (stampAt file (inputPlace i)) r₁ (m .count) z heard u) where
+  abbrev t : ℕ
+  t = stampAt file (inputPlace i)
+
+  abbrev item : Item
+  item = turn file n start r₀ a₀ ready r a (pairOf (stateOf p table l) (listened r k z heard)) k i g h .item
+
+  turned : Turned item t r₁ (m .count) z heard u
+  turned = took item (turn file n start r₀ a₀ ready r a (pairOf (stateOf p table l) (listened r k z heard)) k i g h .meant)
+
+  -- an edge that sends nothing
+  pub going-rests : u .asked ≡ Nothing → Going file n start r₀ a₀ r₁ (set a i 1) (pairOf (stateOf p table (m .lamp)) (listened r₁ (m .count) (u .sensor) (u .heard))) (m .count) (i + 1)
+  going-rests silent =
+      going-step file n start r₀ a₀ ready r a _ k i g h front enough 1 (answer-rests p table l z heard t k r r₁ m moves behind room item u turned silent)
+      _ (pair-rests p table l z heard t k r r₁ m moves behind room item u turned silent)
+      (m .count) (count-rests p table l z heard t k r r₁ m moves behind room item u turned silent)
+      r₁ (records-rest p table l z heard t k r r₁ m moves behind room item u turned silent) long
+
+  module _ (kind value : ℕ) (orders : u .asked ≡ Order kind value) where
+    -- what is asked for is an input
+    pub going-asks : (x : Input) × (decoded kind value ≡ Meant x)
+    going-asks = let x = asked-for p table l z heard t k r r₁ m moves behind room item u turned kind value orders in (x .0, x .2)
+
+    module _ (x : Input) (means : decoded kind value ≡ Meant x) where
+      going-acts : (d : Done) → d ≡ done (act (still (stateOf p table (m .lamp))) x) → (count : ℕ) → count ≡ m .count + length (noted.listed (d .note))
+          → (r₂ : List ℕ) → r₂ ≡ splice r₁ (8 * m .count) (recordsOctets (noted.listed (d .note))) → length r₂ ≡ length r
+          → (left : List Scene) → left ≡ act (still (stateOf p table (m .lamp))) x .state .scenes
+          → Going file n start r₀ a₀ r₂ (set a i (d .answer)) (pairOf (stateOf p left (d .lamp)) (listened r₂ count (u .sensor) (u .heard))) count (i + 1)
+      going-acts d does count counts r₂ writes same left teaches =
+          going-step file n start r₀ a₀ ready r a _ k i g h front enough (d .answer) (answer-acts p table l z heard t k r r₁ m moves behind room item u turned kind value orders x means d does)
+          _ (pair-acts p table l z heard t k r r₁ m moves behind room item u turned kind value orders x means d does count counts r₂ writes room₁ left teaches)
+          count (count-acts p table l z heard t k r r₁ m moves behind room item u turned kind value orders x means d does count counts r₂ writes)
+          r₂ (records-act p table l z heard t k r r₁ m moves behind room item u turned kind value orders x means d does count counts r₂ writes) same
+
+      -- one that is taken, and one that is stopped
+      pub going-taken : barrier (stateOf p table (m .lamp)) x ≡ Open → (d : Done) → d ≡ doneBy (stateOf p table (m .lamp)) x (order (stateOf p table (m .lamp)) x)
+          → (count : ℕ) → count ≡ m .count + length (noted.listed (d .note))
+          → (r₂ : List ℕ) → r₂ ≡ splice r₁ (8 * m .count) (recordsOctets (noted.listed (d .note))) → length r₂ ≡ length r
+          → (left : List Scene) → left ≡ order (stateOf p table (m .lamp)) x .scenes
+          → Going file n start r₀ a₀ r₂ (set a i (d .answer)) (pairOf (stateOf p left (d .lamp)) (listened r₂ count (u .sensor) (u .heard))) count (i + 1)
+      going-taken free d takes count counts r₂ writes same left teaches =
+          let now : State = stateOf p table (m .lamp) in
+          going-acts d (takes ∙ open-is-taken now x free) count counts r₂ writes same left (teaches ∙ open-teaches now x free)
+
+      pub going-stopped : (why : Why) → barrier (stateOf p table (m .lamp)) x ≡ Stopped why →
+          Going file n start r₀ a₀ r₁ (set a i (stoppedNumber why)) (pairOf (stateOf p table (m .lamp)) (listened r₁ (m .count) (u .sensor) (u .heard))) (m .count) (i + 1)
+      unfolding stoppedBy
+      going-stopped why bars =
+          let now : State = stateOf p table (m .lamp) in
+          going-acts (stoppedBy now why) (barred-is-stopped now x why bars) (m .count) (omega arith) r₁ (records-none r₁ (8 * m .count)) long table (barred-keeps now x why bars)

@@ -11,43 +11,55 @@ use Rattle.base.specs.Time.{lastStamp}
 use Rattle.rules.specs.Layout.{mostInputs, inputPlace, recordPlace}
 use Rattle.rules.specs.Parameters.{paramsOf, scenesOf}
 use Rattle.rules.specs.Steps.{Moved, fresh, clockMove}
-use Rattle.rules.specs.Soundness.{sound}
-use Rattle.rules.specs.Lists.{Cue, Played}
-use Rattle.rules.specs.Readings.{cues, found, readInputs}
-use Rattle.rules.specs.Files.{inputCount, endTime, parametersIn, cueAt, readFile}
+use Rattle.rules.specs.Readings.{Reading, cues, found, readInputs}
+use Rattle.rules.specs.Files.{inputCount, endTime, parametersIn}
+use Rattle.rules.specs.Refusals.{GoodStart}
 use Rattle.rules.specs.Runs.{recordsOctets}
+use Rattle.sensor.specs.declared.state.Sensor.{Sensor}
+use Rattle.pairs.specs.Pairs.{Pair}
+use Rattle.pairs.specs.Lists.{Listed, PairPlayed, playItems}
+use Rattle.pairs.specs.Calls.{pairSound}
+use Rattle.pairs.specs.Walls.{itemIn}
 use Rattle.lamps.specs.declared.lamp.Lamp.{Lamp}
 use Rattle.lamps.specs.Lamps.{lampOf, stateOf}
 use Rattle.octets.specs.Splice.{splice}
-use Rattle.player.specs.declared.play.Ended.{Ended}
 use Rattle.player.specs.declared.play.Moment.{Moment}
 
--- the cues that a reading has found
-unfoldable pub listIn : List ℕ → List Cue
-listIn file = found (readFile file)
+-- the items of a file, edges among them or not
+unfoldable pub itemsRead : List ℕ → Reading Listed
+itemsRead file = readInputs (itemIn file) file (inputCount file) 0 0 (endTime file)
+
+unfoldable pub itemsIn : List ℕ → List Listed
+itemsIn file = found (itemsRead file)
 
 unfoldable pub freshIn : List ℕ → State
 freshIn file = fresh (paramsOf (parametersIn file)) (scenesOf (parametersIn file))
 
--- the file is accepted, and these are its count of inputs and its end time
+-- the run over it, with this sensor beside the actuator
+unfoldable pub playIn : List ℕ → Sensor → PairPlayed
+playIn file z = playItems (paramsOf (parametersIn file)) (scenesOf (parametersIn file)) z (itemsIn file) (endTime file)
+
+-- nothing is wrong with the file, and these are its count of inputs and its end time
 pub record Fit (file : List ℕ) (n end : ℕ) : Type 0 where
-  pub accepted : readFile file ≡ cues (listIn file)
+  pub start : GoodStart file
+  pub reads : itemsRead file ≡ cues (itemsIn file)
   pub inputs : n ≡ inputCount file
   pub ends : end ≡ endTime file
 
--- n inputs can be played from this state on
-pub record Ready (file : List ℕ) (n : ℕ) (s : State) : Type 0 where
+-- n items can be played from this pair on
+pub record Ready (file : List ℕ) (n : ℕ) (p : Pair) : Type 0 where
   pub few : n ≤ mostInputs
   pub whole : inputPlace n ≤ length file
   pub timely : endTime file ≤ lastStamp
-  pub reads : readInputs (cueAt file) file n 0 (s .clock) (endTime file) ≡ cues (listIn file)
-  pub sound : sound s ≡ true
+  pub reads : readInputs (itemIn file) file n 0 (p .actuator .clock) (endTime file) ≡ cues (itemsIn file)
+  pub sound : pairSound p ≡ true
 
--- the records of what was played stand after the first so many, the answers from the start of their buffer on, and the
--- count is of all records
-pub record Filled (from : ℕ) (p : Played) (records₀ answers₀ : List ℕ) (e : Ended) (records₁ answers₁ : List ℕ) : Type 0 where
-  pub state : e .state ≡ p .state
-  pub count : e .count ≡ from + length (p .records)
+-- both states are those that playing leads to, the records of what was played stand after the first so many, the answers from the start of
+-- their buffer on, and the count is of all records
+pub record Filled (from : ℕ) (p : PairPlayed) (records₀ answers₀ : List ℕ) (s : State) (z : Sensor) (k : ℕ) (records₁ answers₁ : List ℕ) : Type 0 where
+  pub state : s ≡ p .pair .actuator
+  pub sensor : z ≡ p .pair .sensor
+  pub count : k ≡ from + length (p .records)
   pub records : records₁ ≡ splice records₀ (recordPlace from) (recordsOctets (p .records))
   pub answers : answers₁ ≡ splice answers₀ 0 (p .answers)
 

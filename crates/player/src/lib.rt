@@ -1,2 +1,3 @@
-// A checked file is played into lent buffers: each of its inputs once, in order, with no table and no list.
+// A checked list is played into lent buffers, to an actuator with a sensor beside it: each of its items once, in order, with no table and no
+// list. A cue file is such a list, without edges.
 pub mod play;

@@ -1,72 +1,83 @@
-use Rattle.player.proofs.Ends.{fit-ready, record-alone, move-few, ended}
-use Rattle.player.specs.Playing.{freshIn, Ready}
-use Rattle.octets.specs.Splice.{splice}
-use Rattle.phases.proofs.Rooms.{sound-room}
-use Rattle.rules.proofs.Refusals.Files.{good-file}
-use Rattle.rules.specs.Runs.{recordOctets}
-use Rattle.rules.specs.Status.{recordOf}
-use denote.Ref.{now}
-use native.Mathlib.Omega.{arith}
-use mathlib.Core.Path.{_≡_, refl, _∙_}
 use borrow.Author.Needs.{needs}
 use Rattle.player.proofs.play.play.Statement.{statement}
 use Rattle.player.proofs.play.play.Tie as tie
+use Rattle.player.proofs.play.play.Reads as reads
+use Rattle.player.proofs.play.play.Lts as lts
+use Rattle.buffers.proofs.put.put_notes.Reads as put-notes-reads
+use Rattle.buffers.proofs.put.put_record.Reads as put-record-reads
+use Rattle.lamps.proofs.lamp.lamp_of.Reads as lamp-of-reads
+use Rattle.player.proofs.play.fresh_in.Reads as fresh-in-reads
+use Rattle.player.proofs.play.play_items.Reads as play-items-reads
+use Rattle.records.proofs.status.record_of.Reads as record-of-reads
+use Rattle.timers.proofs.clock.move_clock.Reads as move-clock-reads
+use Rattle.turns.proofs.heard.listen.Reads as listen-reads
 
--- the fresh state is sound, and the inputs are in order from there on
-ready : (c : tie.After-fresh-in) → let a = c .before .before .before .before .args in Ready (now (a .file)) (a .n) (c .fresh-in .result)
-ready c = rw (c .fresh-in .ensures) (fit-ready _ _ _ (c .before .before .before .before .pre .0) (λ i. omega (arith, c .before .before .before .shared-slice-known .given i)))
-
--- the start record stands at the head of the buffer
-begun : (c : tie.After-put-record) → let a = c .before .before .before .before .before .before .before .before .args in c .put-record .last .0 ≡ splice (now (a .records)) 0 (recordOctets (recordOf 0 (freshIn (now (a .file)))))
-begun c =
-    c .put-record .ensures
-    ∙ rw (c .before .record-of .ensures, c .before .before .lamp-of .ensures, c .before .before .before .before .fresh-in .ensures) (rw (record-alone 0 (freshIn _)) refl)
-
+-- src/play.rt:178:9
 fresh-in-requires : tie.Need-fresh-in-requires
-fresh-in-requires c κs = good-file _ _ (c .before .before .before .pre .0 .accepted) .start .header .long
+fresh-in-requires c κs = search needs
 
-play-inputs-requires : tie.Need-play-inputs-requires
-play-inputs-requires c κs = (ready (c .before .before .before .before .before .before .before .before), omega (arith, c .before .before .before .before .put-record .kept .0, c .before .before .before .before .before .before .before .before .before .before .before .before .pre .1), c .before .before .before .before .before .before .before .before .before .before .before .before .pre .2)
+-- src/play.rt:179:41
+lamp-of-requires : tie.Need-lamp-of-requires
+lamp-of-requires c κs = search needs
 
+-- src/play.rt:179:28
+record-of-requires : tie.Need-record-of-requires
+record-of-requires c κs = search needs
+
+-- src/play.rt:179:5
+put-record-requires : tie.Need-put-record-requires
+put-record-requires c κs = search needs
+
+-- src/play.rt:180:9
+play-items-requires : tie.Need-play-items-requires
+play-items-requires c κs = ?
+
+-- src/play.rt:183:9
 move-clock-requires : tie.Need-move-clock-requires
-move-clock-requires c κs =
-    let fit = c .before .before .before .before .before .before .before .before .before .before .before .before .before .before .before .before .before .before .pre .0 in
-    sound-room _ _ (c .before .before .before .before .before .play-inputs .ensures .1) (omega (arith, fit .ends, good-file _ _ (fit .accepted) .start .header .layout .end))
+move-clock-requires c κs = ?
 
+-- src/play.rt:186:5
 put-notes-requires : tie.Need-put-notes-requires
-put-notes-requires c κs =
-    let inputs = c .before .before .before .before .before .before .before .before .before .play-inputs in
-    let few = move-few _ _ _ (c .before .before .before .move-clock .ensures) in
-    (omega (arith, few, inputs .ensures .2, ready (c .before .before .before .before .before .before .before .before .before .before .before .before .before .before .before .before .before .before) .few), omega (arith, few), omega (arith, few, inputs .ensures .2, inputs .kept .1 .1 .1 .0, c .before .before .before .before .before .before .before .before .before .before .before .before .before .before .put-record .kept .0, c .before .before .before .before .before .before .before .before .before .before .before .before .before .before .before .before .before .before .before .before .before .before .pre .1))
+put-notes-requires c κs = ?
 
-add-t24 : tie.Need-add-t24
-add-t24 c = omega (arith, move-few _ _ _ (c .before .before .before .before .before .before .before .before .move-clock .ensures), c .before .before .before .before .before .before .before .before .before .before .before .before .before .before .play-inputs .ensures .2, ready (c .before .before .before .before .before .before .before .before .before .before .before .before .before .before .before .before .before .before .before .before .before .before .before) .few)
+-- src/play.rt:187:33
+cast-count : tie.Need-cast-count
+cast-count c = search needs
 
+-- src/play.rt:187:17
+add-count : tie.Need-add-count
+add-count c = ?
+
+-- src/play.rt:190:17
+listen-requires : tie.Need-listen-requires
+listen-requires c κs = ?
+
+-- src/play.rt:167:1
 same-length : tie.Need-same-length
-same-length c = c .before .before .before .before .put-notes .kept .0 ∙ c .before .before .before .before .before .before .before .before .before .before .before .before .before .before .play-inputs .kept .1 .1 .1 .0 ∙ c .before .before .before .before .before .before .before .before .before .before .before .before .before .before .before .before .before .before .before .put-record .kept .0
+same-length c = ?
 
+-- src/play.rt:167:1
 same-length-2 : tie.Need-same-length-2
-same-length-2 c = c .before .before .before .before .before .before .before .before .before .before .before .before .before .before .play-inputs .kept .1 .1 .1 .1 .0
+same-length-2 c = ?
 
+-- src/play.rt:167:1
 returns : tie.Need-returns
-returns c =
-    let inputs = c .before .before .before .before .before .before .before .before .before .before .before .before .before .before .play-inputs in
-    let fresh = c .before .before .before .before .before .before .before .before .before .before .before .before .before .before .before .before .before .before .before .before .before .before .before .fresh-in .ensures in
-    ended _ _ (c .before .before .before .before .before .before .before .before .before .before .before .before .before .before .before .before .before .before .before .before .before .before .before .before .before .before .before .pre .0 .ends) _ _ (begun (c .before .before .before .before .before .before .before .before .before .before .before .before .before .before .before .before .before .before .before)) _ _ _ _ (inputs .result) (rw fresh at (inputs .ensures .0)) _ (c .before .before .before .before .before .before .before .before .move-clock .ensures) (c .before .before .before .before .put-notes .ensures)
+returns c = ?
 
 pub play-spec : {M : Type 1} → statement M
 play-spec =
     tie.close
     (tie.spec
     fresh-in-requires
-    (λ c κs. search needs)
-    (λ c κs. search needs)
-    (λ c κs. search needs)
-    play-inputs-requires
+    lamp-of-requires
+    record-of-requires
+    put-record-requires
+    play-items-requires
     move-clock-requires
     put-notes-requires
-    (λ c. search needs)
-    add-t24
+    cast-count
+    add-count
+    listen-requires
     same-length
     same-length-2
     returns)
