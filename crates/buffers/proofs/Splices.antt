@@ -41,9 +41,10 @@ a-record-is-read-back b at r within =
     let xs : List ℕ = octets32 (r .stamp) ++ (r .value ∷ r .attributes ∷ r .cause ∷ 0 ∷ []) in
     let s : List ℕ = splice b at xs in
     let first : octet s at ≡ octet xs 0 = ap (octet s) (sym (add-zero at)) ∙ splice-octet b at xs 0 within (omega arith) in
-    let last : octet s (at + 2 + 1) ≡ octet xs 3 = ap (octet s) (omega arith) ∙ splice-octet b at xs 3 within (omega arith) in
-    (rw (first, splice-octet b at xs 1 within (omega arith), splice-octet b at xs 2 within (omega arith), last) (what-is-written-is-read (r .stamp) (r .value ∷ r .attributes ∷ r .cause ∷ 0 ∷ [])),
-      splice-octet b at xs 4 within (omega arith))
+    let last : octet s (at + 2 + 1) ≡ octet xs 3 = ap (octet s) (omega arith) ∙ splice-octet b at xs 3 within (omega arith) in (
+      rw (first, splice-octet b at xs 1 within (omega arith), splice-octet b at xs 2 within (omega arith), last) (what-is-written-is-read (r .stamp) (r .value ∷ r .attributes ∷ r .cause ∷ 0 ∷ [])),
+      splice-octet b at xs 4 within (omega arith),
+    )
 
 -- more records right after others
 pub records-more : (b c : List ℕ) (at to : ℕ) (k l : List Record) → at ≤ length b → to ≡ at + 8 * length k

@@ -44,7 +44,7 @@ same-signal x y d e f = ap (λ (r : Signalled). signalIn r) (sym e ∙ f)
     signalIn signalled.Wrong = x
 
 -- the sensor that has heard all there is stays as it is while it listens
-all-heard : (records : List ℕ) (count : ℕ) (z : Sensor) → listened records count z count ≡ z
+pub all-heard : (records : List ℕ) (count : ℕ) (z : Sensor) → listened records count z count ≡ z
 unfolding listened
 all-heard records count z = rw (eqb-same count) refl
 

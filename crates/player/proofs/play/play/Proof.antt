@@ -1,81 +1,76 @@
+use mathlib.Core.Path.{_≡_, refl, _∙_}
+use native.Mathlib.Omega.{arith}
+use denote.Ref.{now}
 use borrow.Author.Needs.{needs}
+use Rattle.octets.specs.Splice.{splice}
+use Rattle.rules.specs.Runs.{recordOctets}
+use Rattle.rules.specs.Status.{recordOf}
+use Rattle.phases.proofs.Rooms.{sound-room}
+use Rattle.pairs.specs.Pairs.{pairOf}
+use Rattle.turns.specs.Turns.{listened}
+use Rattle.player.specs.Playing.{freshIn, Ready}
+use Rattle.player.proofs.Ends.{record-alone, move-few, fit-ready, ended}
 use Rattle.player.proofs.play.play.Statement.{statement}
 use Rattle.player.proofs.play.play.Tie as tie
-use Rattle.player.proofs.play.play.Reads as reads
-use Rattle.player.proofs.play.play.Lts as lts
-use Rattle.buffers.proofs.put.put_notes.Reads as put-notes-reads
-use Rattle.buffers.proofs.put.put_record.Reads as put-record-reads
-use Rattle.lamps.proofs.lamp.lamp_of.Reads as lamp-of-reads
-use Rattle.player.proofs.play.fresh_in.Reads as fresh-in-reads
-use Rattle.player.proofs.play.play_items.Reads as play-items-reads
-use Rattle.records.proofs.status.record_of.Reads as record-of-reads
-use Rattle.timers.proofs.clock.move_clock.Reads as move-clock-reads
-use Rattle.turns.proofs.heard.listen.Reads as listen-reads
 
--- src/play.rt:178:9
-fresh-in-requires : tie.Need-fresh-in-requires
-fresh-in-requires c κs = search needs
+-- the start record stands at the head of the buffer
+begun : (c : tie.After-put-record) → let a = c .before .before .before .before .before .before .before .before .args in c .put-record .last .0 ≡ splice (now (a .records)) 0 (recordOctets (recordOf 0 (freshIn (now (a .file)))))
+begun c =
+    c .put-record .ensures
+    ∙ rw (c .before .record-of .ensures, c .before .before .lamp-of .ensures, c .before .before .before .before .fresh-in .ensures) (rw (record-alone 0 (freshIn _)) refl)
 
--- src/play.rt:179:41
-lamp-of-requires : tie.Need-lamp-of-requires
-lamp-of-requires c κs = search needs
+-- the fresh pair is sound, and the items are in order from there on
+ready : (c : tie.After-put-record) → let a = c .before .before .before .before .before .before .before .before .args in Ready (now (a .file)) (a .n) (pairOf (c .before .before .before .before .fresh-in .result) (listened (c .put-record .last .0) 1 (a .first) 0))
+ready c = rw (c .before .before .before .before .fresh-in .ensures) (fit-ready _ _ _ _ (begun c) _ _ (c .before .before .before .before .before .before .before .before .pre .0) (λ i. omega (arith, c .before .before .before .before .before .before .before .shared-slice-known .given i)))
 
--- src/play.rt:179:28
-record-of-requires : tie.Need-record-of-requires
-record-of-requires c κs = search needs
-
--- src/play.rt:179:5
-put-record-requires : tie.Need-put-record-requires
-put-record-requires c κs = search needs
-
--- src/play.rt:180:9
 play-items-requires : tie.Need-play-items-requires
-play-items-requires c κs = ?
+play-items-requires c κs = (ready (c .before .before .before .before), omega (arith, c .before .before .before .before .put-record .kept .0, c .before .before .before .before .before .before .before .before .before .before .before .before .pre .1), c .before .before .before .before .before .before .before .before .before .before .before .before .pre .2)
 
--- src/play.rt:183:9
 move-clock-requires : tie.Need-move-clock-requires
-move-clock-requires c κs = ?
+move-clock-requires c κs =
+    let fit = c .before .before .before .before .before .before .before .before .before .before .before .before .before .before .before .before .before .before .before .pre .0 in
+    sound-room _ _ (c .before .before .before .before .before .before .play-items .ensures .1) (omega (arith, fit .ends, fit .start .header .layout .end))
 
--- src/play.rt:186:5
 put-notes-requires : tie.Need-put-notes-requires
-put-notes-requires c κs = ?
+put-notes-requires c κs =
+    let items = c .before .before .before .before .before .before .before .before .before .before .play-items in
+    let few = move-few _ _ _ (c .before .before .before .move-clock .ensures) in
+    (omega (arith, few, items .ensures .2, ready (c .before .before .before .before .before .before .before .before .before .before .before .before .before .before .before) .few), omega (arith, few), omega (arith, few, items .ensures .2, items .kept .1 .1 .1 .1 .0, c .before .before .before .before .before .before .before .before .before .before .before .before .before .before .before .put-record .kept .0, c .before .before .before .before .before .before .before .before .before .before .before .before .before .before .before .before .before .before .before .before .before .before .before .pre .1))
 
--- src/play.rt:187:33
-cast-count : tie.Need-cast-count
-cast-count c = search needs
-
--- src/play.rt:187:17
 add-count : tie.Need-add-count
-add-count c = ?
+add-count c = omega (arith, move-few _ _ _ (c .before .before .before .before .before .before .before .before .move-clock .ensures), c .before .before .before .before .before .before .before .before .before .before .before .before .before .before .before .play-items .ensures .2, ready (c .before .before .before .before .before .before .before .before .before .before .before .before .before .before .before .before .before .before .before .before) .few)
 
--- src/play.rt:190:17
 listen-requires : tie.Need-listen-requires
-listen-requires c κs = ?
+listen-requires c κs =
+    let items = c .before .before .before .before .before .before .before .before .before .before .before .before .before .before .before .before .play-items in
+    let few = move-few _ _ _ (c .before .before .before .before .before .before .before .before .before .move-clock .ensures) in
+    (omega (arith, items .ensures .3), omega (arith, few, items .ensures .2, c .before .before .before .before .before .put-notes .kept .0, items .kept .1 .1 .1 .1 .0, c .before .before .before .before .before .before .before .before .before .before .before .before .before .before .before .before .before .before .before .before .before .put-record .kept .0, c .before .before .before .before .before .before .before .before .before .before .before .before .before .before .before .before .before .before .before .before .before .before .before .before .before .before .before .before .before .pre .1))
 
--- src/play.rt:167:1
 same-length : tie.Need-same-length
-same-length c = ?
+same-length c = c .before .before .before .before .before .before .put-notes .kept .0 ∙ c .before .before .before .before .before .before .before .before .before .before .before .before .before .before .before .before .before .play-items .kept .1 .1 .1 .1 .0 ∙ c .before .before .before .before .before .before .before .before .before .before .before .before .before .before .before .before .before .before .before .before .before .before .put-record .kept .0
 
--- src/play.rt:167:1
 same-length-2 : tie.Need-same-length-2
-same-length-2 c = ?
+same-length-2 c = c .before .before .before .before .before .before .before .before .before .before .before .before .before .before .before .before .before .play-items .kept .1 .1 .1 .1 .1 .0
 
--- src/play.rt:167:1
 returns : tie.Need-returns
-returns c = ?
+returns c =
+    let a = c .before .before .before .before .before .before .before .before .before .before .before .before .before .before .before .before .before .before .before .before .before .before .before .before .before .before .before .before .before .before in
+    let items = c .before .before .before .before .before .before .before .before .before .before .before .before .before .before .before .before .before .play-items in
+    rw (c .listen .ensures)
+    (ended _ _ _ _ (begun (c .before .before .before .before .before .before .before .before .before .before .before .before .before .before .before .before .before .before .before .before .before .before)) _ (a .pre .0 .ends) _ _ _ _ _ _ _ _ (items .ensures .3) (omega (arith, items .ensures .2, items .kept .1 .1 .1 .1 .0, c .before .before .before .before .before .before .before .before .before .before .before .before .before .before .before .before .before .before .before .before .before .before .put-record .kept .0, a .pre .1)) (rw (c .before .before .before .before .before .before .before .before .before .before .before .before .before .before .before .before .before .before .before .before .before .before .before .before .before .before .fresh-in .ensures) at (items .ensures .0)) _ (c .before .before .before .before .before .before .before .before .before .before .move-clock .ensures) (c .before .before .before .before .before .before .put-notes .ensures))
 
 pub play-spec : {M : Type 1} → statement M
 play-spec =
     tie.close
     (tie.spec
-    fresh-in-requires
-    lamp-of-requires
-    record-of-requires
-    put-record-requires
+    (λ c κs. c .before .before .before .pre .0 .start .header .long)
+    (λ c κs. search needs)
+    (λ c κs. search needs)
+    (λ c κs. search needs)
     play-items-requires
     move-clock-requires
     put-notes-requires
-    cast-count
+    (λ c. search needs)
     add-count
     listen-requires
     same-length
