@@ -2,7 +2,7 @@
 use Prim.Native.Nat.{ℕ}
 use mathlib.Core.Bool.{true, false, _&&_}
 use mathlib.Core.List.{List}
-use mathlib.Core.Path.{_≡_, sym}
+use mathlib.Core.Path.{_≡_, sym, ap, _∙_}
 use native.Mathlib.Nat.{zero-add}
 use lib.ListN.{length}
 use lib.Dec.{leb}
@@ -10,20 +10,50 @@ use Rattle.base.specs.declared.refusal.Refusal.{Refusal}
 use Rattle.base.specs.declared.refusal.Refusal.the-variants.{ShortBuffer}
 use Rattle.base.specs.declared.refusal.Check.the-variants.{Passed, Refused}
 use Rattle.rules.specs.Layout.{recordsRoom}
-use Rattle.rules.specs.Readings.{cues, verdict}
-use Rattle.rules.specs.Files.{inputCount, readFile, lentEnough}
+use Rattle.rules.specs.Lists.{Cue, Played}
+use Rattle.rules.specs.Readings.{Reading, cues, found, verdict}
+use Rattle.rules.specs.Files.{inputCount, endTime, readFile, lentEnough}
 use Rattle.rules.specs.Runs.{playFile, accepted, refused, runCall}
 use Rattle.rules.proofs.Refusals.Readings.{bad-read, good-read}
+use Rattle.rules.proofs.Refusals.Files.{good-file, good-start}
 use Rattle.rules.proofs.Refusals.Runs.{a-bad-file-is-refused, a-short-buffer-is-refused, a-good-file-is-played}
+use Rattle.sensor.specs.declared.state.Sensor.{Sensor}
+use Rattle.pairs.specs.Lists.{Listed}
+use Rattle.pairs.proofs.Halves.{actuatorPart, plainItems}
+use Rattle.pairs.proofs.Reading.{reads-plain, a-plain-list-is-the-actuators}
 use Rattle.player.specs.declared.play.Ended.{Ended}
-use Rattle.player.specs.Playing.{listIn, Filled}
+use Rattle.player.specs.Playing.{itemsRead, itemsIn, playIn, Fit, Filled}
 use Rattle.house.specs.Reports.{refusal, report, whole}
 use Rattle.buffers.proofs.Splices.{splice-front}
 
 -- what the check of a file has found
+unfoldable pub listIn : List ℕ → List Cue
+listIn file = found (readFile file)
+
 pub file-passed : (file : List ℕ) → verdict (readFile file) ≡ Passed → readFile file ≡ cues (listIn file)
 unfolding listIn
 file-passed file e = good-read (readFile file) e
+
+-- ---- a cue file is a list of items, without edges
+
+module _ (file : List ℕ) (read : readFile file ≡ cues (listIn file)) where
+  items-read : itemsRead file ≡ cues (plainItems (listIn file))
+  unfolding itemsRead
+  items-read = reads-plain file (inputCount file) 0 0 (endTime file) (listIn file) (sym (good-start file (good-file file (listIn file) read .start)) ∙ read)
+
+  items-are-cues : itemsIn file ≡ plainItems (listIn file)
+  unfolding itemsIn
+  items-are-cues = ap (λ (x : Reading Listed). found x) items-read
+
+  pub file-fits : (n end : ℕ) → n ≡ inputCount file → end ≡ endTime file → Fit file n end
+  file-fits n end inputs ends = record { start = good-file file (listIn file) read .start; reads = items-read ∙ ap (λ (l : List Listed). cues l) (sym items-are-cues); inputs = inputs; ends = ends }
+
+  -- and its run is the actuator's, whatever sensor stands beside it
+  pub played-alone : (z : Sensor) → playFile file (listIn file) ≡ actuatorPart (playIn file z)
+  unfolding playIn playFile
+  played-alone z = rw items-are-cues (sym (a-plain-list-is-the-actuators _ _ z (listIn file) (endTime file)))
+
+-- ---- the run
 
 module _ (file r a : List ℕ) where
   pub run-refused : (why : Refusal) (place : ℕ) → verdict (readFile file) ≡ Refused why place → whole (refusal why place) r a ≡ runCall file r a
@@ -36,8 +66,8 @@ module _ (file r a : List ℕ) where
   run-short n same read short = sym (a-short-buffer-is-refused file r a (listIn file) read (rw (← same) short))
 
   pub run-accepted : (n : ℕ) → n ≡ inputCount file → readFile file ≡ cues (listIn file) → (leb (recordsRoom n) (length r) && leb n (length a)) ≡ true
-      → (e : Ended) (r₁ a₁ : List ℕ) → Filled 0 (playFile file (listIn file)) r a e r₁ a₁ → whole (report e) r₁ a₁ ≡ runCall file r a
+      → (z : Sensor) (e : Ended) (r₁ a₁ : List ℕ) → Filled 0 (playIn file z) r a (e .state) (e .sensor) (e .count) r₁ a₁ → whole (report e) r₁ a₁ ≡ runCall file r a
   unfolding lentEnough accepted report
-  run-accepted n same read room e r₁ a₁ f =
+  run-accepted n same read room z e r₁ a₁ f =
       rw (f .state, f .count, f .records, f .answers, splice-front r, splice-front a, zero-add)
-      (sym (a-good-file-is-played file r a (listIn file) read (rw (← same) room)))
+      (sym (a-good-file-is-played file r a (listIn file) read (rw (← same) room) ∙ ap (λ (p : Played). accepted p r a) (played-alone file read z)))

@@ -12,6 +12,7 @@ use cues::header::input_count;
 use player::play::Ended;
 use player::play::play;
 use rules::call::Ran;
+use sensor::state::own_sensor;
 use states::fresh::own_state;
 
 fn refused(why: Refusal, place: u16) -> Ran
@@ -37,6 +38,8 @@ fn accepted(e: Ended) -> Ran
     }
 }
 
+// A cue file has no edges, so the sensor beside the actuator does nothing.
+//
 // Every octet string and every pair of buffers: the file's own refusal comes first, then that of a short buffer, and a
 // refused run leaves both buffers as they were.
 pub fn run(file: &[u8], records: &mut [u8], answers: &mut [u8]) -> Ran
@@ -48,7 +51,14 @@ pub fn run(file: &[u8], records: &mut [u8], answers: &mut [u8]) -> Ran
         Check::Passed => {
             let n = input_count(file);
             if is_roomy(n, records.len(), answers.len()) {
-                accepted(play(file, n, end_time(file), records, answers))
+                accepted(play(
+                    file,
+                    own_sensor(),
+                    n,
+                    end_time(file),
+                    records,
+                    answers,
+                ))
             } else {
                 refused(Refusal::ShortBuffer, 0)
             }

@@ -1,3 +1,2 @@
 pub mod Items
-pub mod Turns
-pub mod Ends
+pub mod Runs

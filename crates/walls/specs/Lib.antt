@@ -1,2 +1,2 @@
 pub mod Lists
-pub mod Playing
+pub mod Reports

@@ -2,5 +2,4 @@
 // played to the pair of an actuator and a sensor into two lent buffers.
 pub mod c;
 pub mod list;
-pub mod play;
 pub mod run;

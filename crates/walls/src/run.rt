@@ -1,11 +1,10 @@
 // The run over a wall list.
 ghost use mathlib.Core.Path.{_≡_};
 ghost use Rattle.pairs.specs.Walls.{wallCall};
-ghost use Rattle.walls.specs.Playing.{wallRefusal, wallReport, wallWhole};
+ghost use Rattle.walls.specs.Reports.{wallRefusal, wallReport, wallWhole};
+use crate::list::actions_in;
 use crate::list::check_wall;
 use crate::list::file_in;
-use crate::play::WallEnded;
-use crate::play::play;
 use base::refusal::Check;
 use base::refusal::Refusal;
 use base::refusal::number_of;
@@ -13,6 +12,9 @@ use buffers::put::is_roomy;
 use cues::header::end_time;
 use cues::header::input_count;
 use pairs::call::WallRan;
+use player::play::Ended;
+use player::play::play;
+use sensor::state::fresh_with;
 use sensor::state::own_sensor;
 use states::fresh::own_state;
 
@@ -28,7 +30,7 @@ fn refused(why: Refusal, place: u16) -> WallRan
     }
 }
 
-fn accepted(e: WallEnded) -> WallRan
+fn accepted(e: Ended) -> WallRan
     ensures { λ r. ⌜ r ≡ wallReport e ⌝ }
 {
     let state = e.state;
@@ -54,7 +56,8 @@ pub fn run_wall(wall: &[u8], records: &mut [u8], answers: &mut [u8]) -> WallRan
             let file = file_in(wall);
             let n = input_count(file);
             if is_roomy(n, records.len(), answers.len()) {
-                accepted(play(wall, n, end_time(file), records, answers))
+                let first = fresh_with(actions_in(wall));
+                accepted(play(file, first, n, end_time(file), records, answers))
             } else {
                 refused(Refusal::ShortBuffer, 0)
             }

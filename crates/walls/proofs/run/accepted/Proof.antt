@@ -1,5 +1,5 @@
 use borrow.Author.Needs.{needs}
-use Rattle.walls.specs.Playing.{wallReport}
+use Rattle.walls.specs.Reports.{wallReport}
 use Rattle.walls.proofs.run.accepted.Statement.{statement}
 use Rattle.walls.proofs.run.accepted.Tie as tie
 

@@ -1,5 +1,5 @@
 use borrow.Author.Needs.{needs}
-use Rattle.walls.specs.Playing.{wallRefusal}
+use Rattle.walls.specs.Reports.{wallRefusal}
 use Rattle.walls.proofs.run.refused.Statement.{statement}
 use Rattle.walls.proofs.run.refused.Tie as tie
 
