@@ -1,109 +1,64 @@
+use mathlib.Core.Path.{_≡_, sym, _∙_}
+use native.Mathlib.Omega.{arith}
+use denote.Ref.{now}
+use borrow.Author.Needs.{needs}
+use Rattle.rules.specs.Readings.{cues}
+use Rattle.buffers.proofs.Standing.{enough-room}
+use Rattle.pairs.specs.Walls.{fileIn, readWall}
+use Rattle.pairs.specs.Refusals.{GoodWall}
+use Rattle.pairs.proofs.Refusals.Walls.{actions-length, good-wall}
+use Rattle.player.specs.Playing.{itemsIn}
+use Rattle.walls.proofs.Runs.{wall-passed, wall-fits, run-refused, run-short, run-accepted}
 use Rattle.walls.proofs.run.run_wall.Statement.{statement}
 use Rattle.walls.proofs.run.run_wall.Tie as tie
-use Rattle.walls.proofs.run.run_wall.Reads as reads
-use Rattle.walls.proofs.run.run_wall.Lts as lts
-use Rattle.buffers.proofs.put.is_roomy.Reads as is-roomy-reads
-use Rattle.cues.proofs.header.end_time.Reads as end-time-reads
-use Rattle.cues.proofs.header.input_count.Reads as input-count-reads
-use Rattle.player.proofs.play.play.Reads as play-reads
-use Rattle.sensor.proofs.state.fresh_with.Reads as fresh-with-reads
-use Rattle.walls.proofs.list.actions_in.Reads as actions-in-reads
-use Rattle.walls.proofs.list.check_wall.Reads as check-wall-reads
-use Rattle.walls.proofs.list.file_in.Reads as file-in-reads
-use Rattle.walls.proofs.run.accepted.Reads as accepted-reads
-use Rattle.walls.proofs.run.refused.Reads as refused-reads
 
--- src/run.rt:52:9
-check-wall-requires : tie.Need-check-wall-requires
-check-wall-requires c κs = ?
+-- the list is accepted, so its header is as it must be
+read : (c : tie.After-enum-told) → let wall = now (c .before .before .before .before .before .before .args .wall) in readWall wall ≡ cues (itemsIn (fileIn wall))
+read c = wall-passed _ (sym (c .before .before .check-wall .ensures) ∙ c .enum-told .given .1)
 
--- src/run.rt:54:26
-enum-known-checked : tie.Need-enum-known-checked
-enum-known-checked c = ?
+good : (c : tie.After-enum-told) → GoodWall (now (c .before .before .before .before .before .before .args .wall))
+good c = good-wall _ _ (read c)
 
--- src/run.rt:54:42
-refused-requires : tie.Need-refused-requires
-refused-requires c κs = ?
-
--- src/run.rt:56:17
-enum-told : tie.Need-enum-told
-enum-told c = ?
-
--- src/run.rt:56:17
-file-in-requires : tie.Need-file-in-requires
-file-in-requires c κs = ?
-
--- src/run.rt:57:17
-input-count-requires : tie.Need-input-count-requires
-input-count-requires c κs = ?
-
--- src/run.rt:58:16
-is-roomy-requires : tie.Need-is-roomy-requires
-is-roomy-requires c κs = ?
-
--- src/run.rt:59:40
-actions-in-requires : tie.Need-actions-in-requires
-actions-in-requires c κs = ?
-
--- src/run.rt:59:21
-fresh-with-requires : tie.Need-fresh-with-requires
-fresh-with-requires c κs = ?
-
--- src/run.rt:60:47
-end-time-requires : tie.Need-end-time-requires
-end-time-requires c κs = ?
-
--- src/run.rt:60:26
 play-requires : tie.Need-play-requires
-play-requires c κs = ?
+play-requires c κs =
+    let room = enough-room _ _ _ (sym (c .before .before .before .before .before .before .is-roomy .ensures) ∙ c .before .before .before .before .before .if1 .taken) in
+    let file = c .before .before .before .before .before .before .before .before .file-in .ensures in
+    (rw file (wall-fits _ (read (c .before .before .before .before .before .before .before .before .before)) _ _ (rw file at (c .before .before .before .before .before .before .before .input-count .ensures)) (rw file at (c .before .before .end-time .ensures))), room .0, room .1)
 
--- src/run.rt:60:17
-accepted-requires : tie.Need-accepted-requires
-accepted-requires c κs = ?
-
--- src/run.rt:62:17
-refused-requires-2 : tie.Need-refused-requires-2
-refused-requires-2 c κs = ?
-
--- src/run.rt:49:1
 returns : tie.Need-returns
-returns c = ?
+returns c = rw (c .refused .ensures) (run-refused _ _ _ _ _ (sym (c .before .before .before .before .check-wall .ensures) ∙ c .before .before .checked .given .1))
 
--- src/run.rt:49:1
-same-length : tie.Need-same-length
-same-length c = ?
-
--- src/run.rt:49:1
-same-length-2 : tie.Need-same-length-2
-same-length-2 c = ?
-
--- src/run.rt:49:1
 returns-2 : tie.Need-returns-2
-returns-2 c = ?
+returns-2 c =
+    let file = c .before .before .before .before .before .before .before .before .before .before .before .before .before .before .file-in .ensures in
+    let first = c .before .before .before .before .before .before .before .before .before .fresh-with .ensures in
+    rw (c .accepted .ensures)
+    (run-accepted _ _ _ _ (rw file at (c .before .before .before .before .before .before .before .before .before .before .before .before .before .input-count .ensures)) (read (c .before .before .before .before .before .before .before .before .before .before .before .before .before .before .before)) (sym (c .before .before .before .before .before .before .before .before .before .before .before .before .is-roomy .ensures) ∙ c .before .before .before .before .before .before .before .before .before .before .before .if1 .taken) _ _ _ (rw (first, c .before .before .before .before .before .before .before .before .before .before .actions-in .ensures, file) at (c .before .before .before .before .before .play .ensures)))
 
--- src/run.rt:49:1
 returns-3 : tie.Need-returns-3
-returns-3 c = ?
+returns-3 c =
+    rw (c .refused2 .ensures)
+    (run-short _ _ _ _ (rw (c .before .before .before .before .file-in .ensures) at (c .before .before .before .input-count .ensures)) (read (c .before .before .before .before .before)) (sym (c .before .before .is-roomy .ensures) ∙ c .before .if1 .left))
 
 pub run-wall-spec : {M : Type 1} → statement M
 run-wall-spec =
     tie.close
     (tie.spec
-    check-wall-requires
-    enum-known-checked
-    refused-requires
-    enum-told
-    file-in-requires
-    input-count-requires
-    is-roomy-requires
-    actions-in-requires
-    fresh-with-requires
-    end-time-requires
+    (λ c κs. search needs)
+    (λ c. search needs)
+    (λ c κs. search needs)
+    (λ c. search needs)
+    (λ c κs. omega (arith, good c .long))
+    (λ c κs. rw (c .file-in .ensures) (good (c .before) .start .header .long))
+    (λ c κs. rw (c .input-count .ensures, c .before .file-in .ensures) (good (c .before .before) .start .header .layout .few))
+    (λ c κs. omega (arith, good (c .before .before .before .before) .long))
+    (λ c κs. rw (c .actions-in .ensures) (omega (arith, actions-length (now (c .before .before .before .before .before .before .before .before .before .before .before .args .wall)) (omega (arith, good (c .before .before .before .before .before) .long)))))
+    (λ c κs. rw (c .before .before .before .before .before .file-in .ensures) (good (c .before .before .before .before .before .before) .start .header .long))
     play-requires
-    accepted-requires
-    refused-requires-2
+    (λ c κs. search needs)
+    (λ c κs. search needs)
     returns
-    same-length
-    same-length-2
+    (λ c. search needs)
+    (λ c. search needs)
     returns-2
     returns-3)
