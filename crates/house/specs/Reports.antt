@@ -5,7 +5,7 @@ use Rattle.base.specs.declared.refusal.Refusal.{Refusal}
 use Rattle.rules.specs.declared.call.Ran.{Ran}
 use Rattle.base.specs.Refusals.{number}
 use Rattle.rules.specs.Calls.{ownState}
-use Rattle.rules.specs.Runs.{Whole, Answered}
+use Rattle.rules.specs.Runs.{Whole}
 use Rattle.player.specs.declared.play.Ended.{Ended}
 
 unfoldable pub refusal : Refusal → ℕ → Ran
@@ -17,7 +17,3 @@ report e = record { state = e .state; code = 0; place = 0; count = e .count }
 -- the report, and both buffers at the end
 abbrev pub whole : Ran → List ℕ → List ℕ → Whole
 whole r records answers = record { report = r; records = records; answers = answers }
-
--- the number to C, and both buffers at the end
-abbrev pub answered : ℕ → List ℕ → List ℕ → Answered
-answered n records answers = record { number = n; records = records; answers = answers }

@@ -1,7 +1,6 @@
 // The call from C.
 ghost use mathlib.Core.Path.{_≡_};
-ghost use Rattle.rules.specs.Runs.{houseRun};
-ghost use Rattle.house.specs.Reports.{answered};
+ghost use Rattle.rules.specs.Runs.{answered, houseRun};
 use crate::run::run;
 use buffers::report::pack;
 

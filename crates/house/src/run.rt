@@ -51,14 +51,7 @@ pub fn run(file: &[u8], records: &mut [u8], answers: &mut [u8]) -> Ran
         Check::Passed => {
             let n = input_count(file);
             if is_roomy(n, records.len(), answers.len()) {
-                accepted(play(
-                    file,
-                    own_sensor(),
-                    n,
-                    end_time(file),
-                    records,
-                    answers,
-                ))
+                accepted(play(file, own_sensor(), n, end_time(file), records, answers))
             } else {
                 refused(Refusal::ShortBuffer, 0)
             }

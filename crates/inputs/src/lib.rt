@@ -5,8 +5,7 @@ ghost use mathlib.Core.Bool.{true};
 ghost use lib.ListN.{length};
 ghost use Rattle.rules.specs.declared.input.Decoded.the-variants.{Meant};
 ghost use Rattle.rules.specs.Layout.{inputSize};
-ghost use Rattle.rules.specs.declared.input.Input.{Input};
-ghost use Rattle.rules.specs.Inputs.{kind, decoded, inputAt};
+ghost use Rattle.rules.specs.Inputs.{decoded, inputAt};
 ghost use Rattle.inputs.specs.Meaning.{isMeant, eventOf, forceOf};
 use octets::group::ends_in_zeros;
 use rules::input::Decoded;
@@ -84,19 +83,11 @@ pub fn is_input_at(octets: &[u8], at: usize) -> bool
 }
 
 // The input that starts at a place where one does.
-pub fn known_input_at(octets: &[u8], at: usize) -> Input
+fn known_input_at(octets: &[u8], at: usize) -> Input
     requires { ⌜ (at + inputSize ≤ length (now octets)) × (isMeant (inputAt (now octets) at) ≡ true) ⌝ }
     ensures { λ r. ⌜ inputAt (now (octets .entry)) at ≡ Meant r ⌝ }
 {
     known_input(octets[at + 4], octets[at + 5])
-}
-
-// Its kind alone: what stops an input is told by that.
-pub fn kind_at(octets: &[u8], at: usize) -> u8
-    requires { ⌜ (at + inputSize ≤ length (now octets)) × (isMeant (inputAt (now octets) at) ≡ true) ⌝ }
-    ensures { λ r. ⌜ ((i : Input) → inputAt (now (octets .entry)) at ≡ Meant i → r ≡ kind i) ⌝ }
-{
-    octets[at + 4]
 }
 
 // What the input that starts at a place means.

@@ -12,7 +12,7 @@ use sensor::react::hear;
 use sensor::state::Sensor;
 
 // One record: its value is 0 or 255.
-pub fn hear_record(z: Sensor, r: Record) -> Sensor
+fn hear_record(z: Sensor, r: Record) -> Sensor
     ensures { λ x. ⌜ x ≡ heard r z ⌝ }
 {
     hear(z, r.stamp, r.value == 255)

@@ -62,7 +62,7 @@ pub struct Moment {
 }
 
 // The fresh state of a file's own parameters and scenes.
-pub fn fresh_in(file: &[u8]) -> State
+fn fresh_in(file: &[u8]) -> State
     requires { ⌜ inputsAt ≤ length (now file) ⌝ }
     ensures { λ r. ⌜ r ≡ freshIn (now (file .entry)) ⌝ }
 {

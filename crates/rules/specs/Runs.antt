@@ -70,6 +70,10 @@ pub record Answered : Type 0 where
   pub records : List ℕ
   pub answers : List ℕ
 
+-- as the code hands them out
+abbrev pub answered : ℕ → List ℕ → List ℕ → Answered
+answered n records answers = record { number = n; records = records; answers = answers }
+
 unfoldable pub answeredBy : Whole → Answered
 answeredBy w = record { number = packed (w .report); records = w .records; answers = w .answers }
 

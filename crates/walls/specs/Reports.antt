@@ -4,7 +4,6 @@ use mathlib.Core.List.{List}
 use Rattle.base.specs.declared.refusal.Refusal.{Refusal}
 use Rattle.base.specs.Refusals.{number}
 use Rattle.rules.specs.Calls.{ownState}
-use Rattle.rules.specs.Runs.{Answered}
 use Rattle.sensor.specs.Sensors.{ownSensor}
 use Rattle.pairs.specs.declared.call.WallRan.{WallRan}
 use Rattle.pairs.specs.Walls.{WallWhole}
@@ -18,7 +17,3 @@ wallReport e = record { state = e .state; sensor = e .sensor; code = 0; place = 
 
 abbrev pub wallWhole : WallRan → List ℕ → List ℕ → WallWhole
 wallWhole r records answers = record { report = r; records = records; answers = answers }
-
--- the number to C, and both buffers at the end
-abbrev pub answered : ℕ → List ℕ → List ℕ → Answered
-answered n records answers = record { number = n; records = records; answers = answers }

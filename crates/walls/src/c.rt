@@ -1,7 +1,7 @@
 // The call from C.
 ghost use mathlib.Core.Path.{_≡_};
+ghost use Rattle.rules.specs.Runs.{answered};
 ghost use Rattle.pairs.specs.Walls.{houseWallRun};
-ghost use Rattle.walls.specs.Reports.{answered};
 use crate::run::run_wall;
 use buffers::report::pack;
 
