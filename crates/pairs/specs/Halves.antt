@@ -5,6 +5,7 @@ use mathlib.Core.Bool.{Bool}
 use mathlib.Core.List.{List, [], _∷_, _++_}
 use mathlib.Core.Option.{Option, some, none}
 use mathlib.Core.Path.{_≡_}
+use Rattle.rules.specs.declared.input.Input.{Input}
 use Rattle.rules.specs.declared.input.Input.the-variants.{SwitchOnOff}
 use Rattle.rules.specs.declared.record.Record.{Record}
 use Rattle.rules.specs.Steps.{act}
@@ -26,13 +27,24 @@ ItemsRise last (listed t i ∷ later) end = (last ≤ t) × ItemsRise t later en
 
 -- ---- the actuator's half
 
+-- what a telegram is to the actuator
+abbrev pub sentAs : Telegram → Option Input
+sentAs Silent = none
+sentAs (Switch value) = some (SwitchOnOff value)
+
 -- what the actuator is given of an item: an input of its own, the telegram of an edge, or nothing
+abbrev pub givenOf : Item → Telegram → Option Input
+givenOf (Plain i) sent = some i
+givenOf (Button1 edge) sent = sentAs sent
+givenOf (Button2 edge) sent = sentAs sent
+
+-- at the item's stamp
+abbrev pub cueOf : ℕ → Option Input → Option Cue
+cueOf t none = none
+cueOf t (some i) = some (cue t i)
+
 abbrev pub sentTo : ℕ → Item → Telegram → Option Cue
-sentTo t (Plain i) sent = some (cue t i)
-sentTo t (Button1 edge) Silent = none
-sentTo t (Button1 edge) (Switch value) = some (cue t (SwitchOnOff value))
-sentTo t (Button2 edge) Silent = none
-sentTo t (Button2 edge) (Switch value) = some (cue t (SwitchOnOff value))
+sentTo t i sent = cueOf t (givenOf i sent)
 
 -- item by item
 unfoldable pub cuesFor : List Listed → Pair → List (Option Cue)

@@ -34,6 +34,7 @@ use Rattle.sensor.specs.declared.react.Telegram.{Telegram}
 use Rattle.pairs.specs.declared.item.Item.{Item}
 use Rattle.pairs.specs.declared.item.Read.the-variants.{Known}
 use Rattle.pairs.specs.Items.{itemAt}
+use Rattle.pairs.specs.Halves.{givenOf}
 use Rattle.pairs.specs.Pairs.{Pair, pairOf, hears, pairMove, PairStepped, pairStep}
 use Rattle.pairs.specs.Lists.{Listed, listed, PairPlayed, pairThen, pairStepped, pairPlays}
 use Rattle.pairs.specs.Calls.{pairSound}
@@ -56,9 +57,9 @@ use Rattle.buffers.proofs.Splices.{records-none, records-more}
 use Rattle.buffers.proofs.Standing.{Standing, standing-first, standing-more}
 use Rattle.turns.specs.declared.turn.Asked.the-variants.{Nothing, Order}
 use Rattle.turns.specs.declared.turn.Turn.{Turn}
-use Rattle.turns.specs.Turns.{listened, decides, asksFor, Turned}
+use Rattle.turns.specs.Turns.{listened, decides, Turned}
 use Rattle.turns.proofs.Hearing.{put-is-heard}
-use Rattle.turns.proofs.Steps.{Rested, Acted, resting-step, acting-step}
+use Rattle.turns.proofs.Steps.{Rests, Performs, resting-step, acting-step}
 use Rattle.player.specs.declared.play.Moment.{Moment}
 use Rattle.player.specs.Playing.{itemsIn, Ready, Filled, Advanced}
 
@@ -167,7 +168,7 @@ module _ (p : Params) (table : List Scene) (l : Lamp) (z : Sensor) (heard t befo
 
   -- nothing is asked
   module _ (silent : u .asked ≡ Nothing) where
-    rests : Rested (pairMove met t) (decides (pairMove met t .pair .sensor) i t .sensor) gives
+    rests : Rests (pairMove met t) (decides (pairMove met t .pair .sensor) i t .sensor) gives
     rests = resting-step met t i (rw (silent, heard-there) at (took .asks))
 
     pub pair-rests : pairOf (stateOf p table (m .lamp)) (listened r₁ (m .count) (u .sensor) (u .heard)) ≡ gives .pair
@@ -187,11 +188,11 @@ module _ (p : Params) (table : List Scene) (l : Lamp) (z : Sensor) (heard t befo
 
   -- an input is asked for
   module _ (kind value : ℕ) (orders : u .asked ≡ Order kind value) where
-    pub asked-for : (x : Input) × (asksFor i (decides (pairMove met t .pair .sensor) i t .telegram) ≡ some x) × (decoded kind value ≡ Meant x)
+    pub asked-for : (x : Input) × (givenOf i (decides (pairMove met t .pair .sensor) i t .telegram) ≡ some x) × (decoded kind value ≡ Meant x)
     asked-for = rw (orders, heard-there) at (took .asks)
 
     module _ (x : Input) (means : decoded kind value ≡ Meant x) where
-      acts : Acted (pairMove met t) (decides (pairMove met t .pair .sensor) i t .sensor) x gives
+      acts : Performs (pairMove met t) (decides (pairMove met t .pair .sensor) i t .sensor) x gives
       acts = acting-step met t i x (rw (same-input (asked-for .0) x (decoded kind value) (asked-for .2) means) (asked-for .1))
 
       module _ (d : Done) (does : d ≡ done (act (still (stateOf p table (m .lamp))) x)) where

@@ -26,9 +26,10 @@ use Rattle.pairs.specs.declared.item.Item.{Item}
 use Rattle.pairs.specs.declared.item.Item.the-variants.{Plain, Button1, Button2}
 use Rattle.pairs.specs.declared.item.Read.the-variants.{Known}
 use Rattle.pairs.specs.Items.{itemAt}
+use Rattle.pairs.specs.Halves.{sentAs}
 use Rattle.pairs.proofs.Items.{signal-kind-is-large, plain-exactly-when, button1-exactly-when, button2-exactly-when}
 use Rattle.turns.specs.declared.turn.Asked.the-variants.{Nothing, Order}
-use Rattle.turns.specs.Turns.{listened, sentAs, Asks, askedBy, pressed, Turned}
+use Rattle.turns.specs.Turns.{listened, Asks, askedBy, edgeTurn, Turned}
 
 -- what an edge sends is asked as a SwitchOnOff
 sent-is-asked : (sent : Telegram) → Asks (askedBy sent) (sentAs sent)
@@ -77,8 +78,8 @@ module _ (file : List ℕ) (at : ℕ) where
 
     -- another kind: the item is an edge
     pub an-edge-is-decided : 8 < kindAt file at → (s : Signal) → signalAt file at ≡ signalled.Meant s → (i : Item) → itemAt file at ≡ Known i →
-        Turned i t records count z heard (pressed (react (listened records count z heard) s t) count)
-    unfolding pressed
+        Turned i t records count z heard (edgeTurn (react (listened records count z heard) s t) count)
+    unfolding edgeTurn
     an-edge-is-decided large s m (Plain x) e = absurd (omega (arith, input-kind-is-small x e))
     an-edge-is-decided large s m (Button1 edge) e =
         let r : Reaction = react (listened records count z heard) (signal.Button1 edge) t in

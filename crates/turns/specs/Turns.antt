@@ -7,7 +7,6 @@ use mathlib.Core.Path.{_≡_}
 use lib.Dec.{eqb}
 use Rattle.octets.specs.BigEndian.{octet, be32}
 use Rattle.rules.specs.declared.input.Input.{Input}
-use Rattle.rules.specs.declared.input.Input.the-variants.{SwitchOnOff}
 use Rattle.rules.specs.declared.input.Decoded.the-variants.{Meant}
 use Rattle.rules.specs.Inputs.{decoded}
 use Rattle.rules.specs.Layout.{recordPlace}
@@ -19,6 +18,7 @@ use Rattle.sensor.specs.declared.react.Reaction.{Reaction}
 use Rattle.sensor.specs.Reactions.{hear, react}
 use Rattle.pairs.specs.declared.item.Item.{Item}
 use Rattle.pairs.specs.declared.item.Item.the-variants.{Plain, Button1, Button2}
+use Rattle.pairs.specs.Halves.{givenOf}
 use Rattle.turns.specs.declared.turn.Asked.{Asked}
 use Rattle.turns.specs.declared.turn.Asked.the-variants.{Nothing, Order}
 use Rattle.turns.specs.declared.turn.Turn.{Turn}
@@ -39,20 +39,10 @@ decides z (Plain i) t = record { sensor = z; telegram = Silent }
 decides z (Button1 edge) t = react z (signal.Button1 edge) t
 decides z (Button2 edge) t = react z (signal.Button2 edge) t
 
--- what the actuator is asked: an input of its own, what an edge sends, or nothing
-abbrev pub sentAs : Telegram → Option Input
-sentAs Silent = none
-sentAs (Switch value) = some (SwitchOnOff value)
-
-abbrev pub asksFor : Item → Telegram → Option Input
-asksFor (Plain i) sent = some i
-asksFor (Button1 edge) sent = sentAs sent
-asksFor (Button2 edge) sent = sentAs sent
-
--- the same by kind and value
+-- what is asked of the actuator, by kind and value, is what it is to be given
 abbrev pub Asks : Asked → Option Input → Type 0
-Asks Nothing wanted = wanted ≡ none
-Asks (Order kind value) wanted = (x : Input) × (wanted ≡ some x) × (decoded kind value ≡ Meant x)
+Asks Nothing given = given ≡ none
+Asks (Order kind value) given = (x : Input) × (given ≡ some x) × (decoded kind value ≡ Meant x)
 
 -- ---- a turn
 
@@ -61,11 +51,11 @@ abbrev pub askedBy : Telegram → Asked
 askedBy Silent = Nothing
 askedBy (Switch value) = Order 1 (cond value 1 0)
 
-unfoldable pub pressed : Reaction → ℕ → Turn
-pressed r count = record { asked = askedBy (r .telegram); sensor = r .sensor; heard = count }
+unfoldable pub edgeTurn : Reaction → ℕ → Turn
+edgeTurn r count = record { asked = askedBy (r .telegram); sensor = r .sensor; heard = count }
 
 -- of any item, at t
 pub record Turned (i : Item) (t : ℕ) (records : List ℕ) (count : ℕ) (z : Sensor) (heard : ℕ) (r : Turn) : Type 0 where
-  pub asks : Asks (r .asked) (asksFor i (decides (listened records count z heard) i t .telegram))
+  pub asks : Asks (r .asked) (givenOf i (decides (listened records count z heard) i t .telegram))
   pub sensor : listened records count (r .sensor) (r .heard) ≡ decides (listened records count z heard) i t .sensor
   pub behind : r .heard ≤ count

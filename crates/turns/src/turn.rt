@@ -8,7 +8,7 @@ ghost use Rattle.sensor.specs.Reactions.{react};
 ghost use Rattle.pairs.specs.declared.item.Item.{Item};
 ghost use Rattle.pairs.specs.declared.item.Read.the-variants.{Known};
 ghost use Rattle.pairs.specs.Items.{itemAt};
-ghost use Rattle.turns.specs.Turns.{pressed, Turned};
+ghost use Rattle.turns.specs.Turns.{edgeTurn, Turned};
 use crate::heard::listen;
 use sensor::react::Telegram;
 use sensor::react::react;
@@ -35,7 +35,7 @@ const LAST_KIND: u8 = 8;
 
 // An edge to a sensor that has heard all records so far. What it sends is a SwitchOnOff.
 fn press(signal: Signal, t: u32, z: Sensor, count: u32) -> Turn
-    ensures { λ r. ⌜ r ≡ pressed (react z signal t) count ⌝ }
+    ensures { λ r. ⌜ r ≡ edgeTurn (react z signal t) count ⌝ }
 {
     let r = react(z, signal, t);
     let sensor = r.sensor;
