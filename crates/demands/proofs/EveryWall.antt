@@ -3,26 +3,19 @@
 use Prim.Native.Nat.{ℕ, zero, suc, _+_, _-_, _≤_, _<_}
 use mathlib.Core.Bool.{Bool, true, false}
 use mathlib.Core.List.{List, [], _∷_, _++_}
-use mathlib.Core.Option.{some}
-use mathlib.Core.Path.{_≡_, refl, sym, ap, _∙_}
+use mathlib.Core.Path.{_≡_, refl, sym, _∙_}
 use native.Mathlib.Omega.{arith}
 use lib.Dec.{leb}
 use lib.ListN.{length, List·getD-eq-default}
-use borrow.Author.Tests.{leb-true, leb-false, le-leb}
+use borrow.Author.Tests.{leb-true, leb-false}
 use Rattle.octets.specs.BigEndian.{octet}
 use Rattle.octets.specs.Groups.{stampAt}
-use Rattle.rules.specs.declared.parameters.Params.{Params}
-use Rattle.rules.specs.declared.parameters.Scene.{Scene}
-use Rattle.rules.specs.declared.input.Input.{Input}
-use Rattle.rules.specs.declared.input.Decoded.the-variants.{Meant}
 use Rattle.rules.specs.Layout.{inputPlace}
-use Rattle.rules.specs.Inputs.{inputAt}
 use Rattle.rules.specs.Steps.{fresh}
-use Rattle.rules.specs.Parameters.{paramsOf, scenesOf}
-use Rattle.rules.specs.Lists.{Cue, Played, andThen, start, playList}
-use Rattle.rules.specs.Readings.{cues, readOne, readInputs}
+use Rattle.rules.specs.Lists.{Cue, start, playList}
+use Rattle.rules.specs.Readings.{cues, readInputs}
 use Rattle.rules.specs.Runs.{playFile}
-use Rattle.rules.specs.Files.{inputCount, endTime, parametersIn, cueAt, readFile}
+use Rattle.rules.specs.Files.{inputCount, endTime, parametersIn, readFile}
 use Rattle.rules.specs.Promises.{Rises, DarkPromise, LightPromise, StrongLightPromise}
 use Rattle.rules.proofs.Laws.Parameters.{passed-has-some-time, passed-is-in-range}
 use Rattle.rules.proofs.Refusals.Readings.{first-read}
@@ -32,17 +25,12 @@ use Rattle.rules.proofs.Promises.Light.{strong-light, light}
 use Rattle.sensor.specs.Sensors.{freshSensor}
 use Rattle.sensor.specs.Reactions.{reacts}
 use Rattle.sensor.specs.Refusals.{GoodActions}
-use Rattle.pairs.specs.declared.item.Item.{Item}
-use Rattle.pairs.specs.declared.item.Item.the-variants.{Plain}
-use Rattle.pairs.specs.declared.item.Read.{Read}
-use Rattle.pairs.specs.declared.item.Read.the-variants.{Known, Unknown}
-use Rattle.pairs.specs.Items.{itemAt}
 use Rattle.pairs.specs.Pairs.{Pair, pairStep}
 use Rattle.pairs.specs.Lists.{Listed, listed, PairPlayed, pairPlaysTo, pairStart, playItems}
 use Rattle.pairs.specs.Calls.{pairSound}
 use Rattle.pairs.specs.Halves.{ItemsRise, ActuatorHalf, statuses, signalsFor, SensorHalf}
 use Rattle.pairs.specs.Refusals.{GoodWall}
-use Rattle.pairs.specs.Walls.{fileIn, actionsIn, stampedItem, itemIn, readWall, playWall}
+use Rattle.pairs.specs.Walls.{fileIn, actionsIn, itemIn, readWall, playWall}
 use Rattle.demands.specs.Walls.{wallParams, wallScenes, wallEnd, begun, cuesGiven}
 use Rattle.pairs.proofs.Playing.{pair-plays-to-next, pair-plays-to-end}
 use Rattle.pairs.proofs.Halves.{actuatorPart, plainItems, cues-rise, the-run-is-the-actuators, the-run-is-the-sensors}

@@ -2,12 +2,11 @@
 use Prim.Native.Nat.{ℕ}
 use mathlib.Core.List.{List, [], _∷_, _++_}
 use mathlib.Core.Option.{Option, some, none}
-use mathlib.Core.Path.{_≡_, refl, sym, ap, _∙_}
+use mathlib.Core.Path.{_≡_, refl, sym, ap}
 use native.Mathlib.Omega.{arith}
 use Rattle.rules.specs.declared.input.Input.{Input}
 use Rattle.rules.specs.Steps.{Stepped, act}
 use Rattle.rules.specs.Lists.{still}
-use Rattle.sensor.specs.declared.signal.Signal.{Signal}
 use Rattle.sensor.specs.declared.signal.Signal.the-variants as signal
 use Rattle.sensor.specs.declared.state.Sensor.{Sensor}
 use Rattle.sensor.specs.declared.react.Telegram.{Telegram}

@@ -8,7 +8,7 @@ use Rattle.base.proofs.Tests.{eqb-same}
 use Rattle.rules.specs.declared.input.Input.{Input}
 use Rattle.rules.specs.declared.input.Input.the-variants.{SwitchOnOff}
 use Rattle.rules.specs.declared.input.Decoded.the-variants.{Meant}
-use Rattle.rules.specs.Inputs.{kind, decoded, inputAt}
+use Rattle.rules.specs.Inputs.{kind}
 use Rattle.rules.proofs.Laws.Inputs.{input-kind, kind-range, an-input-is-what-its-octets-mean}
 use Rattle.sensor.specs.declared.signal.Signal.{Signal}
 use Rattle.sensor.specs.declared.signal.Signal.the-variants as signal
@@ -28,7 +28,7 @@ use Rattle.pairs.specs.declared.item.Read.the-variants.{Known}
 use Rattle.pairs.specs.Items.{itemAt}
 use Rattle.pairs.specs.Halves.{sentAs}
 use Rattle.pairs.proofs.Items.{signal-kind-is-large, plain-exactly-when, button1-exactly-when, button2-exactly-when}
-use Rattle.turns.specs.declared.turn.Asked.the-variants.{Nothing, Order}
+use Rattle.turns.specs.declared.turn.Asked.the-variants.{Order}
 use Rattle.turns.specs.Turns.{listened, Asks, askedBy, edgeTurn, Turned}
 
 -- what an edge sends is asked as a SwitchOnOff

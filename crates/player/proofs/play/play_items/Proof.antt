@@ -3,25 +3,19 @@ use mathlib.Core.Path.{_≡_, refl, sym, _∙_}
 use native.Mathlib.Omega.{arith}
 use denote.Ref.{now}
 use borrow.Author.Needs.{needs}
-use Rattle.octets.specs.Groups.{stampAt}
 use Rattle.rules.specs.declared.input.Input.{Input}
 use Rattle.rules.specs.declared.input.Decoded.the-variants.{Meant}
 use Rattle.rules.specs.Inputs.{decoded}
 use Rattle.rules.specs.Barriers.{barrier}
-use Rattle.rules.specs.Layout.{inputPlace}
 use Rattle.rules.proofs.Laws.Inputs.{kind-range, meant-kind}
 use Rattle.rules.proofs.Laws.Soundness.{move-clock}
 use Rattle.rules.proofs.Laws.Records.{a-move-writes-at-most-two}
 use Rattle.phases.proofs.Rooms.{sound-room, moved-roomy}
 use Rattle.lamps.specs.Lamps.{stateOf}
 use Rattle.records.proofs.Written.{listed-few}
-use Rattle.inputs.specs.Meaning.{isMeant}
-use Rattle.pairs.specs.declared.item.Item.{Item}
-use Rattle.pairs.specs.declared.item.Read.the-variants.{Known}
-use Rattle.pairs.specs.Items.{itemAt}
 use Rattle.pairs.specs.Pairs.{pairOf}
 use Rattle.pairs.proofs.Soundness.{sound-pair-exactly-when}
-use Rattle.turns.specs.Turns.{listened, Turned}
+use Rattle.turns.specs.Turns.{listened}
 use Rattle.player.specs.Playing.{Ready}
 use Rattle.player.proofs.Turns.{Going, going-first, turn, going-rests, going-asks, going-taken, going-stopped, going-last}
 use Rattle.player.proofs.play.play_items.Statement.{statement}

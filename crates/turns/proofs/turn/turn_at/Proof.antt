@@ -1,5 +1,4 @@
 use mathlib.Core.Path.{sym, _∙_}
-use native.Mathlib.Omega.{arith}
 use borrow.Author.Needs.{needs}
 use Rattle.turns.proofs.Turning.{an-input-asks-for-itself, an-edge-is-decided, no-other-item}
 use Rattle.turns.proofs.turn.turn_at.Statement.{statement}
