@@ -14,7 +14,7 @@ use Rattle.rules.specs.Steps.{clockMove, act, step}
 use Rattle.rules.specs.Lists.{still}
 use Rattle.rules.specs.Calls.{blank, places}
 use Rattle.rules.specs.Soundness.{sound}
-use Rattle.rules.proofs.Laws.Records.{a-move-writes-at-most-two, an-input-writes-at-most-three}
+use Rattle.rules.proofs.Laws.Records.{a-move-writes-at-most-two, an-input-writes-at-most-three, used-places, two-of-three}
 use Rattle.sensor.specs.declared.signal.Signal.{Signal}
 use Rattle.sensor.specs.declared.state.Sensor.{Sensor}
 use Rattle.sensor.specs.declared.react.Telegram.the-variants.{Silent, Switch}
@@ -22,9 +22,10 @@ use Rattle.sensor.specs.declared.react.Reaction.{Reaction}
 use Rattle.sensor.specs.Reactions.{react}
 use Rattle.records.specs.declared.notes.Notes.{Notes}
 use Rattle.records.specs.Notes.{notes, added, listed}
-use Rattle.records.proofs.Written.{added-first, listed-first, notes-count}
+use Rattle.records.proofs.Written.{added-first, listed-first, notes-count, used-notes}
 use Rattle.timers.specs.declared.clock.Clocked.{Clocked}
 use Rattle.timers.specs.Ticks.{clocked}
+use Rattle.timers.proofs.Moves.{moved-state, moved-notes, moved-records}
 use Rattle.actuator.specs.declared.step.Acted.{Acted}
 use Rattle.actuator.specs.declared.step.Acting.{Acting}
 use Rattle.actuator.specs.Acts.{acted, acting}
@@ -33,7 +34,6 @@ use Rattle.pairs.specs.declared.item.Item.the-variants.{Plain}
 use Rattle.pairs.specs.Pairs.{pairOf, hears, pairMove, PairStepped, tell, told, pressed, pairStep}
 use Rattle.pairs.specs.Calls.{pairSound, jointDone, jointMoveDone}
 use Rattle.joined.specs.Joints.{jointStep, switchedFrom, jointBy, moveBy}
-use Rattle.joined.proofs.Hears.{used-notes}
 
 -- ---- an input of the actuator
 
@@ -61,32 +61,20 @@ switched-step s z value d e timers room l f =
 -- ---- an edge
 
 module _ (s : State) (t : ℕ) (m : Clocked) (e : m ≡ clocked (clockMove s t)) where
-  pub moved-few : m .notes .count ≤ 2
-  unfolding clocked notes
-  moved-few = rw e (a-move-writes-at-most-two s t)
-
-  moved-state : m .state ≡ clockMove s t .state
-  unfolding clocked
-  moved-state = rw e refl
-
-  pub moved-notes : m .notes ≡ notes (clockMove s t .records)
-  unfolding clocked
-  moved-notes = rw e refl
-
   module _ (z h : Sensor) (g : h ≡ hears (take (m .notes .count) (m .notes .records)) z) (x : Signal) (r : Reaction) (f : r ≡ react h x t) where
     -- by a sensor that has heard the timers
     decided : r ≡ react (pairMove (pairOf s z) t .pair .sensor) x t
     unfolding pairMove
-    decided = f ∙ rw (g, moved-notes, used-notes (clockMove s t .records) (omega (arith, a-move-writes-at-most-two s t))) refl
+    decided = f ∙ rw (g, moved-records s t m e) refl
 
     pub silent-step : r .telegram ≡ Silent →
         record { state = m .state; sensor = r .sensor; answer = 1; notes = m .notes; telegram = Silent } ≡ jointStep (pressed (pairOf s z) x t)
     unfolding jointStep pressed told tell
-    silent-step q = rw (← decided, q, moved-state, moved-notes) (unfold pairMove in refl)
+    silent-step q = rw (← decided, q, moved-state s t m e, moved-notes s t m e) (unfold pairMove in refl)
 
     pub telling-step : (value : Bool) → r .telegram ≡ Switch value → jointStep (switchedFrom (m .state) (r .sensor) (clockMove s t .records) value) ≡ jointStep (pressed (pairOf s z) x t)
     unfolding switchedFrom pressed told tell
-    telling-step value q = rw (← decided, q, moved-state) (unfold pairMove in refl)
+    telling-step value q = rw (← decided, q, moved-state s t m e) (unfold pairMove in refl)
 
 -- ---- the calls
 
@@ -98,15 +86,8 @@ pub step-is-done : (t : ℕ) (d : PairStepped) → jointBy t (jointStep d) ≡ j
 unfolding jointBy jointStep notes jointDone
 step-is-done t d = refl
 
--- the first two of three places are the two places
-two-of-three : (l : List Record) → getD (notes l .records) 0 blank ∷ getD (notes l .records) 1 blank ∷ [] ≡ places 2 l
-unfolding notes places
-two-of-three [] = refl
-two-of-three (a ∷ []) = refl
-two-of-three (a ∷ b ∷ l) = refl
-
 pub move-is-done : (s : State) (z : Sensor) (t : ℕ) → moveBy z (clocked (clockMove s t)) ≡ jointMoveDone (pairMove (pairOf s z) t)
-unfolding moveBy clocked jointMoveDone pairMove
+unfolding moveBy clocked notes jointMoveDone pairMove
 move-is-done s z t =
     let l : List Record = clockMove s t .records in
-    rw (used-notes l (omega (arith, a-move-writes-at-most-two s t)), two-of-three l, notes-count l) refl
+    rw (used-places 3 l (omega (arith, a-move-writes-at-most-two s t)), two-of-three l) refl

@@ -6,9 +6,7 @@ use native.Mathlib.Numerals.{add-one}
 use lib.ListN.{length, getD, take}
 use lib.Seq.{take-suc}
 use Rattle.rules.specs.declared.record.Record.{Record}
-use Rattle.rules.proofs.Laws.Records.{used-places}
 use Rattle.sensor.specs.declared.state.Sensor.{Sensor}
-use Rattle.records.specs.Notes.{notes}
 use Rattle.pairs.specs.Pairs.{hears}
 use Rattle.joined.specs.Joints.{heard}
 
@@ -25,8 +23,3 @@ next-heard row j w z inside = rw (add-one, take-suc row j w inside, hears-last) 
 pub none-heard : (z : Sensor) → z ≡ hears [] z
 unfolding hears
 none-heard z = refl
-
--- the used records of a call are its list
-pub used-notes : (l : List Record) → length l ≤ 3 → take (notes l .count) (notes l .records) ≡ l
-unfolding notes
-used-notes l few = used-places 3 l few

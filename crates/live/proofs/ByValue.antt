@@ -1,14 +1,14 @@
 -- What the code hands out is what the rules say, by value.
 use Prim.Native.Nat.{ℕ}
-use mathlib.Core.List.{List, [], _∷_}
+use mathlib.Core.List.{List}
 use mathlib.Core.Path.{_≡_, refl}
-use lib.ListN.{length, getD}
-use Rattle.rules.specs.declared.record.Record.{Record}
+use lib.ListN.{length}
 use Rattle.base.specs.declared.refusal.Check.the-variants.{Passed}
 use Rattle.rules.specs.Steps.{Moved, Stepped}
 use Rattle.rules.specs.Parameters.{checkParameters}
-use Rattle.rules.specs.Calls.{blank, places, singleDone, moveDone}
+use Rattle.rules.specs.Calls.{singleDone, moveDone}
 use Rattle.rules.proofs.Laws.Parameters.{lowest-bad-octet}
+use Rattle.rules.proofs.Laws.Records.{two-of-three}
 use Rattle.records.specs.Notes.{notes}
 use Rattle.timers.specs.Ticks.{clocked}
 use Rattle.actuator.specs.Acts.{acted}
@@ -17,13 +17,6 @@ use Rattle.live.specs.ByValue.{singleOf, moveOf}
 pub acted-is-done : (d : Stepped) → singleOf (acted d) ≡ singleDone d
 unfolding singleOf acted notes singleDone
 acted-is-done d = refl
-
--- the first two of three places are the two places
-two-of-three : (l : List Record) → getD (places 3 l) 0 blank ∷ getD (places 3 l) 1 blank ∷ [] ≡ places 2 l
-unfolding places
-two-of-three [] = refl
-two-of-three (a ∷ []) = refl
-two-of-three (a ∷ b ∷ l) = refl
 
 pub clocked-is-done : (m : Moved) → moveOf (clocked m) ≡ moveDone m
 unfolding moveOf clocked notes moveDone

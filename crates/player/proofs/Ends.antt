@@ -13,7 +13,6 @@ use Rattle.rules.specs.Status.{byItself, value, attributes, recordOf}
 use Rattle.rules.specs.Files.{endTime, parametersIn}
 use Rattle.rules.specs.Runs.{recordOctets, recordsOctets}
 use Rattle.rules.proofs.Laws.Parameters.{passed-is-sound}
-use Rattle.rules.proofs.Laws.Records.{a-move-writes-at-most-two, used-places}
 use Rattle.rules.proofs.Refusals.Files.{parameters-small}
 use Rattle.sensor.specs.declared.state.Sensor.{Sensor}
 use Rattle.sensor.specs.Reactions.{hear}
@@ -24,26 +23,17 @@ use Rattle.lamps.specs.Lamps.{lampOf, alone}
 use Rattle.records.specs.Notes.{notes}
 use Rattle.timers.specs.declared.clock.Clocked.{Clocked}
 use Rattle.timers.specs.Ticks.{clocked}
+use Rattle.timers.proofs.Moves.{moved-count, moved-records}
 use Rattle.buffers.proofs.Splices.{records-one, records-more}
 use Rattle.turns.specs.Turns.{listened}
 use Rattle.turns.proofs.Turning.{all-heard}
 use Rattle.turns.proofs.Hearing.{put-is-heard}
 use Rattle.player.specs.Playing.{itemsRead, itemsIn, freshIn, playIn, Fit, Ready, Filled}
 
--- ---- by value
-
 -- a record shows the lamp alone
 pub record-alone : (cause : ℕ) (s : State) → recordOf cause (alone (lampOf s)) ≡ recordOf cause s
 unfolding recordOf value attributes
 record-alone cause s = refl
-
--- the used records of a clock move are its records
-move-records : (s : State) (t : ℕ) (m : Clocked) → m ≡ clocked (clockMove s t) → (m .notes .count ≡ length (clockMove s t .records)) × (take (m .notes .count) (m .notes .records) ≡ clockMove s t .records)
-unfolding clocked notes
-move-records s t m e = rw e (refl, used-places 3 (clockMove s t .records) (omega (arith, a-move-writes-at-most-two s t)))
-
-pub move-few : (s : State) (t : ℕ) (m : Clocked) → m ≡ clocked (clockMove s t) → m .notes .count ≤ 2
-move-few s t m e = rw (move-records s t m e .0) (a-move-writes-at-most-two s t)
 
 -- ---- the start
 
@@ -97,11 +87,11 @@ module _ (file : List ℕ) (z : Sensor) (r r₁ : List ℕ) (first : r₁ ≡ sp
       let start : Record = recordOf byItself (freshIn file) in
       let last : Moved = clockMove (q .pair .actuator) (endTime file) in
       let same : m ≡ clocked last = rw (← ends, ← f .state) g in
-      let b = move-records (q .pair .actuator) (endTime file) m same in
+      let wrote = moved-count (q .pair .actuator) (endTime file) m same in
       let whole = played-whole q refl in
-      let put : r₃ ≡ splice r₂ (8 * k) (recordsOctets (last .records)) = p ∙ ap (λ (l : List Record). splice r₂ (8 * k) (recordsOctets l)) (b .1) in
+      let put : r₃ ≡ splice r₂ (8 * k) (recordsOctets (last .records)) = p ∙ ap (λ (l : List Record). splice r₂ (8 * k) (recordsOctets l)) (moved-records (q .pair .actuator) (endTime file) m same) in
       let heard-all : listened r₃ (k + m .notes .count) y heard ≡ hears (last .records) (q .pair .sensor) =
-      rw (b .0) (put-is-heard (last .records) r₂ r₃ k y heard behind room put ∙ ap (λ (x : Sensor). hears (last .records) x) (f .sensor))
+      rw wrote (put-is-heard (last .records) r₂ r₃ k y heard behind room put ∙ ap (λ (x : Sensor). hears (last .records) x) (f .sensor))
       in
       let one : r₁ ≡ splice r 0 (recordsOctets (start ∷ [])) = first ∙ ap (splice r 0) (sym (records-one start)) in
       let two : r₂ ≡ splice r 0 (recordsOctets (start ∷ q .records)) = f .records ∙ records-more r r₁ 0 8 (start ∷ []) (q .records) (omega arith) (omega arith) one in
@@ -111,7 +101,7 @@ module _ (file : List ℕ) (z : Sensor) (r r₁ : List ℕ) (first : r₁ ≡ sp
       record {
         state = rw (whole, same) refl;
         sensor = rw whole heard-all;
-        count = rw (whole, b .0, length-append) (omega (arith, f .count));
+        count = rw (whole, wrote, length-append) (omega (arith, f .count));
         records = rw whole three;
         answers = rw whole (f .answers);
       }

@@ -3,12 +3,13 @@ use Prim.Native.Nat.{ℕ, _≤_}
 use mathlib.Core.Bool.{Bool, true, false, cond}
 use mathlib.Core.List.{List, [], _∷_, _++_, append-nil}
 use mathlib.Core.Path.{_≡_, refl, sym, ap, _∙_}
-use lib.ListN.{length}
+use lib.ListN.{length, take}
 use native.Mathlib.Omega.{arith}
 use Rattle.rules.specs.declared.state.State.{State}
 use Rattle.rules.specs.declared.record.Record.{Record}
 use Rattle.rules.specs.Status.{sameStatus, recordOf, written}
 use Rattle.rules.specs.Calls.{places}
+use Rattle.rules.proofs.Laws.Records.{used-places}
 use Rattle.records.specs.Notes.{notes, noteOf, added, firstOf, listed}
 use Rattle.records.specs.declared.notes.Note.{Note}
 use Rattle.records.specs.declared.notes.Note.the-variants.{Silent, Wrote}
@@ -63,3 +64,8 @@ added-first l d room few = rw (listed-first d few) at (added-listed l (firstOf d
 pub notes-count : (l : List Record) → notes l .count ≡ length l
 unfolding notes
 notes-count l = refl
+
+-- the used records are the list
+pub used-notes : (l : List Record) → length l ≤ 3 → take (notes l .count) (notes l .records) ≡ l
+unfolding notes
+used-notes l few = used-places 3 l few

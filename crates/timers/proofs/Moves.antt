@@ -3,7 +3,7 @@ use Prim.Native.Nat.{ℕ, _+_, _≤_, _<_}
 use mathlib.Core.Bool.{true, false}
 use mathlib.Core.List.{List, [], _++_, append-nil, append-assoc}
 use mathlib.Core.Path.{_≡_, refl, sym, ap, _∙_}
-use lib.ListN.{length, length-append}
+use lib.ListN.{length, take, length-append}
 use borrow.Author.Tests.{leb-true, leb-false}
 use native.Mathlib.Omega.{arith}
 use Rattle.rules.specs.declared.parameters.Params.{Params}
@@ -29,8 +29,9 @@ use Rattle.lamps.specs.declared.lamp.Lamp.{Lamp}
 use Rattle.lamps.specs.Lamps.{lampOf, stateOf, alone}
 use Rattle.records.specs.Notes.{listed, notes, noNotes, added}
 use Rattle.records.specs.declared.notes.Notes.{Notes}
-use Rattle.records.proofs.Written.{listed-written, added-listed, notes-count}
-use Rattle.timers.specs.Ticks.{timerOf, timersOf, dueBy}
+use Rattle.records.proofs.Written.{listed-written, added-listed, notes-count, used-notes}
+use Rattle.timers.specs.declared.clock.Clocked.{Clocked}
+use Rattle.timers.specs.Ticks.{timerOf, timersOf, dueBy, clocked}
 
 -- a state is its parameters, its scenes and its lamp
 pub joined : (s : State) (p : Params) (k : List Scene) → s .params ≡ p → s .scenes ≡ k → stateOf p k (lampOf s) ≡ s
@@ -103,7 +104,28 @@ module _ (p : Params) (l : Lamp) (t : ℕ) where
         let long : length (clockMove (stateOf p [] l) t .records) ≡ length wrote + length (clockMove (atMoment (stateOf p [] l) (r .clock) now) t .records) = rw (r .records []) (length-append wrote _) in
         omega (arith, long, a-move-writes-at-most-two (stateOf p [] l) t)
 
--- the records by value
+-- ---- by value
+
+-- a clock move as it is handed out: its state, its records, at most two
+module _ (s : State) (t : ℕ) (m : Clocked) (e : m ≡ clocked (clockMove s t)) where
+  pub moved-state : m .state ≡ clockMove s t .state
+  unfolding clocked
+  moved-state = rw e refl
+
+  pub moved-notes : m .notes ≡ notes (clockMove s t .records)
+  unfolding clocked
+  moved-notes = rw e refl
+
+  pub moved-count : m .notes .count ≡ length (clockMove s t .records)
+  moved-count = rw (moved-notes, notes-count (clockMove s t .records)) refl
+
+  pub moved-few : m .notes .count ≤ 2
+  moved-few = rw moved-count (a-move-writes-at-most-two s t)
+
+  pub moved-records : take (m .notes .count) (m .notes .records) ≡ clockMove s t .records
+  moved-records = rw moved-notes (used-notes (clockMove s t .records) (omega (arith, a-move-writes-at-most-two s t)))
+
+-- the timers' records
 pub record Noted (p : Params) (l : Lamp) (t : ℕ) (now : Phase) (n : Notes) : Type 0 where
   pub wrote : List Record
   pub noted : n ≡ notes wrote

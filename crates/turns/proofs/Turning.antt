@@ -29,7 +29,8 @@ use Rattle.pairs.specs.Items.{itemAt}
 use Rattle.pairs.specs.Halves.{sentAs}
 use Rattle.pairs.proofs.Items.{signal-kind-is-large, plain-exactly-when, button1-exactly-when, button2-exactly-when}
 use Rattle.turns.specs.declared.turn.Asked.the-variants.{Order}
-use Rattle.turns.specs.Turns.{listened, Asks, askedBy, edgeTurn, Turned}
+use Rattle.turns.specs.declared.turn.Turn.{Turn}
+use Rattle.turns.specs.Turns.{listened, askedBy, edgeTurn, turnOf, Asks, Turned}
 
 -- what an edge sends is asked as a SwitchOnOff
 sent-is-asked : (sent : Telegram) → Asks (askedBy sent) (sentAs sent)
@@ -67,25 +68,30 @@ module _ (file : List ℕ) (at : ℕ) where
   -- ---- its turn
 
   module _ (t : ℕ) (records : List ℕ) (count : ℕ) (z : Sensor) (heard : ℕ) where
-    -- a kind up to 8: the item is an input, and the sensor stays as it is
-    pub an-input-asks-for-itself : kindAt file at ≤ 8 → heard ≤ count → (i : Item) → itemAt file at ≡ Known i →
-        Turned i t records count z heard (record { asked = Order (kindAt file at) (valueAt file at); sensor = z; heard = heard })
-    an-input-asks-for-itself small behind (Plain x) e =
-        let meant = plain-exactly-when file at x .0 e in
-        record { asks = (x, refl, sym (known-at file at (rw meant refl)) ∙ meant); sensor = refl; behind = behind }
-    an-input-asks-for-itself small behind (Button1 edge) e = absurd (omega (arith, edge-kind (signal.Button1 edge) (button1-exactly-when file at edge .0 e)))
-    an-input-asks-for-itself small behind (Button2 edge) e = absurd (omega (arith, edge-kind (signal.Button2 edge) (button2-exactly-when file at edge .0 e)))
+    abbrev its : Item → Turn
+    its i = turnOf i (kindAt file at) (valueAt file at) t records count z heard
+
+    -- a kind up to 8: the item is an input
+    pub an-input-asks-for-itself : kindAt file at ≤ 8 → (i : Item) → itemAt file at ≡ Known i → record { asked = Order (kindAt file at) (valueAt file at); sensor = z; heard = heard } ≡ its i
+    unfolding turnOf
+    an-input-asks-for-itself small (Plain x) e = refl
+    an-input-asks-for-itself small (Button1 edge) e = absurd (omega (arith, edge-kind (signal.Button1 edge) (button1-exactly-when file at edge .0 e)))
+    an-input-asks-for-itself small (Button2 edge) e = absurd (omega (arith, edge-kind (signal.Button2 edge) (button2-exactly-when file at edge .0 e)))
 
     -- another kind: the item is an edge
-    pub an-edge-is-decided : 8 < kindAt file at → (s : Signal) → signalAt file at ≡ signalled.Meant s → (i : Item) → itemAt file at ≡ Known i →
-        Turned i t records count z heard (edgeTurn (react (listened records count z heard) s t) count)
-    unfolding edgeTurn
+    pub an-edge-is-decided : 8 < kindAt file at → (s : Signal) → signalAt file at ≡ signalled.Meant s → (i : Item) → itemAt file at ≡ Known i → edgeTurn (react (listened records count z heard) s t) count ≡ its i
+    unfolding turnOf
     an-edge-is-decided large s m (Plain x) e = absurd (omega (arith, input-kind-is-small x e))
-    an-edge-is-decided large s m (Button1 edge) e =
+    an-edge-is-decided large s m (Button1 edge) e = rw (same-signal s (signal.Button1 edge) (signalAt file at) m (button1-exactly-when file at edge .0 e)) refl
+    an-edge-is-decided large s m (Button2 edge) e = rw (same-signal s (signal.Button2 edge) (signalAt file at) m (button2-exactly-when file at edge .0 e)) refl
+
+    -- either asks for what the actuator is to be given, and leaves the sensor that it should
+    pub turned : heard ≤ count → (i : Item) → itemAt file at ≡ Known i → Turned i t records count z heard (its i)
+    unfolding turnOf edgeTurn
+    turned behind (Plain x) e = let meant = plain-exactly-when file at x .0 e in record { asks = (x, refl, sym (known-at file at (rw meant refl)) ∙ meant); sensor = refl; behind = behind }
+    turned behind (Button1 edge) e =
         let r : Reaction = react (listened records count z heard) (signal.Button1 edge) t in
-        rw (same-signal s (signal.Button1 edge) (signalAt file at) m (button1-exactly-when file at edge .0 e))
-        (record { asks = sent-is-asked (r .telegram); sensor = all-heard records count (r .sensor); behind = omega arith })
-    an-edge-is-decided large s m (Button2 edge) e =
+        record { asks = sent-is-asked (r .telegram); sensor = all-heard records count (r .sensor); behind = omega arith }
+    turned behind (Button2 edge) e =
         let r : Reaction = react (listened records count z heard) (signal.Button2 edge) t in
-        rw (same-signal s (signal.Button2 edge) (signalAt file at) m (button2-exactly-when file at edge .0 e))
-        (record { asks = sent-is-asked (r .telegram); sensor = all-heard records count (r .sensor); behind = omega arith })
+        record { asks = sent-is-asked (r .telegram); sensor = all-heard records count (r .sensor); behind = omega arith }

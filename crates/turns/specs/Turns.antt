@@ -31,7 +31,23 @@ listened records count z heard =
     let last : ℕ = recordPlace (count - 1) in
     cond (eqb heard count) z (hear z (be32 records last) (eqb (octet records (last + 4)) 255))
 
--- ---- what an item asks
+-- ---- a turn, as the code comes to it
+
+abbrev pub askedBy : Telegram → Asked
+askedBy Silent = Nothing
+askedBy (Switch value) = Order 1 (cond value 1 0)
+
+-- of an edge: the sensor has heard all records there are
+unfoldable pub edgeTurn : Reaction → ℕ → Turn
+edgeTurn r count = record { asked = askedBy (r .telegram); sensor = r .sensor; heard = count }
+
+-- of an item whose octets have this kind and value, at t: an input asks for itself, and the sensor is not asked
+unfoldable pub turnOf : Item → ℕ → ℕ → ℕ → List ℕ → ℕ → Sensor → ℕ → Turn
+turnOf (Plain i) kind value t records count z heard = record { asked = Order kind value; sensor = z; heard = heard }
+turnOf (Button1 edge) kind value t records count z heard = edgeTurn (react (listened records count z heard) (signal.Button1 edge) t) count
+turnOf (Button2 edge) kind value t records count z heard = edgeTurn (react (listened records count z heard) (signal.Button2 edge) t) count
+
+-- ---- what it comes to
 
 -- what the sensor makes of an item: of an input nothing, so that it stays as it is
 abbrev pub decides : Sensor → Item → ℕ → Reaction
@@ -44,17 +60,6 @@ abbrev pub Asks : Asked → Option Input → Type 0
 Asks Nothing given = given ≡ none
 Asks (Order kind value) given = (x : Input) × (given ≡ some x) × (decoded kind value ≡ Meant x)
 
--- ---- a turn
-
--- of an edge, where so many records were heard
-abbrev pub askedBy : Telegram → Asked
-askedBy Silent = Nothing
-askedBy (Switch value) = Order 1 (cond value 1 0)
-
-unfoldable pub edgeTurn : Reaction → ℕ → Turn
-edgeTurn r count = record { asked = askedBy (r .telegram); sensor = r .sensor; heard = count }
-
--- of any item, at t
 pub record Turned (i : Item) (t : ℕ) (records : List ℕ) (count : ℕ) (z : Sensor) (heard : ℕ) (r : Turn) : Type 0 where
   pub asks : Asks (r .asked) (givenOf i (decides (listened records count z heard) i t .telegram))
   pub sensor : listened records count (r .sensor) (r .heard) ≡ decides (listened records count z heard) i t .sensor

@@ -2,13 +2,13 @@
 ghost use mathlib.Core.Path.{_≡_};
 ghost use Prim.Native.Nat.{_+_, _≤_};
 ghost use lib.ListN.{length};
-ghost use Rattle.octets.specs.Groups.{groupSize};
+ghost use Rattle.octets.specs.Groups.{groupSize, kindAt, valueAt};
 ghost use Rattle.rules.specs.Layout.{recordPlace};
 ghost use Rattle.sensor.specs.Reactions.{react};
 ghost use Rattle.pairs.specs.declared.item.Item.{Item};
 ghost use Rattle.pairs.specs.declared.item.Read.the-variants.{Known};
 ghost use Rattle.pairs.specs.Items.{itemAt};
-ghost use Rattle.turns.specs.Turns.{edgeTurn, Turned};
+ghost use Rattle.turns.specs.Turns.{edgeTurn, turnOf};
 use crate::heard::listen;
 use sensor::react::Telegram;
 use sensor::react::react;
@@ -66,7 +66,7 @@ pub fn turn_at(
     heard: u32,
 ) -> Turn
     requires { ⌜ (at + groupSize ≤ length (now file)) × (heard ≤ count) × (recordPlace count ≤ length (now records)) ⌝ }
-    ensures { λ r. ⌜ ((i : Item) → itemAt (now (file .entry)) at ≡ Known i → Turned i t (now (records .entry)) count z heard r) ⌝ }
+    ensures { λ r. ⌜ ((i : Item) → itemAt (now (file .entry)) at ≡ Known i → r ≡ turnOf i (kindAt (now (file .entry)) at) (valueAt (now (file .entry)) at) t (now (records .entry)) count z heard) ⌝ }
 {
     let kind = file[at + 4];
     if kind <= LAST_KIND {

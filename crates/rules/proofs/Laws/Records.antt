@@ -5,7 +5,7 @@ use mathlib.Core.List.{List, [], _∷_, _++_}
 use mathlib.Core.Path.{_≡_, refl, ap}
 use native.Mathlib.Nat.{sub-zero, suc-sub-suc}
 use native.Mathlib.Omega.{arith}
-use lib.ListN.{length, take, length-append}
+use lib.ListN.{length, take, getD, length-append}
 use Rattle.rules.specs.declared.phase.Phase.{Phase}
 use Rattle.rules.specs.declared.phase.Phase.the-variants.{Dark, Lit, Starting, Timed, Warning, Ending}
 use Rattle.rules.specs.declared.input.Input.{Input}
@@ -19,7 +19,7 @@ use Rattle.rules.specs.Orders.{withPhase, order}
 use Rattle.rules.specs.Barriers.{barrier}
 use Rattle.rules.specs.Status.{value, staircase, attributes, sameStatus, written, byItself}
 use Rattle.rules.specs.Steps.{atMoment, Moved, clockMove, taken, meet, act, step, Moves, rest, fire}
-use Rattle.rules.specs.Calls.{places}
+use Rattle.rules.specs.Calls.{blank, places}
 use Rattle.base.proofs.Tests.{cond-case, cond-zero}
 use Rattle.rules.proofs.Laws.Timers.{alike-writes-nothing, clock-moves}
 
@@ -112,3 +112,10 @@ used-places zero [] h = refl
 used-places zero (r ∷ l) h = absurd (omega arith)
 used-places (suc n) [] h = refl
 used-places (suc n) (r ∷ l) h = rw (used-places n l (omega arith))
+
+-- the first two of three places are the two places
+pub two-of-three : (l : List Record) → getD (places 3 l) 0 blank ∷ getD (places 3 l) 1 blank ∷ [] ≡ places 2 l
+unfolding places
+two-of-three [] = refl
+two-of-three (a ∷ []) = refl
+two-of-three (a ∷ b ∷ l) = refl

@@ -2,7 +2,8 @@ use mathlib.Core.Path.{sym, _∙_}
 use Rattle.base.proofs.Codes.{timely-exactly-when}
 use Rattle.phases.proofs.Rooms.{sound-room}
 use Rattle.pairs.specs.Calls.{jointMoveCall}
-use Rattle.joined.proofs.ByValue.{moved-few, sound-actuator, move-is-done}
+use Rattle.timers.proofs.Moves.{moved-few}
+use Rattle.joined.proofs.ByValue.{sound-actuator, move-is-done}
 use borrow.Author.Needs.{needs}
 use Rattle.joined.proofs.pair.joined_move.Statement.{statement}
 use Rattle.joined.proofs.pair.joined_move.Tie as tie

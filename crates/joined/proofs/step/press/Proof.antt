@@ -4,7 +4,8 @@ use Rattle.rules.specs.Steps.{clockMove}
 use Rattle.rules.proofs.Laws.Soundness.{move-clock, move-params}
 use Rattle.phases.proofs.Rooms.{sound-room, moved-roomy}
 use Rattle.timers.specs.Ticks.{clocked}
-use Rattle.joined.proofs.ByValue.{moved-few, moved-notes, silent-step, telling-step}
+use Rattle.timers.proofs.Moves.{moved-few, moved-notes}
+use Rattle.joined.proofs.ByValue.{silent-step, telling-step}
 use borrow.Author.Needs.{needs}
 use Rattle.joined.proofs.step.press.Statement.{statement}
 use Rattle.joined.proofs.step.press.Tie as tie

@@ -9,7 +9,8 @@ use Rattle.phases.proofs.Rooms.{sound-room}
 use Rattle.pairs.specs.Pairs.{pairOf}
 use Rattle.turns.specs.Turns.{listened}
 use Rattle.player.specs.Playing.{freshIn, Ready}
-use Rattle.player.proofs.Ends.{record-alone, move-few, fit-ready, ended}
+use Rattle.timers.proofs.Moves.{moved-few}
+use Rattle.player.proofs.Ends.{record-alone, fit-ready, ended}
 use Rattle.player.proofs.play.play.Statement.{statement}
 use Rattle.player.proofs.play.play.Tie as tie
 
@@ -34,16 +35,16 @@ move-clock-requires c κs =
 put-notes-requires : tie.Need-put-notes-requires
 put-notes-requires c κs =
     let items = c .before .before .before .before .before .before .before .before .before .before .play-items in
-    let few = move-few _ _ _ (c .before .before .before .move-clock .ensures) in
+    let few = moved-few _ _ _ (c .before .before .before .move-clock .ensures) in
     (omega (arith, few, items .ensures .2, ready (c .before .before .before .before .before .before .before .before .before .before .before .before .before .before .before) .few), omega (arith, few), omega (arith, few, items .ensures .2, items .kept .1 .1 .1 .1 .0, c .before .before .before .before .before .before .before .before .before .before .before .before .before .before .before .put-record .kept .0, c .before .before .before .before .before .before .before .before .before .before .before .before .before .before .before .before .before .before .before .before .before .before .before .pre .1))
 
 add-count : tie.Need-add-count
-add-count c = omega (arith, move-few _ _ _ (c .before .before .before .before .before .before .before .before .move-clock .ensures), c .before .before .before .before .before .before .before .before .before .before .before .before .before .before .before .play-items .ensures .2, ready (c .before .before .before .before .before .before .before .before .before .before .before .before .before .before .before .before .before .before .before .before) .few)
+add-count c = omega (arith, moved-few _ _ _ (c .before .before .before .before .before .before .before .before .move-clock .ensures), c .before .before .before .before .before .before .before .before .before .before .before .before .before .before .before .play-items .ensures .2, ready (c .before .before .before .before .before .before .before .before .before .before .before .before .before .before .before .before .before .before .before .before) .few)
 
 listen-requires : tie.Need-listen-requires
 listen-requires c κs =
     let items = c .before .before .before .before .before .before .before .before .before .before .before .before .before .before .before .before .play-items in
-    let few = move-few _ _ _ (c .before .before .before .before .before .before .before .before .before .move-clock .ensures) in
+    let few = moved-few _ _ _ (c .before .before .before .before .before .before .before .before .before .move-clock .ensures) in
     (omega (arith, items .ensures .3), omega (arith, few, items .ensures .2, c .before .before .before .before .before .put-notes .kept .0, items .kept .1 .1 .1 .1 .0, c .before .before .before .before .before .before .before .before .before .before .before .before .before .before .before .before .before .before .before .before .before .put-record .kept .0, c .before .before .before .before .before .before .before .before .before .before .before .before .before .before .before .before .before .before .before .before .before .before .before .before .before .before .before .before .before .pre .1))
 
 same-length : tie.Need-same-length

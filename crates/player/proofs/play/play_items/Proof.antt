@@ -3,19 +3,26 @@ use mathlib.Core.Path.{_≡_, refl, sym, _∙_}
 use native.Mathlib.Omega.{arith}
 use denote.Ref.{now}
 use borrow.Author.Needs.{needs}
+use Rattle.octets.specs.Groups.{stampAt}
 use Rattle.rules.specs.declared.input.Input.{Input}
 use Rattle.rules.specs.declared.input.Decoded.the-variants.{Meant}
 use Rattle.rules.specs.Inputs.{decoded}
 use Rattle.rules.specs.Barriers.{barrier}
+use Rattle.rules.specs.Layout.{inputPlace}
 use Rattle.rules.proofs.Laws.Inputs.{kind-range, meant-kind}
 use Rattle.rules.proofs.Laws.Soundness.{move-clock}
 use Rattle.rules.proofs.Laws.Records.{a-move-writes-at-most-two}
 use Rattle.phases.proofs.Rooms.{sound-room, moved-roomy}
 use Rattle.lamps.specs.Lamps.{stateOf}
 use Rattle.records.proofs.Written.{listed-few}
+use Rattle.inputs.specs.Meaning.{isMeant}
+use Rattle.pairs.specs.declared.item.Item.{Item}
+use Rattle.pairs.specs.declared.item.Read.the-variants.{Known}
+use Rattle.pairs.specs.Items.{itemAt}
 use Rattle.pairs.specs.Pairs.{pairOf}
 use Rattle.pairs.proofs.Soundness.{sound-pair-exactly-when}
-use Rattle.turns.specs.Turns.{listened}
+use Rattle.turns.specs.Turns.{listened, Turned}
+use Rattle.turns.proofs.Turning.{turned}
 use Rattle.player.specs.Playing.{Ready}
 use Rattle.player.proofs.Turns.{Going, going-first, turn, going-rests, going-asks, going-taken, going-stopped, going-last}
 use Rattle.player.proofs.play.play_items.Statement.{statement}
@@ -61,6 +68,14 @@ turn-at-requires c κs =
     let two = a-move-writes-at-most-two (stateOf (a .args .start .params) (loop .k) (loop .l)) (c .before .before .before .before .before .before .stamp-at .result) in
     (omega (arith, place, within, ready .whole), omega (arith, loop .inv .1, moves .ensures (loop .k) .count), (omega (arith, within, two, moves .ensures (loop .k) .count, moves .kept .0, g .stands .few, g .stands .room, a .pre .1)))
 
+-- the item's turn, where one stands
+took : (c : tie.After-turn-at Inv-loop μ-loop) → let loop = c .before .before .before .before .before .before .before .before .before .before .loop in let file = now (c .before .before .before .before .before .before .before .before .before .before .before .before .before .before .before .before .before .args .file) in let m = c .before .before .before .before .before .advance in
+    (j : Item) → itemAt file (inputPlace (loop .i)) ≡ Known j → Turned j (stampAt file (inputPlace (loop .i))) (m .last .0) (m .result .count) (loop .z) (loop .heard) (c .turn-at .result)
+took c j e =
+    let loop = c .before .before .before .before .before .before .before .before .before .before .loop in
+    let place = c .before .before .before .before .before .before .before .before .input-place .ensures in
+    rw (c .turn-at .ensures j (rw place e), c .before .before .before .before .before .before .before .stamp-at .ensures, place) (turned _ _ _ _ _ _ _ (omega (arith, loop .inv .1, c .before .before .before .before .before .advance .ensures (loop .k) .count)) j e)
+
 -- the sensor has heard no more than there is
 behind-still : (c : tie.After-turn-at Inv-loop μ-loop) → c .turn-at .result .heard ≤ c .before .before .before .before .before .advance .result .count
 behind-still c =
@@ -74,7 +89,7 @@ behind-still c =
     let moves = c .before .before .before .before .before .advance in
     let two = a-move-writes-at-most-two (stateOf (a .args .start .params) (loop .k) (loop .l)) (c .before .before .before .before .before .before .before .stamp-at .result) in
     let f = turn _ _ _ _ _ ready _ _ _ _ _ g within in
-    c .turn-at .ensures (f .item) (rw place (f .meant)) .behind
+    took c (f .item) (f .meant) .behind
 
 -- an item that asks for something asks for an input
 asked : (c : tie.After-asked Inv-loop μ-loop) → let given = c .asked .given .0 in (x : Input) × (decoded (given .0) (given .1 .0) ≡ Meant x)
@@ -88,7 +103,7 @@ asked c =
     let stamp = rw place at (c .before .before .before .before .before .before .before .before .before .before .stamp-at .ensures) in
     let moves = c .before .before .before .before .before .before .before .before .advance in
     let two = a-move-writes-at-most-two (stateOf (a .args .start .params) (loop .k) (loop .l)) (c .before .before .before .before .before .before .before .before .before .before .stamp-at .result) in
-    going-asks _ _ _ _ _ ready (a .args .start .params) (loop .k) (loop .l) (loop .z) (loop .heard) _ _ _ _ g (loop .inv .1) within (omega (arith, a .pre .1)) (a .pre .2) (omega (arith, within, g .stands .few, g .stands .room, a .pre .1)) _ _ (rw stamp at (moves .ensures)) (moves .kept .0) (omega (arith, within, two, moves .ensures (loop .k) .count, moves .kept .0, g .stands .few, g .stands .room, a .pre .1)) _ (λ j e. rw (c .before .before .before .before .before .before .before .before .before .before .stamp-at .ensures, place) at (c .before .before .before .turn-at .ensures j (rw place e))) _ _ (c .asked .given .1)
+    going-asks _ _ _ _ _ ready (a .args .start .params) (loop .k) (loop .l) (loop .z) (loop .heard) _ _ _ _ g (loop .inv .1) within (omega (arith, a .pre .1)) (a .pre .2) (omega (arith, within, g .stands .few, g .stands .room, a .pre .1)) _ _ (rw stamp at (moves .ensures)) (moves .kept .0) (omega (arith, within, two, moves .ensures (loop .k) .count, moves .kept .0, g .stands .few, g .stands .room, a .pre .1)) _ (took (c .before .before .before)) _ _ (c .asked .given .1)
 
 cast-answers : tie.Need-cast-answers Inv-loop μ-loop
 cast-answers c = omega (arith, c .before .before .before .before .before .before .before .before .before .before .before .before .loop-test .taken, ready-to (c .before .before .before .before .before .before .before .before .before .before .before .before .before .before) .few)
@@ -113,7 +128,7 @@ loop-again c =
     let stamp = rw place at (c .before .before .before .before .before .before .before .before .before .before .stamp-at .ensures) in
     let moves = c .before .before .before .before .before .before .before .before .advance in
     let two = a-move-writes-at-most-two (stateOf (a .args .start .params) (loop .k) (loop .l)) (c .before .before .before .before .before .before .before .before .before .before .stamp-at .result) in
-    (going-rests _ _ _ _ _ ready (a .args .start .params) (loop .k) (loop .l) (loop .z) (loop .heard) _ _ _ _ g (loop .inv .1) within (omega (arith, a .pre .1)) (a .pre .2) (omega (arith, within, g .stands .few, g .stands .room, a .pre .1)) _ _ (rw stamp at (moves .ensures)) (moves .kept .0) (omega (arith, within, two, moves .ensures (loop .k) .count, moves .kept .0, g .stands .few, g .stands .room, a .pre .1)) _ (λ j e. rw (c .before .before .before .before .before .before .before .before .before .before .stamp-at .ensures, place) at (c .before .before .before .turn-at .ensures j (rw place e))) (c .enum-told .given .1), behind-still (c .before .before .before))
+    (going-rests _ _ _ _ _ ready (a .args .start .params) (loop .k) (loop .l) (loop .z) (loop .heard) _ _ _ _ g (loop .inv .1) within (omega (arith, a .pre .1)) (a .pre .2) (omega (arith, within, g .stands .few, g .stands .room, a .pre .1)) _ _ (rw stamp at (moves .ensures)) (moves .kept .0) (omega (arith, within, two, moves .ensures (loop .k) .count, moves .kept .0, g .stands .few, g .stands .room, a .pre .1)) _ (took (c .before .before .before)) (c .enum-told .given .1), behind-still (c .before .before .before))
 
 -- what is asked for is an input, of one of the eight kinds
 barrier-to-requires : tie.Need-barrier-to-requires Inv-loop μ-loop
@@ -174,7 +189,7 @@ loop-again-2 c =
     let put = c .before .before .before .before .put-note in
     let means = c .before .before .before .before .before .before .before .known-input .ensures in
     let free = rw (← meant-kind _ _ _ means) at (sym (c .before .before .before .before .before .before .before .before .before .before .barrier-to .ensures) ∙ c .before .before .before .before .before .before .before .before .enum-told2 .given .1) in
-    let goes = going-taken _ _ _ _ _ ready (a .args .start .params) (loop .k) (loop .l) (loop .z) (loop .heard) _ _ _ _ g (loop .inv .1) within (omega (arith, a .pre .1)) (a .pre .2) (omega (arith, within, g .stands .few, g .stands .room, a .pre .1)) _ _ (rw stamp at (moves .ensures)) (moves .kept .0) (omega (arith, within, two, moves .ensures (loop .k) .count, moves .kept .0, g .stands .few, g .stands .room, a .pre .1)) _ (λ j e. rw (c .before .before .before .before .before .before .before .before .before .before .before .before .before .before .before .before .before .before .before .before .before .before .stamp-at .ensures, place) at (c .before .before .before .before .before .before .before .before .before .before .before .before .before .before .before .turn-at .ensures j (rw place e))) _ _ (c .before .before .before .before .before .before .before .before .before .before .before .before .asked .given .1) _ means free _ (c .before .before .before .before .before .before .take .ensures) _ (put .ensures .0) _ (put .ensures .1) (put .kept .0 ∙ moves .kept .0) _ (c .before .scenes-after .ensures) in
+    let goes = going-taken _ _ _ _ _ ready (a .args .start .params) (loop .k) (loop .l) (loop .z) (loop .heard) _ _ _ _ g (loop .inv .1) within (omega (arith, a .pre .1)) (a .pre .2) (omega (arith, within, g .stands .few, g .stands .room, a .pre .1)) _ _ (rw stamp at (moves .ensures)) (moves .kept .0) (omega (arith, within, two, moves .ensures (loop .k) .count, moves .kept .0, g .stands .few, g .stands .room, a .pre .1)) _ (took (c .before .before .before .before .before .before .before .before .before .before .before .before .before .before .before)) _ _ (c .before .before .before .before .before .before .before .before .before .before .before .before .asked .given .1) _ means free _ (c .before .before .before .before .before .before .take .ensures) _ (put .ensures .0) _ (put .ensures .1) (put .kept .0 ∙ moves .kept .0) _ (c .before .scenes-after .ensures) in
     (goes, omega (arith, behind-still (c .before .before .before .before .before .before .before .before .before .before .before .before .before .before .before), put .ensures .0))
 
 cast-answers-3 : tie.Need-cast-answers-3 Inv-loop μ-loop
@@ -203,7 +218,7 @@ loop-again-3 c =
     let two = a-move-writes-at-most-two (stateOf (a .args .start .params) (loop .k) (loop .l)) (c .before .before .before .before .before .before .before .before .before .before .before .before .before .before .before .before .stamp-at .result) in
     let x = asked (c .before .before .before .before .before .before) in
     let bars = rw (← meant-kind _ _ _ (x .1)) at (sym (c .before .before .before .before .barrier-to .ensures) ∙ c .before .before .b .given .1) in
-    let goes = going-stopped _ _ _ _ _ ready (a .args .start .params) (loop .k) (loop .l) (loop .z) (loop .heard) _ _ _ _ g (loop .inv .1) within (omega (arith, a .pre .1)) (a .pre .2) (omega (arith, within, g .stands .few, g .stands .room, a .pre .1)) _ _ (rw stamp at (moves .ensures)) (moves .kept .0) (omega (arith, within, two, moves .ensures (loop .k) .count, moves .kept .0, g .stands .few, g .stands .room, a .pre .1)) _ (λ j e. rw (c .before .before .before .before .before .before .before .before .before .before .before .before .before .before .before .before .stamp-at .ensures, place) at (c .before .before .before .before .before .before .before .before .before .turn-at .ensures j (rw place e))) _ _ (c .before .before .before .before .before .before .asked .given .1) (x .0) (x .1) (c .before .before .b .given .0 .0) bars in
+    let goes = going-stopped _ _ _ _ _ ready (a .args .start .params) (loop .k) (loop .l) (loop .z) (loop .heard) _ _ _ _ g (loop .inv .1) within (omega (arith, a .pre .1)) (a .pre .2) (omega (arith, within, g .stands .few, g .stands .room, a .pre .1)) _ _ (rw stamp at (moves .ensures)) (moves .kept .0) (omega (arith, within, two, moves .ensures (loop .k) .count, moves .kept .0, g .stands .few, g .stands .room, a .pre .1)) _ (took (c .before .before .before .before .before .before .before .before .before)) _ _ (c .before .before .before .before .before .before .asked .given .1) (x .0) (x .1) (c .before .before .b .given .0 .0) bars in
     (rw (c .stopped-number .ensures) goes, behind-still (c .before .before .before .before .before .before .before .before .before))
 
 same-length : tie.Need-same-length Inv-loop μ-loop

@@ -5,7 +5,7 @@ use Rattle.turns.proofs.turn.turn_at.Statement.{statement}
 use Rattle.turns.proofs.turn.turn_at.Tie as tie
 
 returns : tie.Need-returns
-returns c = λ i e. an-input-asks-for-itself _ _ _ _ _ _ _ (c .before .if1 .taken) (c .before .before .before .before .before .pre .1) i e
+returns c = λ i e. an-input-asks-for-itself _ _ _ _ _ _ _ (c .before .if1 .taken) i e
 
 returns-2 : tie.Need-returns-2
 returns-2 c =
