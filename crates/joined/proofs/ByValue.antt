@@ -1,10 +1,10 @@
 -- What the code hands out is what the definitions of the pair say, by value.
 use Prim.Native.Nat.{ℕ, _≤_}
 use mathlib.Core.Bool.{Bool, true}
-use mathlib.Core.List.{List, [], _∷_}
+use mathlib.Core.List.{List}
 use mathlib.Core.Path.{_≡_, refl, _∙_}
 use native.Mathlib.Omega.{arith}
-use lib.ListN.{length, getD, take}
+use lib.ListN.{length, take}
 use Rattle.base.proofs.Tests.{and-left}
 use Rattle.rules.specs.declared.input.Input.{Input}
 use Rattle.rules.specs.declared.input.Input.the-variants.{SwitchOnOff}
@@ -12,7 +12,6 @@ use Rattle.rules.specs.declared.state.State.{State}
 use Rattle.rules.specs.declared.record.Record.{Record}
 use Rattle.rules.specs.Steps.{clockMove, act, step}
 use Rattle.rules.specs.Lists.{still}
-use Rattle.rules.specs.Calls.{blank, places}
 use Rattle.rules.specs.Soundness.{sound}
 use Rattle.rules.proofs.Laws.Records.{a-move-writes-at-most-two, an-input-writes-at-most-three, used-places, two-of-three}
 use Rattle.sensor.specs.declared.signal.Signal.{Signal}
