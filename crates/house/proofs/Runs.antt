@@ -13,17 +13,18 @@ use Rattle.rules.specs.Layout.{recordsRoom}
 use Rattle.rules.specs.Lists.{Cue, Played}
 use Rattle.rules.specs.Readings.{Reading, cues, found, verdict}
 use Rattle.rules.specs.Files.{inputCount, endTime, readFile, lentEnough}
-use Rattle.rules.specs.Runs.{playFile, accepted, refused, runCall}
+use Rattle.rules.specs.Runs.{playFile, accepted, refusal, refused, runCall}
 use Rattle.rules.proofs.Refusals.Readings.{bad-read, good-read}
 use Rattle.rules.proofs.Refusals.Files.{good-file, good-start}
 use Rattle.rules.proofs.Refusals.Runs.{a-bad-file-is-refused, a-short-buffer-is-refused, a-good-file-is-played}
 use Rattle.sensor.specs.declared.state.Sensor.{Sensor}
 use Rattle.pairs.specs.Lists.{Listed}
+use Rattle.pairs.specs.Walls.{itemsRead}
 use Rattle.pairs.proofs.Halves.{actuatorPart, plainItems}
 use Rattle.pairs.proofs.Reading.{reads-plain, a-plain-list-is-the-actuators}
 use Rattle.player.specs.declared.play.Ended.{Ended}
-use Rattle.player.specs.Playing.{itemsRead, itemsIn, playIn, Fit, Filled}
-use Rattle.house.specs.Reports.{refusal, report, whole}
+use Rattle.player.specs.Playing.{itemsIn, playIn, Fit, Filled}
+use Rattle.house.specs.Reports.{report, whole}
 use Rattle.buffers.proofs.Splices.{splice-front}
 
 -- what the check of a file has found
@@ -38,7 +39,6 @@ file-passed file e = good-read (readFile file) e
 
 module _ (file : List ℕ) (read : readFile file ≡ cues (listIn file)) where
   items-read : itemsRead file ≡ cues (plainItems (listIn file))
-  unfolding itemsRead
   items-read = reads-plain file (inputCount file) 0 0 (endTime file) (listIn file) (sym (good-start file (good-file file (listIn file) read .start)) ∙ read)
 
   items-are-cues : itemsIn file ≡ plainItems (listIn file)
@@ -57,12 +57,12 @@ module _ (file : List ℕ) (read : readFile file ≡ cues (listIn file)) where
 
 module _ (file r a : List ℕ) where
   pub run-refused : (why : Refusal) (place : ℕ) → verdict (readFile file) ≡ Refused why place → whole (refusal why place) r a ≡ runCall file r a
-  unfolding refused refusal
+  unfolding refused
   run-refused why place e = sym (a-bad-file-is-refused file r a why place (bad-read (readFile file) why place e))
 
   pub run-short : (n : ℕ) → n ≡ inputCount file → readFile file ≡ cues (listIn file) → (leb (recordsRoom n) (length r) && leb n (length a)) ≡ false
       → whole (refusal ShortBuffer 0) r a ≡ runCall file r a
-  unfolding lentEnough refused refusal
+  unfolding lentEnough refused
   run-short n same read short = sym (a-short-buffer-is-refused file r a (listIn file) read (rw (← same) short))
 
   pub run-accepted : (n : ℕ) → n ≡ inputCount file → readFile file ≡ cues (listIn file) → (leb (recordsRoom n) (length r) && leb n (length a)) ≡ true

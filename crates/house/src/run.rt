@@ -1,7 +1,7 @@
 // The run over a cue file.
 ghost use mathlib.Core.Path.{_≡_};
-ghost use Rattle.rules.specs.Runs.{runCall};
-ghost use Rattle.house.specs.Reports.{refusal, report, whole};
+ghost use Rattle.rules.specs.Runs.{refusal, runCall};
+ghost use Rattle.house.specs.Reports.{report, whole};
 use base::refusal::Check;
 use base::refusal::Refusal;
 use base::refusal::number_of;
@@ -38,10 +38,8 @@ fn accepted(e: Ended) -> Ran
     }
 }
 
-// A cue file has no edges, so the sensor beside the actuator does nothing.
-//
 // Every octet string and every pair of buffers: the file's own refusal comes first, then that of a short buffer, and a
-// refused run leaves both buffers as they were.
+// refused run leaves both buffers as they were. A cue file has no edges: the sensor beside the actuator sends nothing, and is not handed out.
 pub fn run(file: &[u8], records: &mut [u8], answers: &mut [u8]) -> Ran
     ensures { λ r. ⌜ whole r (now (records .exit)) (now (answers .exit)) ≡ runCall (now (file .entry)) (now (records .entry)) (now (answers .entry)) ⌝ }
 {

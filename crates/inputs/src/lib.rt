@@ -15,6 +15,9 @@ use rules::input::Input;
 
 pub mod value;
 
+// The greatest kind of the actuator's own: what is known of greater ones is another device's.
+pub const LAST_KIND: u8 = 8;
+
 // Whether a kind and a value mean an input. Every kind takes 0 and 1; only a scene and a force take more.
 fn is_known(kind: u8, value: u8) -> bool
     ensures { λ r. ⌜ r ≡ isMeant (decoded kind value) ⌝ }

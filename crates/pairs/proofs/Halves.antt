@@ -29,7 +29,7 @@ use Rattle.pairs.specs.declared.item.Item.{Item}
 use Rattle.pairs.specs.declared.item.Item.the-variants.{Plain, Button1, Button2}
 use Rattle.pairs.specs.Pairs.{Pair, shows, hears, PairMoved, pairMove, PairStepped, tell, told, pressed, pairStep}
 use Rattle.pairs.specs.Lists.{Listed, listed, PairPlayed, pairThen, pairMoved, pairStepped, pairPlays, pairPlaysTo, pairStart, playItems}
-use Rattle.pairs.specs.Halves.{ItemsRise, sentTo, cuesFor, given, answered, ActuatorHalf, ActuatorAlone, statuses, recordedBy, aroundEdge, signalsOf, signalsFor, spoken, SensorHalf, SensorAlone}
+use Rattle.pairs.specs.Halves.{ItemsRise, sentAs, cueOf, givenAt, cuesFor, given, answered, ActuatorHalf, ActuatorAlone, statuses, recordedBy, aroundEdge, signalsOf, signalsFor, spoken, SensorHalf, SensorAlone}
 use Rattle.pairs.proofs.Playing.{pair-plays-to-end, pair-plays-to-next}
 use Rattle.rules.proofs.Laws.Moments.{next-is-later}
 use Rattle.rules.proofs.Mistakes.Rank.{plays-by-way-of}
@@ -79,11 +79,6 @@ abbrev StepGiven : State → ℕ → Stepped → Option Cue → Type 0
 StepGiven s t d none = d ≡ movedBy (clockMove s t)
 StepGiven s t d (some (cue u i)) = (u ≡ t) × (d ≡ step s i t)
 
--- what a telegram gives it
-abbrev byTelegram : ℕ → Telegram → Option Cue
-byTelegram t Silent = none
-byTelegram t (Switch value) = some (cue t (SwitchOnOff value))
-
 -- the one step of what was played
 abbrev onlyAnswer : List ℕ → ℕ
 onlyAnswer [] = 0
@@ -95,12 +90,12 @@ onlyStep a = record { state = a .state; answer = onlyAnswer (a .answers); record
 -- a telegram's step after the clock move is the step of its cue
 tell-given : (p : Pair) (t : ℕ) (z : Sensor) (sent : Telegram) →
     let d : PairStepped = tell sent (pairMove p t) z in
-    StepGiven (p .actuator) t (actuatorStep d) (byTelegram t (d .telegram))
+    StepGiven (p .actuator) t (actuatorStep d) (cueOf t (sentAs (d .telegram)))
 unfolding tell pairMove
 tell-given p t z Silent = refl
 tell-given p t z (Switch value) = (refl, unfold step in sym (ap onlyStep (acts-after-the-move (clockMove (p .actuator) t) (SwitchOnOff value))))
 
-pressed-given : (p : Pair) (t : ℕ) (s : Signal) → StepGiven (p .actuator) t (actuatorStep (pressed p s t)) (byTelegram t (pressed p s t .telegram))
+pressed-given : (p : Pair) (t : ℕ) (s : Signal) → StepGiven (p .actuator) t (actuatorStep (pressed p s t)) (cueOf t (sentAs (pressed p s t .telegram)))
 unfolding pressed told
 pressed-given p t s = let r : Reaction = react (pairMove p t .pair .sensor) s t in tell-given p t (r .sensor) (r .telegram)
 
@@ -132,18 +127,10 @@ item-gives P p (Button2 edge) t f g = pressed-gives P p t (signal.Button2 edge) 
 pub item-leaves : (P : State → Type 0) (p : Pair) (i : Item) (t : ℕ) → P (clockMove (p .actuator) t .state) → ((j : Input) → MayGive i j → P (step (p .actuator) j t .state)) → P (pairStep p i t .pair .actuator)
 item-leaves P p i t f g = item-gives (λ (d : Stepped). P (d .state)) p i t f g
 
-edge1-sends : (t : ℕ) (edge : Edge) (sent : Telegram) → sentTo t (Button1 edge) sent ≡ byTelegram t sent
-edge1-sends t edge Silent = refl
-edge1-sends t edge (Switch value) = refl
-
-edge2-sends : (t : ℕ) (edge : Edge) (sent : Telegram) → sentTo t (Button2 edge) sent ≡ byTelegram t sent
-edge2-sends t edge Silent = refl
-edge2-sends t edge (Switch value) = refl
-
-step-given : (p : Pair) (t : ℕ) (i : Item) → StepGiven (p .actuator) t (actuatorStep (pairStep p i t)) (sentTo t i (pairStep p i t .telegram))
+step-given : (p : Pair) (t : ℕ) (i : Item) → StepGiven (p .actuator) t (actuatorStep (pairStep p i t)) (givenAt t i (pairStep p i t .telegram))
 step-given p t (Plain i) = (refl, a-plain-step-is-the-actuators p i t)
-step-given p t (Button1 edge) = rw (edge1-sends t edge (pairStep p (Button1 edge) t .telegram)) (unfold pairStep in pressed-given p t (signal.Button1 edge))
-step-given p t (Button2 edge) = rw (edge2-sends t edge (pairStep p (Button2 edge) t .telegram)) (unfold pairStep in pressed-given p t (signal.Button2 edge))
+step-given p t (Button1 edge) = unfold pairStep in pressed-given p t (signal.Button1 edge)
+step-given p t (Button2 edge) = unfold pairStep in pressed-given p t (signal.Button2 edge)
 
 -- ---- the actuator's half: the list
 

@@ -38,18 +38,18 @@ givenOf (Plain i) sent = some i
 givenOf (Button1 edge) sent = sentAs sent
 givenOf (Button2 edge) sent = sentAs sent
 
--- at the item's stamp
+-- the same at the item's stamp
 abbrev pub cueOf : ℕ → Option Input → Option Cue
 cueOf t none = none
 cueOf t (some i) = some (cue t i)
 
-abbrev pub sentTo : ℕ → Item → Telegram → Option Cue
-sentTo t i sent = cueOf t (givenOf i sent)
+abbrev pub givenAt : ℕ → Item → Telegram → Option Cue
+givenAt t i sent = cueOf t (givenOf i sent)
 
 -- item by item
 unfoldable pub cuesFor : List Listed → Pair → List (Option Cue)
 cuesFor [] p = []
-cuesFor (listed t i ∷ later) p = sentTo t i (pairStep p i t .telegram) ∷ cuesFor later (pairStep p i t .pair)
+cuesFor (listed t i ∷ later) p = givenAt t i (pairStep p i t .telegram) ∷ cuesFor later (pairStep p i t .pair)
 
 -- those that there are
 unfoldable pub given : List (Option Cue) → List Cue

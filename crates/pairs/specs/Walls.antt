@@ -1,6 +1,6 @@
 -- The wall list: a cue file of 01 in which an input may also be an edge, followed by the four octets of the sensor's parameters; and the run over
 -- it, whole, for every octet string and every pair of lent buffers.
-use Prim.Native.Nat.{ℕ, _-_}
+use Prim.Native.Nat.{ℕ, _+_, _-_}
 use mathlib.Core.Bool.{cond}
 use mathlib.Core.List.{List}
 use mathlib.Core.Option.{Option, some, none}
@@ -13,12 +13,13 @@ use Rattle.base.specs.declared.refusal.Check.{Check}
 use Rattle.base.specs.declared.refusal.Check.the-variants.{Refused}
 use Rattle.base.specs.Refusals.{number, orElse}
 use Rattle.rules.specs.declared.call.Ran.{Ran}
-use Rattle.rules.specs.Layout.{inputPlace}
+use Rattle.rules.specs.Layout.{inputsAt, inputPlace}
 use Rattle.rules.specs.Parameters.{paramsOf, scenesOf}
 use Rattle.rules.specs.Calls.{ownState}
 use Rattle.rules.specs.Readings.{Reading, cues, bad, readInputs, afterCheck, ifLentEnough}
 use Rattle.rules.specs.Files.{inputCount, endTime, parametersIn, checkStart, lentEnough}
 use Rattle.rules.specs.Runs.{recordsOctets, over, packed, Answered}
+use Rattle.sensor.specs.declared.state.Sensor.{Sensor}
 use Rattle.sensor.specs.Actions.{checkActions}
 use Rattle.sensor.specs.Sensors.{freshSensor, ownSensor}
 use Rattle.pairs.specs.declared.item.Read.{Read}
@@ -40,7 +41,7 @@ actionsIn wall = drop (length wall - actionsSize) wall
 
 -- the least length: a file without inputs, and the actions
 abbrev pub leastWall : ℕ
-leastWall = 56
+leastWall = inputsAt + actionsSize
 
 -- "Order 1, 2, 3, 4, 5"; "11 .. where 5 stands for the sensor's parameters": after 5
 unfoldable pub checkWall : List ℕ → Check
@@ -54,9 +55,12 @@ stampedItem stamp Unknown = none
 unfoldable pub itemIn : List ℕ → ℕ → Option Listed
 itemIn file i = stampedItem (stampAt file (inputPlace i)) (itemAt file (inputPlace i))
 
--- "then the first bad input, 6 before 7"
+-- "then the first bad input, 6 before 7": those of a file, edges among them or not
+abbrev pub itemsRead : List ℕ → Reading Listed
+itemsRead file = readInputs (itemIn file) file (inputCount file) 0 0 (endTime file)
+
 unfoldable pub readWall : List ℕ → Reading Listed
-readWall wall = let file : List ℕ = fileIn wall in afterCheck (checkWall wall) (readInputs (itemIn file) file (inputCount file) 0 0 (endTime file))
+readWall wall = afterCheck (checkWall wall) (itemsRead (fileIn wall))
 
 -- "then 8": room as the run asks for
 unfoldable pub readWallCall : List ℕ → List ℕ → List ℕ → Reading Listed
@@ -70,10 +74,12 @@ pub record WallWhole : Type 0 where
   pub records : List ℕ
   pub answers : List ℕ
 
+-- what items give: the file's own parameters and scenes, with this sensor beside the actuator, played to its end time
+abbrev pub playOver : List ℕ → Sensor → List Listed → PairPlayed
+playOver file z items = playItems (paramsOf (parametersIn file)) (scenesOf (parametersIn file)) z items (endTime file)
+
 unfoldable pub playWall : List ℕ → List Listed → PairPlayed
-playWall wall items =
-    let file : List ℕ = fileIn wall in
-    playItems (paramsOf (parametersIn file)) (scenesOf (parametersIn file)) (freshSensor (actionsIn wall)) items (endTime file)
+playWall wall items = playOver (fileIn wall) (freshSensor (actionsIn wall)) items
 
 unfoldable pub wallAccepted : PairPlayed → List ℕ → List ℕ → WallWhole
 wallAccepted p records answers =
@@ -84,13 +90,11 @@ wallAccepted p records answers =
     }
 
 -- a refused run writes nothing, and has the refusal's own state and sensor
+abbrev pub wallRefusal : Refusal → ℕ → WallRan
+wallRefusal why place = record { state = ownState; sensor = ownSensor; code = number why; place = place; count = 0 }
+
 unfoldable pub wallRefused : Refusal → ℕ → List ℕ → List ℕ → WallWhole
-wallRefused why place records answers =
-    record {
-      report = record { state = ownState; sensor = ownSensor; code = number why; place = place; count = 0 };
-      records = records;
-      answers = answers;
-    }
+wallRefused why place records answers = record { report = wallRefusal why place; records = records; answers = answers }
 
 unfoldable pub wallBy : Reading Listed → List ℕ → List ℕ → List ℕ → WallWhole
 wallBy (cues items) wall records answers = wallAccepted (playWall wall items) records answers

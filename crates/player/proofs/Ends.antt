@@ -28,7 +28,7 @@ use Rattle.buffers.proofs.Splices.{records-one, records-more}
 use Rattle.turns.specs.Turns.{listened}
 use Rattle.turns.proofs.Turning.{all-heard}
 use Rattle.turns.proofs.Hearing.{put-is-heard}
-use Rattle.player.specs.Playing.{itemsRead, itemsIn, freshIn, playIn, Fit, Ready, Filled}
+use Rattle.player.specs.Playing.{itemsIn, freshIn, playIn, Fit, Ready, Filled}
 
 -- a record shows the lamp alone
 pub record-alone : (cause : ℕ) (s : State) → recordOf cause (alone (lampOf s)) ≡ recordOf cause s
@@ -50,7 +50,7 @@ module _ (file : List ℕ) (z : Sensor) (r r₁ : List ℕ) (first : r₁ ≡ sp
 
   -- its own parameters start a sound pair, and its items can be played from there on
   pub fit-ready : (n end : ℕ) → Fit file n end → ((i : ℕ) → getD file i 0 < 256) → Ready file n (pairOf (freshIn file) (listened r₁ 1 z 0))
-  unfolding freshIn fresh itemsRead
+  unfolding freshIn fresh
   fit-ready n end fit small =
       let layout = fit .start .header .layout in
       rw start-heard

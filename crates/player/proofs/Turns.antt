@@ -100,16 +100,16 @@ module _ (file : List ℕ) (n : ℕ) (start : Pair) (r₀ a₀ : List ℕ) (read
 
   module _ (r a : List ℕ) (p : Pair) (k i : ℕ) (g : Going file n start r₀ a₀ r a p k i) where
     -- the next item, where there is one
-    pub turn : i < n → FirstItem file (n - (i + 1)) i (p .actuator .clock) (endTime file) (g .later)
-    turn h = let left : n - i ≡ suc (n - (i + 1)) = omega arith in first-item file _ i _ _ _ (rw left at (g .reads))
+    pub next-item : i < n → FirstItem file (n - (i + 1)) i (p .actuator .clock) (endTime file) (g .later)
+    next-item h = let left : n - i ≡ suc (n - (i + 1)) = omega arith in first-item file _ i _ _ _ (rw left at (g .reads))
 
     -- it is played: its records come after those that were written, its answer after those that were given
-    going-step : (h : i < n) → 8 ≤ length r₀ → n ≤ length a₀ → let d = pairStep p (turn h .item) (stampAt file (inputPlace i)) in
+    going-step : (h : i < n) → 8 ≤ length r₀ → n ≤ length a₀ → let d = pairStep p (next-item h .item) (stampAt file (inputPlace i)) in
         (answer : ℕ) → answer ≡ d .answer → (q : Pair) → q ≡ d .pair → (count : ℕ) → count ≡ k + length (d .records)
         → (r₁ : List ℕ) → r₁ ≡ splice r (8 * k) (recordsOctets (d .records)) → length r₁ ≡ length r
         → Going file n start r₀ a₀ r₁ (set a i answer) q count (i + 1)
     going-step h front enough answer answers q leads count counts r₁ writes long =
-        let f = turn h in
+        let f = next-item h in
         let t : ℕ = stampAt file (inputPlace i) in
         let d : PairStepped = pairStep p (f .item) t in
         rw (answers, leads, counts)
@@ -242,10 +242,10 @@ module _ (file : List ℕ) (n : ℕ) (start : Pair) (r₀ a₀ : List ℕ) (read
   t = stampAt file (inputPlace i)
 
   abbrev item : Item
-  item = turn file n start r₀ a₀ ready r a (pairOf (stateOf p table l) (listened r k z heard)) k i g h .item
+  item = next-item file n start r₀ a₀ ready r a (pairOf (stateOf p table l) (listened r k z heard)) k i g h .item
 
   turned : Turned item t r₁ (m .count) z heard u
-  turned = took item (turn file n start r₀ a₀ ready r a (pairOf (stateOf p table l) (listened r k z heard)) k i g h .meant)
+  turned = took item (next-item file n start r₀ a₀ ready r a (pairOf (stateOf p table l) (listened r k z heard)) k i g h .meant)
 
   -- an edge that sends nothing
   pub going-rests : u .asked ≡ Nothing → Going file n start r₀ a₀ r₁ (set a i 1) (pairOf (stateOf p table (m .lamp)) (listened r₁ (m .count) (u .sensor) (u .heard))) (m .count) (i + 1)

@@ -1,5 +1,5 @@
 -- What the code of the run knows of a checked file, and what it leaves in the lent buffers.
-use Prim.Native.Nat.{ℕ, _+_, _≤_}
+use Prim.Native.Nat.{ℕ, _+_, _*_, _≤_}
 use mathlib.Core.Bool.{true}
 use mathlib.Core.List.{List}
 use mathlib.Core.Path.{_≡_}
@@ -11,33 +11,34 @@ use Rattle.base.specs.Time.{lastStamp}
 use Rattle.rules.specs.Layout.{mostInputs, inputPlace, recordPlace}
 use Rattle.rules.specs.Parameters.{paramsOf, scenesOf}
 use Rattle.rules.specs.Steps.{Moved, fresh, clockMove}
-use Rattle.rules.specs.Readings.{Reading, cues, found, readInputs}
+use Rattle.rules.specs.Readings.{cues, found, readInputs}
 use Rattle.rules.specs.Files.{inputCount, endTime, parametersIn}
 use Rattle.rules.specs.Refusals.{GoodStart}
+use Rattle.rules.specs.Soundness.{sound}
 use Rattle.rules.specs.Runs.{recordsOctets}
 use Rattle.sensor.specs.declared.state.Sensor.{Sensor}
-use Rattle.pairs.specs.Pairs.{Pair}
-use Rattle.pairs.specs.Lists.{Listed, PairPlayed, playItems}
+use Rattle.pairs.specs.Pairs.{Pair, pairOf}
+use Rattle.pairs.specs.Lists.{Listed, PairPlayed, pairPlays}
 use Rattle.pairs.specs.Calls.{pairSound}
-use Rattle.pairs.specs.Walls.{itemIn}
+use Rattle.pairs.specs.Walls.{itemIn, itemsRead, playOver}
 use Rattle.lamps.specs.declared.lamp.Lamp.{Lamp}
 use Rattle.lamps.specs.Lamps.{lampOf, stateOf}
 use Rattle.octets.specs.Splice.{splice}
+use Rattle.turns.specs.Turns.{listened}
 use Rattle.player.specs.declared.play.Moment.{Moment}
+use Rattle.player.specs.declared.play.Reached.{Reached}
 
--- the items of a file, edges among them or not
-unfoldable pub itemsRead : List ℕ → Reading Listed
-itemsRead file = readInputs (itemIn file) file (inputCount file) 0 0 (endTime file)
-
+-- the items that a reading of a file has found
 unfoldable pub itemsIn : List ℕ → List Listed
 itemsIn file = found (itemsRead file)
 
+-- the fresh state of its own parameters and scenes
 unfoldable pub freshIn : List ℕ → State
 freshIn file = fresh (paramsOf (parametersIn file)) (scenesOf (parametersIn file))
 
 -- the run over it, with this sensor beside the actuator
 unfoldable pub playIn : List ℕ → Sensor → PairPlayed
-playIn file z = playItems (paramsOf (parametersIn file)) (scenesOf (parametersIn file)) z (itemsIn file) (endTime file)
+playIn file z = playOver file z (itemsIn file)
 
 -- nothing is wrong with the file, and these are its count of inputs and its end time
 pub record Fit (file : List ℕ) (n end : ℕ) : Type 0 where
@@ -62,6 +63,14 @@ pub record Filled (from : ℕ) (p : PairPlayed) (records₀ answers₀ : List �
   pub count : k ≡ from + length (p .records)
   pub records : records₁ ≡ splice records₀ (recordPlace from) (recordsOctets (p .records))
   pub answers : answers₁ ≡ splice answers₀ 0 (p .answers)
+
+-- the items were played, after the start record, which this sensor has not heard yet; so many records are heard then, and all that stand there
+-- count as heard
+pub record ItemsPlayed (file : List ℕ) (n : ℕ) (start : State) (first : Sensor) (records₀ answers₀ : List ℕ) (r : Reached) (records₁ answers₁ : List ℕ) : Type 0 where
+  pub filled : Filled 1 (pairPlays (itemsIn file) (pairOf start (listened records₀ 1 first 0))) records₀ answers₀ (r .state) (listened records₁ (r .count) (r .sensor) (r .heard)) (r .count) records₁ answers₁
+  pub safe : sound (r .state) ≡ true
+  pub few : r .count ≤ 1 + 3 * n
+  pub behind : r .heard ≤ r .count
 
 -- a clock move, where so many records stand before it: the lamp that it leaves, and the records of its timers after those
 pub record MovedBy (m : Moved) (before : ℕ) (records₀ : List ℕ) (r : Moment) (records₁ : List ℕ) : Type 0 where

@@ -1,15 +1,12 @@
 // A checked file: its start record, its items one after the other, and the move to its end time.
 ghost use mathlib.Core.Path.{_≡_};
-ghost use mathlib.Core.Bool.{true};
 ghost use Prim.Native.Nat.{_+_, _*_, _≤_};
 ghost use lib.ListN.{length};
 ghost use Rattle.rules.specs.Layout.{inputsAt, mostInputs, recordPlace, recordsRoom};
-ghost use Rattle.rules.specs.Soundness.{sound};
 ghost use Rattle.phases.specs.Room.{Room};
 ghost use Rattle.pairs.specs.Pairs.{pairOf};
-ghost use Rattle.pairs.specs.Lists.{pairPlays};
 ghost use Rattle.turns.specs.Turns.{listened};
-ghost use Rattle.player.specs.Playing.{itemsIn, freshIn, playIn, Ready, Fit, Filled, Advanced};
+ghost use Rattle.player.specs.Playing.{freshIn, playIn, Ready, Fit, Filled, ItemsPlayed, Advanced};
 use actuator::step::scenes_after;
 use actuator::step::stopped_number;
 use actuator::step::take;
@@ -91,7 +88,7 @@ fn advance(records: &mut [u8], count: u32, p: Params, l: Lamp, t: u32) -> Moment
 }
 
 // The items, after the start record: an item's records follow those before it, its answer has its index. An edge that sends is played as
-// the input that it sends, an edge that sends nothing changes nothing at the actuator but its clock.
+// the input that it sends; an edge that sends nothing changes nothing at the actuator but its clock, once the due timers have run.
 fn play_items(
     file: &[u8],
     n: u32,
@@ -101,7 +98,7 @@ fn play_items(
     answers: &mut [u8],
 ) -> Reached
     requires { ⌜ Ready (now file) n (pairOf start (listened (now records) 1 first 0)) × (recordPlace (3 * n + 1) ≤ length (now records)) × (n ≤ length (now answers)) ⌝ }
-    ensures { λ r. ⌜ Filled 1 (pairPlays (itemsIn (now (file .entry))) (pairOf start (listened (now (records .entry)) 1 first 0))) (now (records .entry)) (now (answers .entry)) (r .state) (listened (now (records .exit)) (r .count) (r .sensor) (r .heard)) (r .count) (now (records .exit)) (now (answers .exit)) × (sound (r .state) ≡ true) × (r .count ≤ 1 + 3 * n) × (r .heard ≤ r .count) ⌝ }
+    ensures { λ r. ⌜ ItemsPlayed (now (file .entry)) n start first (now (records .entry)) (now (answers .entry)) r (now (records .exit)) (now (answers .exit)) ⌝ }
 {
     let p = start.params;
     let mut k = start.scenes;

@@ -45,13 +45,11 @@ accepted p records answers =
     }
 
 -- "A refused call writes nothing to the lent memory"; "Where no state was handed in, a refusal's state is the fresh one .."
+abbrev pub refusal : Refusal → ℕ → Ran
+refusal why place = record { state = ownState; code = number why; place = place; count = 0 }
+
 unfoldable pub refused : Refusal → ℕ → List ℕ → List ℕ → Whole
-refused why place records answers =
-    record {
-      report = record { state = ownState; code = number why; place = place; count = 0 };
-      records = records;
-      answers = answers;
-    }
+refused why place records answers = record { report = refusal why place; records = records; answers = answers }
 
 unfoldable pub runBy : Reading Cue → List ℕ → List ℕ → List ℕ → Whole
 runBy (cues list) file records answers = accepted (playFile file list) records answers

@@ -25,11 +25,18 @@ use Rattle.turns.specs.declared.turn.Turn.{Turn}
 
 -- ---- what the sensor has heard
 
--- A sensor that has heard the first so many of the records in a buffer, once it has heard all of them: the last one tells.
+-- `z` has heard the first `heard` of the `count` records in a buffer; this is the sensor once it has heard the rest. Each is a status, so the
+-- last one decides.
 unfoldable pub listened : List ℕ → ℕ → Sensor → ℕ → Sensor
 listened records count z heard =
     let last : ℕ = recordPlace (count - 1) in
     cond (eqb heard count) z (hear z (be32 records last) (eqb (octet records (last + 4)) 255))
+
+-- what the sensor makes of an item: of an input nothing, so that it stays as it is
+abbrev pub decides : Sensor → Item → ℕ → Reaction
+decides z (Plain i) t = record { sensor = z; telegram = Silent }
+decides z (Button1 edge) t = react z (signal.Button1 edge) t
+decides z (Button2 edge) t = react z (signal.Button2 edge) t
 
 -- ---- a turn, as the code comes to it
 
@@ -41,19 +48,13 @@ askedBy (Switch value) = Order 1 (cond value 1 0)
 unfoldable pub edgeTurn : Reaction → ℕ → Turn
 edgeTurn r count = record { asked = askedBy (r .telegram); sensor = r .sensor; heard = count }
 
--- of an item whose octets have this kind and value, at t: an input asks for itself, and the sensor is not asked
+-- of an item whose octets have this kind and value, at t: an input asks for itself, and the sensor takes no part
 unfoldable pub turnOf : Item → ℕ → ℕ → ℕ → List ℕ → ℕ → Sensor → ℕ → Turn
 turnOf (Plain i) kind value t records count z heard = record { asked = Order kind value; sensor = z; heard = heard }
-turnOf (Button1 edge) kind value t records count z heard = edgeTurn (react (listened records count z heard) (signal.Button1 edge) t) count
-turnOf (Button2 edge) kind value t records count z heard = edgeTurn (react (listened records count z heard) (signal.Button2 edge) t) count
+turnOf (Button1 edge) kind value t records count z heard = edgeTurn (decides (listened records count z heard) (Button1 edge) t) count
+turnOf (Button2 edge) kind value t records count z heard = edgeTurn (decides (listened records count z heard) (Button2 edge) t) count
 
 -- ---- what it comes to
-
--- what the sensor makes of an item: of an input nothing, so that it stays as it is
-abbrev pub decides : Sensor → Item → ℕ → Reaction
-decides z (Plain i) t = record { sensor = z; telegram = Silent }
-decides z (Button1 edge) t = react z (signal.Button1 edge) t
-decides z (Button2 edge) t = react z (signal.Button2 edge) t
 
 -- what is asked of the actuator, by kind and value, is what it is to be given
 abbrev pub Asks : Asked → Option Input → Type 0

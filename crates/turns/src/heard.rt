@@ -9,8 +9,8 @@ use octets::read32;
 use sensor::react::hear;
 use sensor::state::Sensor;
 
-// The sensor, which has heard the first so many records, once it has heard all that stand there. Each is a status, and only the last one
-// tells: so no record is handed on to the sensor when it is written, and a list without edges pays nothing for it.
+// The sensor, which has heard the first `heard` of the `count` records that stand there, once it has heard the rest. Each is a status, so the
+// last one decides: no record is handed on to the sensor when it is written, and a list without edges never listens before its end.
 pub fn listen(records: &[u8], count: u32, z: Sensor, heard: u32) -> Sensor
     requires { ⌜ (heard ≤ count) × (recordPlace count ≤ length (now records)) ⌝ }
     ensures { λ r. ⌜ r ≡ listened (now (records .entry)) count z heard ⌝ }

@@ -10,6 +10,7 @@ ghost use Rattle.pairs.specs.declared.item.Read.the-variants.{Known};
 ghost use Rattle.pairs.specs.Items.{itemAt};
 ghost use Rattle.turns.specs.Turns.{edgeTurn, turnOf};
 use crate::heard::listen;
+use inputs::LAST_KIND;
 use sensor::react::Telegram;
 use sensor::react::react;
 use sensor::signal::Signal;
@@ -29,9 +30,6 @@ pub struct Turn {
     pub sensor: Sensor,
     pub heard: u32,
 }
-
-// The greatest kind of the actuator's own.
-const LAST_KIND: u8 = 8;
 
 // An edge to a sensor that has heard all records so far. What it sends is a SwitchOnOff.
 fn press(signal: Signal, t: u32, z: Sensor, count: u32) -> Turn
@@ -55,7 +53,7 @@ fn press(signal: Signal, t: u32, z: Sensor, count: u32) -> Turn
 }
 
 // The item that starts at a place, if one does, at t, where so many records stand in the buffer. An input asks for itself, and the sensor
-// is not asked; at an edge it listens first.
+// takes no part; at an edge it listens first.
 pub fn turn_at(
     file: &[u8],
     at: usize,

@@ -15,33 +15,32 @@ use Rattle.rules.specs.Files.{inputCount, endTime, lentEnough}
 use Rattle.rules.proofs.Refusals.Readings.{bad-read, good-read}
 use Rattle.sensor.specs.Sensors.{freshSensor}
 use Rattle.pairs.specs.Lists.{Listed}
-use Rattle.pairs.specs.Walls.{fileIn, actionsIn, readWall, playWall, wallAccepted, wallRefused, wallCall}
+use Rattle.pairs.specs.Walls.{fileIn, actionsIn, itemsRead, readWall, playWall, wallAccepted, wallRefusal, wallRefused, wallCall}
 use Rattle.pairs.proofs.Refusals.Walls.{good-wall, good-wall-is-read, a-bad-wall-is-refused, a-short-wall-buffer-is-refused, a-good-wall-is-played}
 use Rattle.player.specs.declared.play.Ended.{Ended}
-use Rattle.player.specs.Playing.{itemsRead, itemsIn, playIn, Fit, Filled}
+use Rattle.player.specs.Playing.{itemsIn, playIn, Fit, Filled}
 use Rattle.buffers.proofs.Splices.{splice-front}
-use Rattle.walls.specs.Reports.{wallRefusal, wallReport, wallWhole}
+use Rattle.walls.specs.Reports.{wallReport, wallWhole}
 
 -- the items that the check of a list has found are those of its file
 pub wall-passed : (wall : List ℕ) → verdict (readWall wall) ≡ Passed → readWall wall ≡ cues (itemsIn (fileIn wall))
-unfolding itemsIn itemsRead
+unfolding itemsIn
 wall-passed wall e =
     let read = good-read (readWall wall) e in
     read ∙ ap (λ (x : Reading Listed). cues (found x)) (good-wall-is-read wall (good-wall wall _ read))
 
 module _ (wall : List ℕ) (read : readWall wall ≡ cues (itemsIn (fileIn wall))) where
   pub wall-fits : (n end : ℕ) → n ≡ inputCount (fileIn wall) → end ≡ endTime (fileIn wall) → Fit (fileIn wall) n end
-  unfolding itemsRead
   wall-fits n end inputs ends = let good = good-wall wall _ read in record { start = good .start; reads = sym (good-wall-is-read wall good) ∙ read; inputs = inputs; ends = ends }
 
 module _ (wall r a : List ℕ) where
   pub run-refused : (why : Refusal) (place : ℕ) → verdict (readWall wall) ≡ Refused why place → wallWhole (wallRefusal why place) r a ≡ wallCall wall r a
-  unfolding wallRefused wallRefusal
+  unfolding wallRefused
   run-refused why place e = sym (a-bad-wall-is-refused wall r a why place (bad-read (readWall wall) why place e))
 
   pub run-short : (n : ℕ) → n ≡ inputCount (fileIn wall) → readWall wall ≡ cues (itemsIn (fileIn wall)) → (leb (recordsRoom n) (length r) && leb n (length a)) ≡ false
       → wallWhole (wallRefusal ShortBuffer 0) r a ≡ wallCall wall r a
-  unfolding lentEnough wallRefused wallRefusal
+  unfolding lentEnough wallRefused
   run-short n same read short = sym (a-short-wall-buffer-is-refused wall r a _ read (rw (← same) short))
 
   pub run-accepted : (n : ℕ) → n ≡ inputCount (fileIn wall) → readWall wall ≡ cues (itemsIn (fileIn wall)) → (leb (recordsRoom n) (length r) && leb n (length a)) ≡ true

@@ -3,11 +3,11 @@ use Prim.Native.Nat.{ℕ}
 use mathlib.Core.List.{List}
 use Rattle.base.specs.declared.refusal.Check.{Check}
 use Rattle.base.specs.Refusals.{orElse}
-use Rattle.rules.specs.Readings.{verdict, readInputs}
-use Rattle.rules.specs.Files.{inputCount, endTime, checkStart}
+use Rattle.rules.specs.Readings.{verdict}
+use Rattle.rules.specs.Files.{checkStart}
 use Rattle.sensor.specs.Actions.{checkActions}
-use Rattle.pairs.specs.Walls.{itemIn}
+use Rattle.pairs.specs.Walls.{itemsRead}
 
 -- the file's start, the actions, the inputs
 unfoldable pub checkParts : List ℕ → List ℕ → Check
-checkParts file actions = orElse (checkStart file) (orElse (checkActions actions) (verdict (readInputs (itemIn file) file (inputCount file) 0 0 (endTime file))))
+checkParts file actions = orElse (checkStart file) (orElse (checkActions actions) (verdict (itemsRead file)))

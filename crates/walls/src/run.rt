@@ -1,7 +1,7 @@
 // The run over a wall list.
 ghost use mathlib.Core.Path.{_≡_};
-ghost use Rattle.pairs.specs.Walls.{wallCall};
-ghost use Rattle.walls.specs.Reports.{wallRefusal, wallReport, wallWhole};
+ghost use Rattle.pairs.specs.Walls.{wallRefusal, wallCall};
+ghost use Rattle.walls.specs.Reports.{wallReport, wallWhole};
 use crate::list::actions_in;
 use crate::list::check_wall;
 use crate::list::file_in;

@@ -1,10 +1,8 @@
-use Rattle.house.specs.Reports.{refusal}
 use borrow.Author.Needs.{needs}
 use Rattle.house.proofs.run.refused.Statement.{statement}
 use Rattle.house.proofs.run.refused.Tie as tie
 
 returns : tie.Need-returns
-unfolding refusal
 returns c = simp (c .number-of .ensures, c .before .own-state .ensures)
 
 pub refused-spec : {M : Type 1} → statement M

@@ -30,22 +30,22 @@ play-items-requires c κs = (ready (c .before .before .before .before), omega (a
 move-clock-requires : tie.Need-move-clock-requires
 move-clock-requires c κs =
     let fit = c .before .before .before .before .before .before .before .before .before .before .before .before .before .before .before .before .before .before .before .pre .0 in
-    sound-room _ _ (c .before .before .before .before .before .before .play-items .ensures .1) (omega (arith, fit .ends, fit .start .header .layout .end))
+    sound-room _ _ (c .before .before .before .before .before .before .play-items .ensures .safe) (omega (arith, fit .ends, fit .start .header .layout .end))
 
 put-notes-requires : tie.Need-put-notes-requires
 put-notes-requires c κs =
     let items = c .before .before .before .before .before .before .before .before .before .before .play-items in
     let few = moved-few _ _ _ (c .before .before .before .move-clock .ensures) in
-    (omega (arith, few, items .ensures .2, ready (c .before .before .before .before .before .before .before .before .before .before .before .before .before .before .before) .few), omega (arith, few), omega (arith, few, items .ensures .2, items .kept .1 .1 .1 .1 .0, c .before .before .before .before .before .before .before .before .before .before .before .before .before .before .before .put-record .kept .0, c .before .before .before .before .before .before .before .before .before .before .before .before .before .before .before .before .before .before .before .before .before .before .before .pre .1))
+    (omega (arith, few, items .ensures .few, ready (c .before .before .before .before .before .before .before .before .before .before .before .before .before .before .before) .few), omega (arith, few), omega (arith, few, items .ensures .few, items .kept .1 .1 .1 .1 .0, c .before .before .before .before .before .before .before .before .before .before .before .before .before .before .before .put-record .kept .0, c .before .before .before .before .before .before .before .before .before .before .before .before .before .before .before .before .before .before .before .before .before .before .before .pre .1))
 
 add-count : tie.Need-add-count
-add-count c = omega (arith, moved-few _ _ _ (c .before .before .before .before .before .before .before .before .move-clock .ensures), c .before .before .before .before .before .before .before .before .before .before .before .before .before .before .before .play-items .ensures .2, ready (c .before .before .before .before .before .before .before .before .before .before .before .before .before .before .before .before .before .before .before .before) .few)
+add-count c = omega (arith, moved-few _ _ _ (c .before .before .before .before .before .before .before .before .move-clock .ensures), c .before .before .before .before .before .before .before .before .before .before .before .before .before .before .before .play-items .ensures .few, ready (c .before .before .before .before .before .before .before .before .before .before .before .before .before .before .before .before .before .before .before .before) .few)
 
 listen-requires : tie.Need-listen-requires
 listen-requires c κs =
     let items = c .before .before .before .before .before .before .before .before .before .before .before .before .before .before .before .before .play-items in
     let few = moved-few _ _ _ (c .before .before .before .before .before .before .before .before .before .move-clock .ensures) in
-    (omega (arith, items .ensures .3), omega (arith, few, items .ensures .2, c .before .before .before .before .before .put-notes .kept .0, items .kept .1 .1 .1 .1 .0, c .before .before .before .before .before .before .before .before .before .before .before .before .before .before .before .before .before .before .before .before .before .put-record .kept .0, c .before .before .before .before .before .before .before .before .before .before .before .before .before .before .before .before .before .before .before .before .before .before .before .before .before .before .before .before .before .pre .1))
+    (omega (arith, items .ensures .behind), omega (arith, few, items .ensures .few, c .before .before .before .before .before .put-notes .kept .0, items .kept .1 .1 .1 .1 .0, c .before .before .before .before .before .before .before .before .before .before .before .before .before .before .before .before .before .before .before .before .before .put-record .kept .0, c .before .before .before .before .before .before .before .before .before .before .before .before .before .before .before .before .before .before .before .before .before .before .before .before .before .before .before .before .before .pre .1))
 
 same-length : tie.Need-same-length
 same-length c = c .before .before .before .before .before .before .put-notes .kept .0 ∙ c .before .before .before .before .before .before .before .before .before .before .before .before .before .before .before .before .before .play-items .kept .1 .1 .1 .1 .0 ∙ c .before .before .before .before .before .before .before .before .before .before .before .before .before .before .before .before .before .before .before .before .before .before .put-record .kept .0
@@ -58,7 +58,7 @@ returns c =
     let a = c .before .before .before .before .before .before .before .before .before .before .before .before .before .before .before .before .before .before .before .before .before .before .before .before .before .before .before .before .before .before in
     let items = c .before .before .before .before .before .before .before .before .before .before .before .before .before .before .before .before .before .play-items in
     rw (c .listen .ensures)
-    (ended _ _ _ _ (begun (c .before .before .before .before .before .before .before .before .before .before .before .before .before .before .before .before .before .before .before .before .before .before)) _ (a .pre .0 .ends) _ _ _ _ _ _ _ _ (items .ensures .3) (omega (arith, items .ensures .2, items .kept .1 .1 .1 .1 .0, c .before .before .before .before .before .before .before .before .before .before .before .before .before .before .before .before .before .before .before .before .before .before .put-record .kept .0, a .pre .1)) (rw (c .before .before .before .before .before .before .before .before .before .before .before .before .before .before .before .before .before .before .before .before .before .before .before .before .before .before .fresh-in .ensures) at (items .ensures .0)) _ (c .before .before .before .before .before .before .before .before .before .before .move-clock .ensures) (c .before .before .before .before .before .before .put-notes .ensures))
+    (ended _ _ _ _ (begun (c .before .before .before .before .before .before .before .before .before .before .before .before .before .before .before .before .before .before .before .before .before .before)) _ (a .pre .0 .ends) _ _ _ _ _ _ _ _ (items .ensures .behind) (omega (arith, items .ensures .few, items .kept .1 .1 .1 .1 .0, c .before .before .before .before .before .before .before .before .before .before .before .before .before .before .before .before .before .before .before .before .before .before .put-record .kept .0, a .pre .1)) (rw (c .before .before .before .before .before .before .before .before .before .before .before .before .before .before .before .before .before .before .before .before .before .before .before .before .before .before .fresh-in .ensures) at (items .ensures .filled)) _ (c .before .before .before .before .before .before .before .before .before .before .move-clock .ensures) (c .before .before .before .before .before .before .put-notes .ensures))
 
 pub play-spec : {M : Type 1} → statement M
 play-spec =

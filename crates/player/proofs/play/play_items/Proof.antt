@@ -15,6 +15,7 @@ use Rattle.rules.proofs.Laws.Records.{a-move-writes-at-most-two}
 use Rattle.phases.proofs.Rooms.{sound-room, moved-roomy}
 use Rattle.lamps.specs.Lamps.{stateOf}
 use Rattle.records.proofs.Written.{listed-few}
+use Rattle.inputs.specs.Meaning.{isMeant}
 use Rattle.pairs.specs.declared.item.Item.{Item}
 use Rattle.pairs.specs.declared.item.Read.the-variants.{Known}
 use Rattle.pairs.specs.Items.{itemAt}
@@ -23,7 +24,7 @@ use Rattle.pairs.proofs.Soundness.{sound-pair-exactly-when}
 use Rattle.turns.specs.Turns.{listened, Turned}
 use Rattle.turns.proofs.Turning.{turned}
 use Rattle.player.specs.Playing.{Ready}
-use Rattle.player.proofs.Turns.{Going, going-first, turn, going-rests, going-asks, going-taken, going-stopped, going-last}
+use Rattle.player.proofs.Turns.{Going, going-first, next-item, going-rests, going-asks, going-taken, going-stopped, going-last}
 use Rattle.player.proofs.play.play_items.Statement.{statement}
 use Rattle.player.proofs.play.play_items.Tie as tie
 
@@ -51,7 +52,7 @@ advance-requires c κs =
     let loop = c .before .before .before .before .loop in
     let g = loop .inv .0 in
     let within = c .before .before .before .loop-test .taken in
-    let f = turn _ _ _ _ _ ready _ _ _ _ _ g within in
+    let f = next-item _ _ _ _ _ ready _ _ _ _ _ g within in
     (rw (c .before .stamp-at .ensures, c .before .before .input-place .ensures) (sound-room (stateOf (a .args .start .params) (loop .k) (loop .l)) _ (sound-pair-exactly-when _ .0 (g .safe) .actuator) (omega (arith, f .timely, ready .timely))), omega (arith, within, g .stands .few, ready .few), omega (arith, within, g .stands .few, g .stands .room, a .pre .1))
 
 turn-at-requires : tie.Need-turn-at-requires Inv-loop μ-loop
@@ -78,16 +79,7 @@ took c j e =
 -- the sensor has heard no more than there is
 behind-still : (c : tie.After-turn-at Inv-loop μ-loop) → c .turn-at .result .heard ≤ c .before .before .before .before .before .advance .result .count
 behind-still c =
-    let ready = ready-to (c .before .before .before .before .before .before .before .before .before .before .before) in
-    let a = c .before .before .before .before .before .before .before .before .before .before .before .before .before .before .before .before .before in
-    let loop = c .before .before .before .before .before .before .before .before .before .before .loop in
-    let g = loop .inv .0 in
-    let within = c .before .before .before .before .before .before .before .before .before .loop-test .taken in
-    let place = c .before .before .before .before .before .before .before .before .input-place .ensures in
-    let stamp = rw place at (c .before .before .before .before .before .before .before .stamp-at .ensures) in
-    let moves = c .before .before .before .before .before .advance in
-    let two = a-move-writes-at-most-two (stateOf (a .args .start .params) (loop .k) (loop .l)) (c .before .before .before .before .before .before .before .stamp-at .result) in
-    let f = turn _ _ _ _ _ ready _ _ _ _ _ g within in
+    let f = next-item _ _ _ _ _ (ready-to (c .before .before .before .before .before .before .before .before .before .before .before)) _ _ _ _ _ (c .before .before .before .before .before .before .before .before .before .before .loop .inv .0) (c .before .before .before .before .before .before .before .before .before .loop-test .taken) in
     took c (f .item) (f .meant) .behind
 
 -- an item that asks for something asks for an input
@@ -143,7 +135,7 @@ take-requires c κs =
     let loop = c .before .before .before .before .before .before .before .before .before .before .before .before .before .before .before .before .before .before .loop in
     let s = stateOf (a .start .params) (loop .k) (loop .l) in
     let g = loop .inv .0 in
-    let f = turn _ _ _ _ _ ready _ _ _ _ _ g (c .before .before .before .before .before .before .before .before .before .before .before .before .before .before .before .before .before .loop-test .taken) in
+    let f = next-item _ _ _ _ _ ready _ _ _ _ _ g (c .before .before .before .before .before .before .before .before .before .before .before .before .before .before .before .before .before .loop-test .taken) in
     rw (c .before .before .before .before .before .before .before .before .before .before .before .before .before .advance .ensures (loop .k) .lamp, c .before .before .before .before .before .before .before .before .before .before .before .before .before .before .before .stamp-at .ensures, c .before .before .before .before .before .before .before .before .before .before .before .before .before .before .before .before .input-place .ensures, move-clock s _)
     (moved-roomy s _ (sound-pair-exactly-when _ .0 (g .safe) .actuator) (f .risen) (omega (arith, f .timely, ready .timely)))
 
@@ -231,7 +223,7 @@ returns c =
     let loop = c .before .before .loop in
     let g = loop .inv .0 in
     let all = going-last _ _ _ _ _ (ready-to (c .before .before .before)) _ _ _ _ _ g (c .before .loop-test .left) in
-    rw (c .state-of .ensures) (rw (c .before .before .before .lamp-of .ensures) at all, sound-pair-exactly-when _ .0 (g .safe) .actuator, omega (arith, g .stands .few, g .upto), loop .inv .1)
+    rw (c .state-of .ensures) (record { filled = rw (c .before .before .before .lamp-of .ensures) at all; safe = sound-pair-exactly-when _ .0 (g .safe) .actuator; few = omega (arith, g .stands .few, g .upto); behind = loop .inv .1 })
 
 pub play-items-spec : {M : Type 1} → statement M
 play-items-spec =

@@ -1,10 +1,8 @@
 use borrow.Author.Needs.{needs}
-use Rattle.walls.specs.Reports.{wallRefusal}
 use Rattle.walls.proofs.run.refused.Statement.{statement}
 use Rattle.walls.proofs.run.refused.Tie as tie
 
 returns : tie.Need-returns
-unfolding wallRefusal
 returns c = simp (c .number-of .ensures, c .before .own-sensor .ensures, c .before .before .own-state .ensures)
 
 pub refused-spec : {M : Type 1} → statement M
