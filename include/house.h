@@ -48,7 +48,7 @@ uint64_t house_run(const uint8_t *file, size_t file_len, uint8_t *records, size_
  *
  * An edge sends what its action says as a telegram of kind 1 at its own stamp, after the timers that are due at that stamp. An
  * action HOUSE_TOGGLE sends the inverse of the last value that the sensor sent or heard, whichever is later; it hears every
- * record, and off before any. A telegram that is dropped was sent all the same.
+ * record, and before any the value is off. A telegram that is dropped was sent all the same.
  *
  * Memory, the number, and what is written are as for house_run. The answer to an edge is the telegram's, or HOUSE_UNCHANGED where
  * it sends nothing; the cause of a telegram's record is 1.

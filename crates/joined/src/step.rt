@@ -93,6 +93,7 @@ fn play(s: State, z: Sensor, i: Input, t: u32) -> JointStep
     }
 }
 
+// Any item.
 pub fn step_pair(s: State, z: Sensor, i: Item, t: u32) -> JointStep
     requires { ⌜ (sound s ≡ true) × (s .clock ≤ t) × (t ≤ lastStamp) ⌝ }
     ensures { λ r. ⌜ r ≡ jointStep (pairStep (pairOf s z) i t) ⌝ }

@@ -16,7 +16,6 @@ use Rattle.rules.specs.Steps.{Moved, Stepped, clockMove, act, step}
 use Rattle.rules.specs.Lists.{Cue, cue, Played, andThen, stepped, plays, playsTo, playList, still}
 use Rattle.rules.specs.Promises.{Rises}
 use Rattle.rules.proofs.Laws.Lists.{acts-after-the-move, plays-to-next}
-use Rattle.sensor.specs.declared.signal.Edge.{Edge}
 use Rattle.sensor.specs.declared.signal.Signal.{Signal}
 use Rattle.sensor.specs.declared.signal.Signal.the-variants as signal
 use Rattle.sensor.specs.declared.state.Sensor.{Sensor}

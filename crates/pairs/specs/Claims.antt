@@ -74,7 +74,7 @@ IsSilent p t (Button2 edge) = pairStep p (Button2 edge) t .telegram ≡ Silent
 pub record SameButClock (y z : Sensor) : Type 0 where
   pub same : hear y 0 (y .value) ≡ hear z 0 (z .value)
 
--- A run with one item and the same without it: nothing else changes. The item's own answer is 1, and it sent nothing.
+-- A run with one item and the same without it: nothing else changes but the sensor's clock. The item's own answer is 1, and it sent nothing.
 pub record Struck (before whole struck : PairPlayed) : Type 0 where
   pub actuator : whole .pair .actuator ≡ struck .pair .actuator
   pub sensor : SameButClock (whole .pair .sensor) (struck .pair .sensor)
@@ -86,7 +86,7 @@ pub record Struck (before whole struck : PairPlayed) : Type 0 where
   pub whole-telegrams : whole .telegrams ≡ before .telegrams ++ (Silent ∷ telegrams-later)
   pub struck-telegrams : struck .telegrams ≡ before .telegrams ++ telegrams-later
 
--- a silent edge (action 0) may be struck and nothing else changes
+-- a silent edge (action 0) may be struck, and nothing else changes but the sensor's clock
 abbrev pub SilentMayBeStruck : ℕ → List Listed → Pair → Type 0
 SilentMayBeStruck end items p =
     (before : List Listed) (t : ℕ) (i : Item) (later : List Listed) → before ++ (listed t i ∷ later) ≡ items → IsSilent (pairPlays before p .pair) t i →

@@ -58,7 +58,7 @@ pub record PairStepped : Type 0 where
 abbrev pub heardStep : Stepped → Sensor → PairStepped
 heardStep d z = record { pair = pairOf (d .state) (hears (d .records) z); answer = d .answer; records = d .records; telegram = Silent }
 
--- An edge that sends nothing changes nothing at the actuator but its clock, and so it is answered 1. A telegram is played right away, while the
+-- An edge that sends nothing changes nothing at the actuator but its clock, once the due timers have run, and so it is answered 1. A telegram is played right away, while the
 -- clock stands; it was sent, whatever becomes of it; then its record is heard, and its answer is the edge's.
 unfoldable pub tell : Telegram → PairMoved → Sensor → PairStepped
 tell Silent m z = record { pair = pairOf (m .pair .actuator) z; answer = 1; records = m .records; telegram = Silent }

@@ -18,7 +18,7 @@ use Rattle.pairs.specs.Items.{itemAt}
 use Rattle.pairs.specs.Pairs.{Pair}
 use Rattle.pairs.specs.Walls.{fileIn, actionsIn, itemIn}
 
--- "9": either is unsound, or the sensor's clock is after the actuator's
+-- not "9": both are sound, and the sensor's clock is not after the actuator's
 pub record SoundPair (p : Pair) : Type 0 where
   pub actuator : sound (p .actuator) ≡ true
   pub sensor : p .sensor .clock ≤ 864_000

@@ -22,11 +22,11 @@ actionNumber SendInverse = 3
 unfoldable pub actionOf : ℕ → Action
 actionOf n = cond (eqb n 0) Nothing (cond (eqb n 1) SendOff (cond (eqb n 2) SendOn SendInverse))
 
--- "11, an action above 3, where 5 stands for the sensor's parameters": the lowest bad octet; 1, as for the actuator's, where there are not
--- as many octets as edges ("two buttons, four edges")
 unfoldable pub badAction : ℕ → Check
 badAction place = Refused BadAction place
 
+-- "11, an action above 3, where 5 stands for the sensor's parameters": the lowest bad octet; 1, as for the actuator's, where there are not
+-- as many octets as edges ("two buttons, four edges")
 unfoldable pub checkActions : List ℕ → Check
 checkActions octets =
     cond (eqb (length octets) 4)

@@ -14,6 +14,7 @@ use Rattle.sensor.specs.declared.signal.Signalled.the-variants.{Meant}
 use Rattle.sensor.specs.declared.state.Sensor.{Sensor}
 use Rattle.sensor.specs.Signals.{signalKind, signalValue, signalAt}
 
+-- four actions, none above 3
 pub record GoodActions (octets : List ℕ) : Type 0 where
   pub whole : length octets ≡ 4
   pub good : (j : ℕ) → j < 4 → octet octets j ≤ 3

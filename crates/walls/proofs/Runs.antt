@@ -15,7 +15,7 @@ use Rattle.rules.specs.Files.{inputCount, endTime, lentEnough}
 use Rattle.rules.proofs.Refusals.Readings.{bad-read, good-read}
 use Rattle.sensor.specs.Sensors.{freshSensor}
 use Rattle.pairs.specs.Lists.{Listed}
-use Rattle.pairs.specs.Walls.{fileIn, actionsIn, itemsRead, readWall, playWall, wallAccepted, wallRefusal, wallRefused, wallCall}
+use Rattle.pairs.specs.Walls.{fileIn, actionsIn, readWall, playWall, wallAccepted, wallRefusal, wallRefused, wallCall}
 use Rattle.pairs.proofs.Refusals.Walls.{good-wall, good-wall-is-read, a-bad-wall-is-refused, a-short-wall-buffer-is-refused, a-good-wall-is-played}
 use Rattle.player.specs.declared.play.Ended.{Ended}
 use Rattle.player.specs.Playing.{itemsIn, playIn, Fit, Filled}

@@ -15,7 +15,6 @@ use Rattle.rules.proofs.Laws.Records.{a-move-writes-at-most-two}
 use Rattle.phases.proofs.Rooms.{sound-room, moved-roomy}
 use Rattle.lamps.specs.Lamps.{stateOf}
 use Rattle.records.proofs.Written.{listed-few}
-use Rattle.inputs.specs.Meaning.{isMeant}
 use Rattle.pairs.specs.declared.item.Item.{Item}
 use Rattle.pairs.specs.declared.item.Read.the-variants.{Known}
 use Rattle.pairs.specs.Items.{itemAt}
