@@ -44,10 +44,11 @@ accepted p records answers =
       answers = over (p .answers) answers;
     }
 
--- "A refused call writes nothing to the lent memory"; "Where no state was handed in, a refusal's state is the fresh one .."
+-- "Where no state was handed in, a refusal's state is the fresh one .."
 abbrev pub refusal : Refusal → ℕ → Ran
 refusal why place = record { state = ownState; code = number why; place = place; count = 0 }
 
+-- "A refused call writes nothing to the lent memory"
 unfoldable pub refused : Refusal → ℕ → List ℕ → List ℕ → Whole
 refused why place records answers = record { report = refusal why place; records = records; answers = answers }
 
