@@ -6,13 +6,13 @@
 Not a part of the gate: a check takes seconds, and there are hundreds of sites. A line is added to the file OUT for each site as
 it is decided, and a site that stands there already is not tried again, so the hunt may be stopped and started at will. A whole hunt:
 
-    tests/hunt.py OUT --specs rules base octets
+    tests/hunt.py OUT --specs rules base octets    then --specs sensor, --specs pairs
     tests/hunt.py OUT --again --ask demands        what survived, once more: the theorems of the crate on top may notice
 
-    --specs CRATE ..  whose definitions to change: rules (as it stands), base, octets, demands
+    --specs CRATE ..  whose definitions to change: rules (as it stands), base, octets, sensor, pairs, demands
     --only TEXT       only sites whose line of output has this text in it (a file, a definition, a change)
     --again           only what survived: those sites are tried anew
-    --ask CRATE       ask about this crate (as it stands: rules, and demands for its own definitions)
+    --ask CRATE       ask about this crate (as it stands: rules, which base and octets serve; each other for its own definitions)
     --workers N       that many at once, each in its own copy
     --list            print the sites and ask nothing
 
@@ -177,8 +177,9 @@ def without_code(folder):
         for f in files:
             path = os.path.join(base, f)
             if f.endswith('.rt'):
-                text = re.sub(r'(?m)^(pub )?(extern "C" )?fn (.|\n)*?^}\n', '', open(path).read())
-                open(path, 'w').write(re.sub(r'(?m)^use crate::.*\n', '', text) if ' struct ' not in text else text)
+                text = re.sub(r'(?m)^((pub|pub\(crate\)) )?(extern "C" )?fn (.|\n)*?^}\n', '', open(path).read())
+                types = re.sub(r'(?m)^(ghost )?use .*\n', '', text)
+                open(path, 'w').write(re.sub(r'(?m)^use [\w:]*?(\w+);\n', lambda m: m.group() if re.search(r'\b%s\b' % m.group(1), types) else '', text))
         if 'Proof.antt' in files: shutil.rmtree(base)
 
 
@@ -261,7 +262,7 @@ def main():
     if w.list:
         for s in found: print(s.key, described(s))
     elif todo:
-        crate = w.ask or ('demands' if 'demands' in w.specs else 'rules')
+        crate = w.ask or next((c for c in w.specs if c not in ('rules', 'base', 'octets')), 'rules')
         copies = queue.Queue()
         for _ in range(w.workers): copies.put(copy(crate))
         with concurrent.futures.ThreadPoolExecutor(w.workers) as pool, open(w.out, 'a') as out:

@@ -8,6 +8,7 @@ use Rattle.base.specs.declared.refusal.Refusal.{Refusal}
 use Rattle.rules.specs.Refusals.{TakenApart}
 use Rattle.rules.specs.Runs.{packed}
 use Rattle.rules.proofs.Refusals.Runs.{apart, narrow-start, narrow-input}
+use Rattle.pairs.specs.declared.call.WallRan.{WallRan}
 use Rattle.pairs.specs.Walls.{fileIn, WallWhole, wallAccepted, wallRefused, wallCall, ranOf, wallAnsweredBy, houseWallRun}
 use Rattle.pairs.specs.Refusals.{WallWhen}
 use Rattle.pairs.proofs.Refusals.Walls.{wall-decides, good-wall, WallFinds, at-fault, no-room, played, wall-finds, wall-count}
@@ -19,6 +20,10 @@ narrow-place wall why place (inr (long, inl start)) = narrow-start (fileIn wall)
 narrow-place wall why place (inr (long, inr (start, inl (inl only)))) = omega (arith, only .1)
 narrow-place wall why place (inr (long, inr (start, inl (inr bad)))) = omega (arith, bad .1 .within)
 narrow-place wall why place (inr (long, inr (start, inr (actions, input)))) = omega (arith, narrow-input _ (fileIn wall) why place input, start .header .layout .few)
+
+-- what is packed for C is the report's own: code, place and count
+pub what-is-packed-is-the-report : (r : WallRan) → (ranOf r .code ≡ r .code) × (ranOf r .place ≡ r .place) × (ranOf r .count ≡ r .count)
+what-is-packed-is-the-report r = (refl, refl, refl)
 
 module _ (wall records answers : List ℕ) where
   pub the-wall-number-is-taken-apart : TakenApart (houseWallRun wall records answers .number) (ranOf (wallCall wall records answers .report))
