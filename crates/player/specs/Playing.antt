@@ -64,8 +64,8 @@ pub record Filled (from : ℕ) (p : PairPlayed) (records₀ answers₀ : List �
   pub records : records₁ ≡ splice records₀ (recordPlace from) (recordsOctets (p .records))
   pub answers : answers₁ ≡ splice answers₀ 0 (p .answers)
 
--- the items were played, after the start record, which this sensor has not heard yet; so many records are heard then, and all that stand there
--- count as heard
+-- the items were played, after the start record, which `first` had not heard yet; the sensor that playing leads to is the one reached, once it has
+-- heard all records that stand there
 pub record ItemsPlayed (file : List ℕ) (n : ℕ) (start : State) (first : Sensor) (records₀ answers₀ : List ℕ) (r : Reached) (records₁ answers₁ : List ℕ) : Type 0 where
   pub filled : Filled 1 (pairPlays (itemsIn file) (pairOf start (listened records₀ 1 first 0))) records₀ answers₀ (r .state) (listened records₁ (r .count) (r .sensor) (r .heard)) (r .count) records₁ answers₁
   pub safe : sound (r .state) ≡ true
