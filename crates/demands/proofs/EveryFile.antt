@@ -3,12 +3,11 @@ use Prim.Native.Nat.{ℕ, zero, suc, _+_, _≤_}
 use mathlib.Core.List.{List, []}
 use mathlib.Core.Path.{_≡_, sym, _∙_}
 use native.Mathlib.Omega.{arith}
-use Rattle.rules.specs.Parameters.{paramsOf, scenesOf}
 use Rattle.octets.specs.Groups.{stampAt}
 use Rattle.rules.specs.Lists.{Cue}
 use Rattle.rules.specs.Layout.{inputPlace}
 use Rattle.rules.specs.Readings.{cues, readInputs}
-use Rattle.rules.specs.Files.{inputCount, endTime, parametersIn, cueAt, readFile}
+use Rattle.rules.specs.Files.{inputCount, endTime, parametersIn, cueAt, readFile, paramsIn, scenesIn}
 use Rattle.rules.specs.Promises.{Rises, DarkPromise, LightPromise, StrongLightPromise}
 use Rattle.rules.proofs.Laws.Parameters.{passed-has-some-time}
 use Rattle.rules.proofs.Refusals.Files.{good-file, good-start, first-cue}
@@ -26,14 +25,14 @@ module _ (file : List ℕ) (list : List Cue) (read : readFile file ≡ cues list
   pub list-rises : Rises 0 list (endTime file)
   list-rises = inputs-rise file (inputCount file) 0 0 (endTime file) list (omega arith) (sym (good-start file (good-file file list read .start)) ∙ read)
 
-  pub has-some-time : 1 ≤ paramsOf (parametersIn file) .timedon
+  pub has-some-time : 1 ≤ paramsIn file .timedon
   has-some-time = passed-has-some-time (parametersIn file) (good-file file list read .start .passed)
 
-  pub dark-of-every-accepted-file : DarkPromise (paramsOf (parametersIn file)) (scenesOf (parametersIn file)) list (endTime file)
+  pub dark-of-every-accepted-file : DarkPromise (paramsIn file) (scenesIn file) list (endTime file)
   dark-of-every-accepted-file = dark _ _ list (endTime file) list-rises
 
-  pub strong-light-of-every-accepted-file : StrongLightPromise (paramsOf (parametersIn file)) (scenesOf (parametersIn file)) list (endTime file)
+  pub strong-light-of-every-accepted-file : StrongLightPromise (paramsIn file) (scenesIn file) list (endTime file)
   strong-light-of-every-accepted-file = strong-light _ _ list (endTime file) list-rises has-some-time
 
-  pub light-of-every-accepted-file : LightPromise (paramsOf (parametersIn file)) (scenesOf (parametersIn file)) list (endTime file)
+  pub light-of-every-accepted-file : LightPromise (paramsIn file) (scenesIn file) list (endTime file)
   light-of-every-accepted-file = light _ _ list (endTime file) list-rises has-some-time

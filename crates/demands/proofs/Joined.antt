@@ -25,7 +25,7 @@ use Rattle.base.specs.Refusals.{stampInRange}
 use Rattle.rules.specs.Calls.{freshBy, freshCall, singleDone, singleCall, moveDone, moveCall}
 use Rattle.rules.specs.Layout.{inputPlace}
 use Rattle.rules.specs.Readings.{cues, readInputs}
-use Rattle.rules.specs.Files.{inputCount, endTime, parametersIn, cueAt, readFile, lentEnough}
+use Rattle.rules.specs.Files.{inputCount, endTime, parametersIn, cueAt, readFile, lentEnough, paramsIn, scenesIn}
 use Rattle.rules.specs.Runs.{playFile, accepted, runCall}
 use Rattle.rules.proofs.Laws.Inputs.{input-number}
 use Rattle.rules.proofs.Laws.Soundness.{step-is-sound, step-clock}
@@ -109,7 +109,7 @@ pub fresh-played : (octets : List ℕ) → checkParameters octets ≡ Passed →
 unfolding freshCall freshBy
 fresh-played octets passed = rw passed
 
-pub start-is-fresh : (file : List ℕ) → checkParameters (parametersIn file) ≡ Passed → startOf file ≡ fresh (paramsOf (parametersIn file)) (scenesOf (parametersIn file))
+pub start-is-fresh : (file : List ℕ) → checkParameters (parametersIn file) ≡ Passed → startOf file ≡ fresh (paramsIn file) (scenesIn file)
 unfolding startOf
 start-is-fresh file passed = ap (λ (r : Fresh). r .state) (fresh-played (parametersIn file) passed)
 
@@ -118,7 +118,7 @@ pub file-is-the-calls-joined : (file : List ℕ) (list : List Cue) → ((i : ℕ
 unfolding callsOf playFile playList
 file-is-the-calls-joined file list small read =
     let start = good-file file list read .start in
-    let s : State = fresh (paramsOf (parametersIn file)) (scenesOf (parametersIn file)) in
+    let s : State = fresh (paramsIn file) (scenesIn file) in
     let first = start-is-fresh file (start .passed) in
     let safe = passed-is-sound (parametersIn file) (parameters-small file small) (start .passed) in
     let all = joins file (inputCount file) 0 s list (start .header .layout .end) safe (unfold fresh in omega arith) (unfold fresh in sym (good-start file start) ∙ read) in

@@ -16,14 +16,13 @@ use Rattle.rules.specs.declared.record.Record.{Record}
 use Rattle.base.specs.declared.refusal.Refusal.{Refusal}
 use Rattle.base.specs.declared.refusal.Refusal.the-variants.{WrongLength, WrongVersion, WrongActuators, WrongLayout, BadParameter, BadInput, BadStamp}
 use Rattle.rules.specs.declared.call.Single.{Single}
-use Rattle.rules.specs.Parameters.{paramsOf, scenesOf}
 use Rattle.rules.specs.Status.{recordOf, sameStatus, written}
 use Rattle.rules.specs.Steps.{fresh, ticked, clockMove, step}
 use Rattle.rules.specs.Lists.{Cue, cue, Played, plays, playsTo}
 use Rattle.base.specs.Refusals.{number, codeOf, placeOf}
 use Rattle.rules.specs.Calls.{singleDone, singleRefused, singleCall}
 use Rattle.rules.specs.Readings.{Reading, cues, bad, ifLentEnough, verdict}
-use Rattle.rules.specs.Files.{inputCount, endTime, parametersIn, cueAt, readFile, lentEnough, readCall}
+use Rattle.rules.specs.Files.{inputCount, endTime, cueAt, readFile, lentEnough, readCall, paramsIn, scenesIn}
 use Rattle.octets.specs.BigEndian.{octets32}
 use Rattle.octets.proofs.BothWays.{what-is-written-is-read}
 use Rattle.rules.specs.Runs.{recordOctets, recordsOctets, over, Whole, playFile, accepted, refused, runBy, runCall}
@@ -185,12 +184,12 @@ plays-to-count end (cue t i ∷ later) s =
 pub our-run-counts-changes : CountsChanges runCall
 our-run-counts-changes file records answers list read =
     let e = call-accepted file records answers list read in
-    rw (← (plays-to-count (endTime file) list (fresh (paramsOf (parametersIn file)) (scenesOf (parametersIn file)))))
+    rw (← (plays-to-count (endTime file) list (fresh (paramsIn file) (scenesIn file))))
     (record-count-is-one-plus-changes file records answers list (e .0) (e .1) .0)
 
 -- what the records of every accepted file keep
 our-run-keeps : (Promise : Params → List Scene → List Cue → ℕ → List Record → Type 0) →
-    ((file : List ℕ) (list : List Cue) → readFile file ≡ cues list → Promise (paramsOf (parametersIn file)) (scenesOf (parametersIn file)) list (endTime file) (playFile file list .records)) →
+    ((file : List ℕ) (list : List Cue) → readFile file ≡ cues list → Promise (paramsIn file) (scenesIn file) list (endTime file) (playFile file list .records)) →
     Keeps Promise runCall
 our-run-keeps Promise kept file records answers list read = rw (our-records file records answers list read) (kept file list (call-accepted file records answers list read .0))
 

@@ -19,9 +19,8 @@ use Rattle.rules.specs.Status.{value, attributes, recordOf, byItself, sameStatu
 use Rattle.rules.specs.Steps.{fresh, clockMove, step, fired, Moves, rest, fire}
 use Rattle.rules.specs.Lists.{Cue, cue, plays, playsTo, playList}
 use Rattle.rules.specs.Promises.{Rises, stateAt, Taken, DarkPromise, NotBefore, turnAfter, LightDue, StrongLightPromise, shownAt, DarkShown, LitRecord, recordsBefore, recordsFrom, LightShown, shownBefore, LightStamped}
-use Rattle.rules.specs.Parameters.{paramsOf, scenesOf}
 use Rattle.rules.specs.Readings.{cues}
-use Rattle.rules.specs.Files.{endTime, parametersIn, readFile}
+use Rattle.rules.specs.Files.{endTime, readFile, paramsIn, scenesIn}
 use Rattle.rules.specs.Runs.{playFile}
 use Rattle.base.proofs.Tests.{both, cond-case, by-order}
 use Rattle.rules.proofs.Laws.Soundness.{step-clock}
@@ -319,10 +318,10 @@ light-stamped p scenes list end r some light before a i later split due =
 
 module _ (file : List ℕ) (list : List Cue) (read : readFile file ≡ cues list) where
   abbrev p : Params
-  p = paramsOf (parametersIn file)
+  p = paramsIn file
 
   abbrev scenes : List Scene
-  scenes = scenesOf (parametersIn file)
+  scenes = scenesIn file
 
   pub the-last-record-of-every-accepted-file-shows-the-output : (t v : ℕ) → t ≤ endTime file → shownAt t v (playFile file list .records) ≡ value (stateAt t list (fresh p scenes))
   unfolding playFile

@@ -25,7 +25,7 @@ use Rattle.rules.specs.Steps.{fresh, tickAt, tick, ticked, clockMove, taken, me
 use Rattle.rules.specs.Lists.{Cue, Played, plays, playsTo, playList}
 use Rattle.rules.specs.Calls.{leastParams, unused, noScenes}
 use Rattle.rules.specs.Readings.{cues, readOne, readInputs}
-use Rattle.rules.specs.Files.{endTime, parametersIn, layoutRight, checkStart, cueAt, readFile, lentEnough, readCall}
+use Rattle.rules.specs.Files.{endTime, parametersIn, layoutRight, checkStart, cueAt, readFile, lentEnough, readCall, paramsIn, scenesIn}
 use Rattle.rules.specs.Runs.{recordsOctets, over, playFile, accepted, runCall}
 use Rattle.rules.specs.Promises.{turns, upTo, stateAt, Taken, NightRules, DarkDue, LightDue, shownAt, DarkShown, LitRecord, shownBefore, LightStamped}
 use Rattle.demands.specs.Demands.{Model, StaysWithin, Judges, PlaysAll, CountsChanges, recordsOf, Keeps, KeepsDark, KeepsLight}
@@ -67,11 +67,11 @@ abbrev pub room : List ℕ
 room = replicate 72 0
 
 -- they all have the least parameters, no scenes and one end
-least-params : (n : ℕ) (inputs : List ℕ) → paramsOf (parametersIn (fileOf n inputs)) ≡ leastParams
+least-params : (n : ℕ) (inputs : List ℕ) → paramsIn (fileOf n inputs) ≡ leastParams
 unfolding fileOf parametersIn paramsOf delay leastParams
 least-params n inputs = refl
 
-no-scenes : (n : ℕ) (inputs : List ℕ) → scenesOf (parametersIn (fileOf n inputs)) ≡ noScenes
+no-scenes : (n : ℕ) (inputs : List ℕ) → scenesIn (fileOf n inputs) ≡ noScenes
 unfolding fileOf parametersIn scenesOf sceneAt noScenes unused
 no-scenes n inputs = refl
 

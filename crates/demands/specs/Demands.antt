@@ -13,14 +13,13 @@ use Rattle.rules.specs.declared.state.State.{State}
 use Rattle.rules.specs.declared.record.Record.{Record}
 use Rattle.rules.specs.declared.call.Single.{Single}
 use Rattle.rules.specs.Layout.{recordSize}
-use Rattle.rules.specs.Parameters.{paramsOf, scenesOf}
 use Rattle.rules.specs.Status.{sameStatus}
 use Rattle.rules.specs.Steps.{fresh, tick, clockMove, step}
 use Rattle.rules.specs.Lists.{Cue, cue, Played}
 use Rattle.base.specs.Refusals.{codeOf, placeOf}
 use Rattle.rules.specs.Calls.{ownState, places}
 use Rattle.rules.specs.Readings.{cues, verdict}
-use Rattle.rules.specs.Files.{parametersIn, endTime, readCall}
+use Rattle.rules.specs.Files.{endTime, readCall, paramsIn, scenesIn}
 use Rattle.rules.specs.Runs.{recordsOctets, over, Whole, playFile}
 use Rattle.rules.specs.Promises.{DarkShown, LightStamped}
 
@@ -107,7 +106,7 @@ changes end (cue t i ∷ later) s = changedByTimers s t + (changed (clockMove s 
 -- input that changed value or attributes."
 abbrev pub CountsChanges : Model → Type 0
 CountsChanges m =
-    OfEveryAccepted (λ file records answers list. m file records answers .report .count ≡ 1 + changes (endTime file) list (fresh (paramsOf (parametersIn file)) (scenesOf (parametersIn file))))
+    OfEveryAccepted (λ file records answers list. m file records answers .report .count ≡ 1 + changes (endTime file) list (fresh (paramsIn file) (scenesIn file)))
 
 -- ---- 3: "Nobody waits for ever, for any accepted list."
 
@@ -123,7 +122,7 @@ recordsOf w = recordsIn (w .report .count) (w .records)
 
 -- what is promised of a list, with its parameters, scenes and end time, is kept by the records that the model has written for it
 abbrev pub Keeps : (Params → List Scene → List Cue → ℕ → List Record → Type 0) → Model → Type 0
-Keeps Promise m = OfEveryAccepted (λ file records answers list. Promise (paramsOf (parametersIn file)) (scenesOf (parametersIn file)) list (endTime file) (recordsOf (m file records answers)))
+Keeps Promise m = OfEveryAccepted (λ file records answers list. Promise (paramsIn file) (scenesIn file) list (endTime file) (recordsOf (m file records answers)))
 
 -- "Dark: .. the output is off at t."
 abbrev pub KeepsDark : Model → Type 0

@@ -9,11 +9,10 @@ use Rattle.base.specs.Refusals.{codeOf, placeOf}
 use Rattle.rules.specs.declared.parameters.Params.{Params}
 use Rattle.rules.specs.declared.parameters.Scene.{Scene}
 use Rattle.rules.specs.declared.record.Record.{Record}
-use Rattle.rules.specs.Parameters.{paramsOf, scenesOf}
 use Rattle.rules.specs.Lists.{Cue}
 use Rattle.rules.specs.Calls.{ownState}
 use Rattle.rules.specs.Readings.{cues, verdict}
-use Rattle.rules.specs.Files.{parametersIn, endTime}
+use Rattle.rules.specs.Files.{endTime, paramsIn, scenesIn}
 use Rattle.rules.specs.Runs.{recordsOctets, over}
 use Rattle.rules.specs.Promises.{DarkShown, LightStamped}
 use Rattle.sensor.specs.Sensors.{freshSensor, ownSensor}
@@ -26,10 +25,10 @@ use Rattle.demands.specs.Demands.{recordsIn}
 -- ---- what a wall list holds
 
 abbrev pub wallParams : List ℕ → Params
-wallParams wall = paramsOf (parametersIn (fileIn wall))
+wallParams wall = paramsIn (fileIn wall)
 
 abbrev pub wallScenes : List ℕ → List Scene
-wallScenes wall = scenesOf (parametersIn (fileIn wall))
+wallScenes wall = scenesIn (fileIn wall)
 
 abbrev pub wallEnd : List ℕ → ℕ
 wallEnd wall = endTime (fileIn wall)

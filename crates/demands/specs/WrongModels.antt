@@ -5,12 +5,11 @@ use mathlib.Core.List.{List, [], _∷_, _++_}
 use mathlib.Core.Path.{_≡_}
 use lib.ListN.{length, replicate}
 use Rattle.rules.specs.declared.state.State.{State}
-use Rattle.rules.specs.Parameters.{paramsOf, scenesOf}
 use Rattle.rules.specs.Status.{recordOf, byItself}
 use Rattle.rules.specs.Steps.{fresh}
 use Rattle.rules.specs.Lists.{Cue, Played}
 use Rattle.rules.specs.Readings.{Reading, cues, bad}
-use Rattle.rules.specs.Files.{parametersIn, readCall}
+use Rattle.rules.specs.Files.{readCall, paramsIn, scenesIn}
 use Rattle.rules.specs.Runs.{Whole, playFile, accepted, refused, runCall}
 use Rattle.demands.specs.Demands.{Model, OfEveryAccepted, recordsOf}
 
@@ -26,12 +25,12 @@ modelBy play file records answers = playedBy play (readCall file records answers
 -- where a step changes nothing, the start record is the only one; end state and answers may be any
 abbrev pub StartRecordOnly : Model → Type 0
 StartRecordOnly m =
-    OfEveryAccepted (λ file records answers list. recordsOf (m file records answers) ≡ recordOf byItself (fresh (paramsOf (parametersIn file)) (scenesOf (parametersIn file))) ∷ [])
+    OfEveryAccepted (λ file records answers list. recordsOf (m file records answers) ≡ recordOf byItself (fresh (paramsIn file) (scenesIn file)) ∷ [])
 
 -- as when each input leaves the fresh state as it is and is answered 1
 unfoldable pub playsNothing : List ℕ → List Cue → Played
 playsNothing file list =
-    let start : State = fresh (paramsOf (parametersIn file)) (scenesOf (parametersIn file)) in
+    let start : State = fresh (paramsIn file) (scenesIn file) in
     record { state = start; answers = replicate (length list) 1; records = recordOf byItself start ∷ [] }
 
 -- ---- "one fixed trace [falls] to its two halves together"

@@ -14,10 +14,9 @@ use Rattle.base.specs.declared.refusal.Check.the-variants.{Refused}
 use Rattle.base.specs.Refusals.{number, orElse}
 use Rattle.rules.specs.declared.call.Ran.{Ran}
 use Rattle.rules.specs.Layout.{inputsAt, inputPlace}
-use Rattle.rules.specs.Parameters.{paramsOf, scenesOf}
 use Rattle.rules.specs.Calls.{ownState}
 use Rattle.rules.specs.Readings.{Reading, cues, bad, readInputs, afterCheck, ifLentEnough}
-use Rattle.rules.specs.Files.{inputCount, endTime, parametersIn, checkStart, lentEnough}
+use Rattle.rules.specs.Files.{inputCount, endTime, checkStart, lentEnough, paramsIn, scenesIn}
 use Rattle.rules.specs.Runs.{recordsOctets, over, packed, Answered}
 use Rattle.sensor.specs.declared.state.Sensor.{Sensor}
 use Rattle.sensor.specs.Actions.{checkActions}
@@ -76,7 +75,7 @@ pub record WallWhole : Type 0 where
 
 -- what items give: the file's own parameters and scenes, with this sensor beside the actuator, played to its end time
 abbrev pub playOver : List ℕ → Sensor → List Listed → PairPlayed
-playOver file z items = playItems (paramsOf (parametersIn file)) (scenesOf (parametersIn file)) z items (endTime file)
+playOver file z items = playItems (paramsIn file) (scenesIn file) z items (endTime file)
 
 unfoldable pub playWall : List ℕ → List Listed → PairPlayed
 playWall wall items = playOver (fileIn wall) (freshSensor (actionsIn wall)) items

@@ -9,10 +9,9 @@ use Rattle.rules.specs.declared.parameters.Scene.{Scene}
 use Rattle.rules.specs.declared.state.State.{State}
 use Rattle.base.specs.Time.{lastStamp}
 use Rattle.rules.specs.Layout.{mostInputs, inputPlace, recordPlace}
-use Rattle.rules.specs.Parameters.{paramsOf, scenesOf}
 use Rattle.rules.specs.Steps.{Moved, fresh, clockMove}
 use Rattle.rules.specs.Readings.{cues, found, readInputs}
-use Rattle.rules.specs.Files.{inputCount, endTime, parametersIn}
+use Rattle.rules.specs.Files.{inputCount, endTime, paramsIn, scenesIn}
 use Rattle.rules.specs.Refusals.{GoodStart}
 use Rattle.rules.specs.Soundness.{sound}
 use Rattle.rules.specs.Runs.{recordsOctets}
@@ -34,7 +33,7 @@ itemsIn file = found (itemsRead file)
 
 -- the fresh state of its own parameters and scenes
 unfoldable pub freshIn : List ℕ → State
-freshIn file = fresh (paramsOf (parametersIn file)) (scenesOf (parametersIn file))
+freshIn file = fresh (paramsIn file) (scenesIn file)
 
 -- the run over it, with this sensor beside the actuator
 unfoldable pub playIn : List ℕ → Sensor → PairPlayed

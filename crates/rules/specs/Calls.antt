@@ -17,7 +17,8 @@ use Rattle.rules.specs.declared.call.Fresh.{Fresh}
 use Rattle.rules.specs.declared.call.Single.{Single}
 use Rattle.rules.specs.declared.call.Move.{Move}
 use Rattle.base.specs.Time.{tenths}
-use Rattle.rules.specs.Parameters.{paramsOf, scenesOf, checkParameters}
+use Rattle.rules.specs.Layout.{formAlone}
+use Rattle.rules.specs.Parameters.{paramsOf, scenesOf, checkAlone}
 use Rattle.rules.specs.Inputs.{inputAt}
 use Rattle.octets.specs.Groups.{stampAt}
 use Rattle.rules.specs.Steps.{Moved, Stepped, fresh, clockMove, step}
@@ -26,10 +27,12 @@ use Rattle.base.specs.Refusals.{number, codeOf, placeOf, stampInRange}
 
 -- ---- the fresh state from parameters alone
 
--- "Where no state was handed in, a refusal's state is the fresh one with TimedOn 1 second, other times and modes 0, no scenes."
+-- "Where no state was handed in, a refusal's state is the fresh one with TimedOn 1 second, other times and modes 0, no scenes."; 02, [2]:
+-- "A state keeps its version (1 in a refusal's own state)"
 unfoldable pub leastParams : Params
 leastParams =
     record {
+      version = 1;
       ondelay = 0;
       offdelay = 0;
       timedon = tenths 1;
@@ -54,14 +57,14 @@ ownState = fresh leastParams noScenes
 
 -- "Parameters alone give the fresh state."
 abbrev pub freshState : List ℕ → Check → State
-freshState octets Passed = fresh (paramsOf octets) (scenesOf octets)
+freshState octets Passed = fresh (paramsOf (formAlone octets) octets) (scenesOf (formAlone octets) octets)
 freshState octets (Refused why place) = ownState
 
 unfoldable pub freshBy : List ℕ → Check → Fresh
 freshBy octets found = record { state = freshState octets found; code = codeOf found; place = placeOf found }
 
 unfoldable pub freshCall : List ℕ → Fresh
-freshCall octets = freshBy octets (checkParameters octets)
+freshCall octets = freshBy octets (checkAlone octets)
 
 -- ---- records by value
 

@@ -6,8 +6,9 @@ use mathlib.Core.Bool.{Bool, true, false}
 use mathlib.Core.Path.{_≡_}
 use mathlib.Core.Logic.{_↔_, _⊎_}
 use mathlib.Core.List.{List}
-use lib.ListN.{getD}
+use lib.ListN.{length, getD}
 use Rattle.octets.specs.BigEndian.{octet}
+use Rattle.rules.specs.declared.form.Form.{Form}
 use Rattle.rules.specs.declared.parameters.Params.{Params}
 use Rattle.rules.specs.declared.parameters.Scene.{Scene}
 use Rattle.rules.specs.declared.parameters.Recalled.the-variants.{Nothing, Output}
@@ -20,7 +21,9 @@ use Rattle.rules.specs.declared.input.Input.the-variants.{SwitchOnOff, T
 use Rattle.rules.specs.declared.state.Link.the-variants.{Up, BusDown, PowerDown}
 use Rattle.rules.specs.declared.state.State.{State}
 use Rattle.rules.specs.Inputs.{kind}
-use Rattle.rules.specs.Parameters.{badOctet}
+use Rattle.rules.specs.Forms.{width, formOf}
+use Rattle.rules.specs.Layout.{timePlace, modesAt, scenesAt, parametersSize, inputsAt, formAlone}
+use Rattle.rules.specs.Parameters.{delay, badOctet}
 use Rattle.rules.specs.Said.{Held}
 use Rattle.rules.specs.Scenes.{recalled, learnt}
 use Rattle.rules.specs.Phases.{output, deadline}
@@ -29,19 +32,50 @@ use Rattle.rules.specs.Calls.{unused}
 
 -- ---- ranges (01, "Time and the cue file")
 
--- "Delays are U16 seconds; a delay of s lasts 10*s tenths."
-pub record Delay (t : ℕ) : Type 0 where
-  pub seconds : ℕ
-  pub fits : seconds ≤ 65_535
-  pub lasts : t ≡ 10 * seconds
+-- "0-1 version (1)"; 02, [2]: "2 now means neither version"
+abbrev pub HasVersion : ℕ → Type 0
+HasVersion version = (version ≡ 1) ⊎ (version ≡ 2)
+
+-- a row in numbers: the version, where the four times, the modes and the scenes stand in the parameters, how many octets these are, and
+-- where the inputs stand in a file
+pub record Numbers : Type 0 where
+  pub version : ℕ
+  pub ondelay : ℕ
+  pub offdelay : ℕ
+  pub timedon : ℕ
+  pub prewarning : ℕ
+  pub modes : ℕ
+  pub scenes : ℕ
+  pub size : ℕ
+  pub inputs : ℕ
+
+abbrev pub inNumbers : Form → Numbers
+inNumbers f =
+    record { version = f .version; ondelay = timePlace f 0; offdelay = timePlace f 1; timedon = timePlace f 2; prewarning = timePlace f 3; modes = modesAt f; scenes = scenesAt f; size = parametersSize f; inputs = inputsAt f }
+
+-- "version (1)"; "0-1 OnDelay; 2-3 OffDelay; 4-5 TimedOnDuration ..; 6-7 PrewarningDuration; 8 BehaviourAtLocking ..; then eight scene
+-- entries"; "Parameters, 32 octets"; "offset of inputs (52)". 02, [2]: "Version 2 files hold the four times as U32 tenths .. in parameter
+-- octets 0-15; the rest follows, 40 octets in all, inputs at offset 60"; "parameters alone are told by 32 or 40 octets"
+pub record FormsInNumbers : Type 0 where
+  pub first : inNumbers (formOf 1) ≡ record { version = 1; ondelay = 0; offdelay = 2; timedon = 4; prewarning = 6; modes = 8; scenes = 16; size = 32; inputs = 52 }
+  pub second : inNumbers (formOf 2) ≡ record { version = 2; ondelay = 0; offdelay = 4; timedon = 8; prewarning = 12; modes = 16; scenes = 24; size = 40; inputs = 60 }
+  pub told-first : (octets : List ℕ) → length octets ≡ 32 → formAlone octets ≡ formOf 1
+  pub told-second : (octets : List ℕ) → length octets ≡ 40 → formAlone octets ≡ formOf 2
+  pub told-by-no-other : (octets : List ℕ) → length octets ≡ parametersSize (formAlone octets) → (length octets ≡ 32) ⊎ (length octets ≡ 40)
+
+-- "Delays are U16 seconds; a delay of s lasts 10*s tenths."; 02, [2]: "U32 tenths, 0 to 655,350"
+pub record Delay (version t : ℕ) : Type 0 where
+  pub limit : t ≤ 655_350
+  pub seconds : version ≡ 1 → (s : ℕ) × (t ≡ 10 * s)
 
 -- "TimedOnDuration, 1 or more"; "8 BehaviourAtLocking (0 keep, 1 off, 2 on); 9 BehaviourAtUnlocking (0 to 2 alike, 3 as before
 -- locking); 10 BusFailureMode, 11 BusReturnMode (0 keep, 1 off, 2 on); 12 PowerReturnMode (0 as before the failure, 1 off, 2 on)"
 pub record ParamsFit (p : Params) : Type 0 where
-  pub ondelay : Delay (p .ondelay)
-  pub offdelay : Delay (p .offdelay)
-  pub timedon : Delay (p .timedon)
-  pub prewarning : Delay (p .prewarning)
+  pub version : HasVersion (p .version)
+  pub ondelay : Delay (p .version) (p .ondelay)
+  pub offdelay : Delay (p .version) (p .offdelay)
+  pub timedon : Delay (p .version) (p .timedon)
+  pub prewarning : Delay (p .version) (p .prewarning)
   pub some : p .timedon ≡ 0 → ⊥
   pub locking : p .locking ≤ 2
   pub unlocking : p .unlocking ≤ 3
@@ -79,35 +113,47 @@ pub record Learns (k : List Scene) (number : ℕ) (present : Bool) : Type 0 wher
 
 -- ---- which octet is out of range
 
--- a number that one of the first n entries has
-pub record Above (octets : List ℕ) (number n : ℕ) : Type 0 where
+-- a time that is too long, or TimedOn 0
+abbrev pub BadTime : Form → List ℕ → ℕ → Type 0
+BadTime f octets n = (655_350 < delay f octets n) ⊎ ((n ≡ 2) × (delay f octets n ≡ 0))
+
+-- a number that one of the first n entries has; the table starts at this place
+pub record Above (octets : List ℕ) (scenes number n : ℕ) : Type 0 where
   pub earlier : ℕ
   pub before : earlier < n
-  pub same : octet octets (16 + 2 * earlier) ≡ number
+  pub same : octet octets (scenes + 2 * earlier) ≡ number
 
 -- a number that is neither 0 to 63 nor 255, or that an earlier entry has
-abbrev pub BadNumber : List ℕ → ℕ → Type 0
-BadNumber octets n =
-    ((63 < octet octets (16 + 2 * n)) × (octet octets (16 + 2 * n) ≡ 255 → ⊥)) ⊎ ((octet octets (16 + 2 * n) ≤ 63) × Above octets (octet octets (16 + 2 * n)) n)
+abbrev pub BadNumber : List ℕ → ℕ → ℕ → Type 0
+BadNumber octets scenes n =
+    let number : ℕ = octet octets (scenes + 2 * n) in
+    ((63 < number) × (number ≡ 255 → ⊥)) ⊎ ((number ≤ 63) × Above octets scenes number n)
 
 -- flags of an unused entry that are not 0, or of a used one with more than two bits
-abbrev pub BadFlags : List ℕ → ℕ → Type 0
-BadFlags octets n =
-    ((octet octets (16 + 2 * n) ≡ 255) × (0 < octet octets (17 + 2 * n))) ⊎ ((octet octets (16 + 2 * n) ≡ 255 → ⊥) × (3 < octet octets (17 + 2 * n)))
+abbrev pub BadFlags : List ℕ → ℕ → ℕ → Type 0
+BadFlags octets scenes n =
+    let number : ℕ = octet octets (scenes + 2 * n) in
+    let flags : ℕ = octet octets (scenes + 1 + 2 * n) in
+    ((number ≡ 255) × (0 < flags)) ⊎ ((number ≡ 255 → ⊥) × (3 < flags))
 
--- which octet of 32 is out of range, and so the place of refusal 5: "lowest bad octet in 0-31 (TimedOn 0: 4; a repeated scene: the later
--- entry's number)"
-pub record BadExactly (octets : List ℕ) : Type 0 where
-  pub delays : (j : ℕ) → j < 8 → (badOctet octets j ≡ true) ↔ ((j ≡ 4) × (octet octets 4 ≡ 0) × (octet octets 5 ≡ 0))
-  pub locking : (badOctet octets 8 ≡ true) ↔ (2 < octet octets 8)
-  pub unlocking : (badOctet octets 9 ≡ true) ↔ (3 < octet octets 9)
-  pub busfailure : (badOctet octets 10 ≡ true) ↔ (2 < octet octets 10)
-  pub busreturn : (badOctet octets 11 ≡ true) ↔ (2 < octet octets 11)
-  pub powerreturn : (badOctet octets 12 ≡ true) ↔ (2 < octet octets 12)
-  pub learning : (badOctet octets 13 ≡ true) ↔ (1 < octet octets 13)
-  pub zeros : ((badOctet octets 14 ≡ true) ↔ (0 < octet octets 14)) × ((badOctet octets 15 ≡ true) ↔ (0 < octet octets 15))
-  pub numbers : (n : ℕ) → (badOctet octets (16 + 2 * n) ≡ true) ↔ BadNumber octets n
-  pub flags : (n : ℕ) → (badOctet octets (17 + 2 * n) ≡ true) ↔ BadFlags octets n
+-- an octet that is out of range exactly when it is greater than this
+abbrev pub TooGreat : Form → List ℕ → ℕ → ℕ → Type 0
+TooGreat f octets at limit = (badOctet f octets at ≡ true) ↔ (limit < octet octets at)
+
+-- which octet is out of range, and so the place of refusal 5: "lowest bad octet in 0-31 (TimedOn 0: 4; a repeated scene: the later
+-- entry's number)"; 02, [2]: "5 use[s] the version's .. places (a bad time: its first octet ..)"
+pub record BadExactly (f : Form) (octets : List ℕ) : Type 0 where
+  pub times : (n : ℕ) → n < 4 → (badOctet f octets (timePlace f n) ≡ true) ↔ BadTime f octets n
+  pub within-times : (n k : ℕ) → n < 4 → 0 < k → k < width (f .scale) → badOctet f octets (timePlace f n + k) ≡ false
+  pub locking : TooGreat f octets (modesAt f) 2
+  pub unlocking : TooGreat f octets (modesAt f + 1) 3
+  pub busfailure : TooGreat f octets (modesAt f + 2) 2
+  pub busreturn : TooGreat f octets (modesAt f + 3) 2
+  pub powerreturn : TooGreat f octets (modesAt f + 4) 2
+  pub learning : TooGreat f octets (modesAt f + 5) 1
+  pub zeros : TooGreat f octets (modesAt f + 6) 0 × TooGreat f octets (modesAt f + 7) 0
+  pub numbers : (n : ℕ) → (badOctet f octets (scenesAt f + 2 * n) ≡ true) ↔ BadNumber octets (scenesAt f) n
+  pub flags : (n : ℕ) → (badOctet f octets (scenesAt f + 1 + 2 * n) ≡ true) ↔ BadFlags octets (scenesAt f) n
 
 -- ---- a sound state (01, "Refusal numbers")
 

@@ -6,14 +6,17 @@ use mathlib.Core.Option.{Option, some, none}
 use lib.ListN.{length, take, drop}
 use lib.Dec.{eqb, leb}
 use Rattle.octets.specs.BigEndian.{be16, be32}
+use Rattle.rules.specs.declared.parameters.Params.{Params}
+use Rattle.rules.specs.declared.parameters.Scene.{Scene}
 use Rattle.rules.specs.declared.input.Decoded.{Decoded}
 use Rattle.rules.specs.declared.input.Decoded.the-variants.{Meant, Wrong}
 use Rattle.base.specs.declared.refusal.Refusal.the-variants.{WrongLength, WrongVersion, WrongActuators, WrongLayout}
 use Rattle.base.specs.declared.refusal.Check.{Check}
 use Rattle.base.specs.declared.refusal.Check.the-variants.{Refused}
 use Rattle.base.specs.Time.{lastStamp}
-use Rattle.rules.specs.Layout.{parametersAt, parametersSize, inputsAt, mostInputs, inputPlace, recordsRoom}
-use Rattle.rules.specs.Parameters.{checkParameters}
+use Rattle.rules.specs.Forms.{isVersion, version, formIn}
+use Rattle.rules.specs.Layout.{parametersAt, parametersSize, leastFile, inputsAt, mostInputs, inputPlace, recordsRoom}
+use Rattle.rules.specs.Parameters.{paramsOf, scenesOf, checkParameters}
 use Rattle.rules.specs.Inputs.{inputAt}
 use Rattle.octets.specs.Groups.{stampAt}
 use Rattle.rules.specs.Lists.{Cue, cue}
@@ -21,11 +24,8 @@ use Rattle.rules.specs.Readings.{Reading, readInputs, afterCheck, ifLent
 
 -- ---- "Header, 20 octets of counts and offsets"
 
--- "0-1 version (1); 2-3 count of actuators (1); 4-7 offset of parameters (20); 8-11 count n of inputs (0 to 2,048);
+-- "0-1 version (1)": Forms.antt. "2-3 count of actuators (1); 4-7 offset of parameters (20); 8-11 count n of inputs (0 to 2,048);
 -- 12-15 offset of inputs (52); 16-19 end time (at most 864,000)."
-abbrev pub version : List ℕ → ℕ
-version file = be16 file 0
-
 abbrev pub actuators : List ℕ → ℕ
 actuators file = be16 file 2
 
@@ -43,26 +43,36 @@ endTime file = be32 file 16
 
 -- the octets of the parameters
 unfoldable pub parametersIn : List ℕ → List ℕ
-parametersIn file = take parametersSize (drop parametersAt file)
+parametersIn file = take (parametersSize (formIn file)) (drop parametersAt file)
 
--- "4 | an offset, n, the length or the end time is not as above" ("The file is exactly 52+8n octets.")
+-- the parameters and the scene table that they say
+abbrev pub paramsIn : List ℕ → Params
+paramsIn file = paramsOf (formIn file) (parametersIn file)
+
+abbrev pub scenesIn : List ℕ → List Scene
+scenesIn file = scenesOf (formIn file) (parametersIn file)
+
+-- "4 | an offset, n, the length or the end time is not as above" ("The file is exactly 52+8n octets."); 02, [2]: "inputs at offset 60"
 unfoldable pub layoutRight : List ℕ → Bool
 layoutRight file =
     (eqb (parametersOffset file) parametersAt && leb (inputCount file) mostInputs) &&
-    (eqb (inputsOffset file) inputsAt && leb (endTime file) lastStamp) &&
-    eqb (length file) (inputPlace (inputCount file))
+    (eqb (inputsOffset file) (inputsAt (formIn file)) && leb (endTime file) lastStamp) &&
+    eqb (length file) (inputPlace file (inputCount file))
 
 -- ---- the whole file: "Order 1, 2, 3, 4, 5; then the first bad input"
 
--- 1 to 5: what stands before the inputs
+-- 1 to 5: what stands before the inputs. 02, [2]: "version is tested on files of at least 52 octets, and a version 2 file under 60 then
+-- gets 1"
 unfoldable pub checkStart : List ℕ → Check
 checkStart file =
-    cond (leb inputsAt (length file))
-    (cond (eqb (version file) 1)
+    cond (leb leastFile (length file))
+    (cond (isVersion (version file))
+    (cond (leb (inputsAt (formIn file)) (length file))
     (cond (eqb (actuators file) 1)
-    (cond (layoutRight file) (checkParameters (parametersIn file))
+    (cond (layoutRight file) (checkParameters (formIn file) (parametersIn file))
     (Refused WrongLayout 0))
     (Refused WrongActuators 0))
+    (Refused WrongLength 0))
     (Refused WrongVersion 0))
     (Refused WrongLength 0)
 
@@ -72,7 +82,7 @@ stamped stamp (Meant x) = some (cue stamp x)
 stamped stamp Wrong = none
 
 unfoldable pub cueAt : List ℕ → ℕ → Option Cue
-cueAt file i = stamped (stampAt file (inputPlace i)) (inputAt file (inputPlace i))
+cueAt file i = stamped (stampAt file (inputPlace file i)) (inputAt file (inputPlace file i))
 
 unfoldable pub readFile : List ℕ → Reading Cue
 readFile file = afterCheck (checkStart file) (readInputs (cueAt file) file (inputCount file) 0 0 (endTime file))

@@ -1,34 +1,58 @@
--- Where the parts of a cue file and of the buffer of records stand, and how long they are (01, "Time and the cue file"). The places
--- inside the header, an input and a record stand with their readings.
+-- Where the parts of a cue file and of the buffer of records stand, and how long they are (01, "Time and the cue file"; 02, [2]), by the row
+-- of the file's version: proofs/Laws/Forms.antt has the numbers of each. The places inside the header, an input and a record stand with
+-- their readings.
 use Prim.Native.Nat.{ℕ, _+_, _*_}
+use mathlib.Core.Bool.{cond}
+use mathlib.Core.List.{List}
+use lib.ListN.{length}
+use lib.Dec.{eqb}
 use Rattle.octets.specs.Groups.{groupSize}
+use Rattle.rules.specs.declared.form.Form.{Form}
+use Rattle.rules.specs.Forms.{width, inSeconds, inTenths, formIn}
 
 -- "Header, 20 octets of counts and offsets"; "offset of parameters (20)"
 abbrev pub parametersAt : ℕ
 parametersAt = 20
 
--- "Parameters, 32 octets"
-abbrev pub parametersSize : ℕ
-parametersSize = 32
+-- ---- the parameters
 
--- of the parameters: "8 BehaviourAtLocking .." to "14-15 zero"
-abbrev pub modesAt : ℕ
-modesAt = 8
+-- where time n stands: "0-1 OnDelay; 2-3 OffDelay; 4-5 TimedOnDuration ..; 6-7 PrewarningDuration"; 02: "the four times .. in parameter
+-- octets 0-15"
+abbrev pub timePlace : Form → ℕ → ℕ
+timePlace f n = width (f .scale) * n
+
+-- behind the four times: "8 BehaviourAtLocking .." to "14-15 zero"; 02: "the rest follows"
+abbrev pub modesAt : Form → ℕ
+modesAt f = width (f .scale) * 4
 
 -- "then eight scene entries of two octets: number .. and flags"
-abbrev pub scenesAt : ℕ
-scenesAt = 16
+abbrev pub scenesAt : Form → ℕ
+scenesAt f = modesAt f + 8
 
 -- where the number and the flags of entry n stand
-abbrev pub scenePlace : ℕ → ℕ
-scenePlace n = scenesAt + 2 * n
+abbrev pub scenePlace : Form → ℕ → ℕ
+scenePlace f n = scenesAt f + 2 * n
 
-abbrev pub flagsPlace : ℕ → ℕ
-flagsPlace n = scenesAt + 1 + 2 * n
+abbrev pub flagsPlace : Form → ℕ → ℕ
+flagsPlace f n = scenesAt f + 1 + 2 * n
 
--- "offset of inputs (52)": they follow the parameters, and a file without any ends there ("Refusal numbers": "file under 52 octets")
-abbrev pub inputsAt : ℕ
-inputsAt = 52
+-- "Parameters, 32 octets"; 02: "40 octets in all"
+abbrev pub parametersSize : Form → ℕ
+parametersSize f = scenesAt f + 16
+
+-- the row of parameters that are offered alone: 02, "parameters alone are told by 32 or 40 octets"
+unfoldable pub formAlone : List ℕ → Form
+formAlone octets = cond (eqb (length octets) (parametersSize inTenths)) inTenths inSeconds
+
+-- ---- the inputs
+
+-- "offset of inputs (52)"; 02: "inputs at offset 60": they follow the parameters, and a file without any ends there (02: "least length 60")
+abbrev pub inputsAt : Form → ℕ
+inputsAt f = parametersAt + parametersSize f
+
+-- "Refusal numbers": "file under 52 octets"; 02: "version is tested on files of at least 52 octets"
+abbrev pub leastFile : ℕ
+leastFile = inputsAt inSeconds
 
 -- "Input, 8 octets"
 abbrev pub inputSize : ℕ
@@ -38,9 +62,11 @@ inputSize = groupSize
 abbrev pub mostInputs : ℕ
 mostInputs = 2048
 
--- where input i stands, and so, for the count of all inputs, where the file ends: "The file is exactly 52+8n octets."
-abbrev pub inputPlace : ℕ → ℕ
-inputPlace i = inputsAt + inputSize * i
+-- where input i of a file stands, and so, for the count of all inputs, where the file ends: "The file is exactly 52+8n octets."
+abbrev pub inputPlace : List ℕ → ℕ → ℕ
+inputPlace file i = inputsAt (formIn file) + inputSize * i
+
+-- ---- the records
 
 -- 01, "Records and the printout": "A record is 8 octets"
 abbrev pub recordSize : ℕ

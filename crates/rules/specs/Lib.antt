@@ -1,5 +1,6 @@
 -- The rules, one topic to a file, in the order of document 01. (Time and the refusal numbers: crates/base/specs; numbers in octets:
 -- crates/octets/specs.)
+pub mod Forms
 pub mod Layout
 pub mod Parameters
 pub mod Inputs

@@ -39,8 +39,8 @@ readOne (some x) stamp last end i later = cond (leb last stamp && leb stamp end)
 unfoldable pub readInputs : {A : Type 0} → (ℕ → Option A) → List ℕ → ℕ → ℕ → ℕ → ℕ → Reading A
 readInputs at file zero i last end = cues []
 readInputs at file (suc left) i last end =
-    let later = readInputs at file left (i + 1) (stampAt file (inputPlace i)) end in
-    readOne (at i) (stampAt file (inputPlace i)) last end i later
+    let later = readInputs at file left (i + 1) (stampAt file (inputPlace file i)) end in
+    readOne (at i) (stampAt file (inputPlace file i)) last end i later
 
 -- what is wrong before them comes first
 abbrev pub afterCheck : {A : Type 0} → Check → Reading A → Reading A

@@ -7,6 +7,7 @@ use mathlib.Core.Logic.{_⊎_}
 use mathlib.Core.Option.{Option, some, none}
 use mathlib.Core.Path.{_≡_}
 use lib.ListN.{length}
+use Rattle.rules.specs.declared.form.Form.{Form}
 use Rattle.rules.specs.declared.input.Input.{Input}
 use Rattle.rules.specs.declared.input.Decoded.the-variants.{Meant}
 use Rattle.rules.specs.declared.state.State.{State}
@@ -16,70 +17,78 @@ use Rattle.base.specs.declared.refusal.Refusal.the-variants.{WrongLength, Wrong
 use Rattle.base.specs.declared.refusal.Check.{Check}
 use Rattle.base.specs.declared.refusal.Check.the-variants.{Passed, Refused}
 use Rattle.base.specs.Refusals.{Only, Then, Codes, Timely, CallCodes}
-use Rattle.rules.specs.Layout.{inputPlace}
+use Rattle.rules.specs.Forms.{version, formIn}
+use Rattle.rules.specs.Layout.{parametersSize, formAlone, inputsAt, inputPlace}
 use Rattle.rules.specs.Parameters.{badOctet, checkParameters}
 use Rattle.rules.specs.Inputs.{inputAt}
 use Rattle.octets.specs.Groups.{stampAt}
-use Rattle.rules.specs.Files.{version, actuators, parametersOffset, inputCount, inputsOffset, endTime, parametersIn, cueAt}
+use Rattle.rules.specs.Facts.{HasVersion}
+use Rattle.rules.specs.Files.{actuators, parametersOffset, inputCount, inputsOffset, endTime, parametersIn, cueAt}
 use Rattle.rules.specs.Soundness.{sound}
 
 -- ---- parameters
 
-pub record GoodParameters (octets : List ℕ) : Type 0 where
-  pub whole : length octets ≡ 32
-  pub good : (j : ℕ) → j < 32 → badOctet octets j ≡ false
+-- of this row: "1, 4 and 5 use the version's sizes and places" (02, [2]; Facts.antt has the numbers)
+pub record GoodParameters (f : Form) (octets : List ℕ) : Type 0 where
+  pub whole : length octets ≡ parametersSize f
+  pub good : (j : ℕ) → j < parametersSize f → badOctet f octets j ≡ false
 
 -- "lowest bad octet in 0-31"
-pub record FirstBad (octets : List ℕ) (at : ℕ) : Type 0 where
-  pub whole : length octets ≡ 32
-  pub within : at < 32
-  pub bad : badOctet octets at ≡ true
-  pub good : (j : ℕ) → j < at → badOctet octets j ≡ false
+pub record FirstBad (f : Form) (octets : List ℕ) (at : ℕ) : Type 0 where
+  pub whole : length octets ≡ parametersSize f
+  pub within : at < parametersSize f
+  pub bad : badOctet f octets at ≡ true
+  pub good : (j : ℕ) → j < at → badOctet f octets j ≡ false
 
 -- what the check of parameters finds, and when: two of the refusals, and the others never
-abbrev pub FoundWhen : List ℕ → Check → Type 0
-FoundWhen octets Passed = GoodParameters octets
-FoundWhen octets (Refused WrongLength place) = (place ≡ 0) × (length octets ≡ 32 → ⊥)
-FoundWhen octets (Refused WrongVersion place) = ⊥
-FoundWhen octets (Refused WrongActuators place) = ⊥
-FoundWhen octets (Refused WrongLayout place) = ⊥
-FoundWhen octets (Refused BadParameter place) = FirstBad octets place
-FoundWhen octets (Refused BadInput place) = ⊥
-FoundWhen octets (Refused BadStamp place) = ⊥
-FoundWhen octets (Refused ShortBuffer place) = ⊥
-FoundWhen octets (Refused UnsoundState place) = ⊥
-FoundWhen octets (Refused BadAction place) = ⊥
+abbrev pub FoundWhen : Form → List ℕ → Check → Type 0
+FoundWhen f octets Passed = GoodParameters f octets
+FoundWhen f octets (Refused WrongLength place) = (place ≡ 0) × (length octets ≡ parametersSize f → ⊥)
+FoundWhen f octets (Refused WrongVersion place) = ⊥
+FoundWhen f octets (Refused WrongActuators place) = ⊥
+FoundWhen f octets (Refused WrongLayout place) = ⊥
+FoundWhen f octets (Refused BadParameter place) = FirstBad f octets place
+FoundWhen f octets (Refused BadInput place) = ⊥
+FoundWhen f octets (Refused BadStamp place) = ⊥
+FoundWhen f octets (Refused ShortBuffer place) = ⊥
+FoundWhen f octets (Refused UnsoundState place) = ⊥
+FoundWhen f octets (Refused BadAction place) = ⊥
 
 -- ---- a file
 
+-- neither row 1 nor row 2 holds: "version is tested on files of at least 52 octets, and a version 2 file under 60 then gets 1" (02, [2])
+pub record LongEnough (file : List ℕ) : Type 0 where
+  pub least : 52 ≤ length file
+  pub version : HasVersion (version file)
+  pub long : inputsAt (formIn file) ≤ length file
+
 -- "offset of parameters (20); .. count n of inputs (0 to 2,048); .. offset of inputs (52); .. end time (at most 864,000).
--- The file is exactly 52+8n octets."
+-- The file is exactly 52+8n octets."; 02, [2]: "inputs at offset 60"
 pub record GoodLayout (file : List ℕ) : Type 0 where
   pub parameters : parametersOffset file ≡ 20
   pub few : inputCount file ≤ 2048
-  pub inputs : inputsOffset file ≡ 52
+  pub inputs : inputsOffset file ≡ inputsAt (formIn file)
   pub end : endTime file ≤ 864_000
-  pub whole : length file ≡ 52 + 8 * inputCount file
+  pub whole : length file ≡ inputsAt (formIn file) + 8 * inputCount file
 
 -- rows 1 to 4 do not hold
 pub record GoodHeader (file : List ℕ) : Type 0 where
-  pub long : 52 ≤ length file
-  pub version : version file ≡ 1
+  pub enough : LongEnough file
   pub actuators : actuators file ≡ 1
   pub layout : GoodLayout file
 
 -- nor does row 5
 pub record GoodStart (file : List ℕ) : Type 0 where
   pub header : GoodHeader file
-  pub passed : checkParameters (parametersIn file) ≡ Passed
+  pub passed : checkParameters (formIn file) (parametersIn file) ≡ Passed
 
 -- when a file is refused for what stands before its inputs
 abbrev pub StartWhen : List ℕ → Refusal → ℕ → Type 0
-StartWhen file WrongLength place = (place ≡ 0) × (length file < 52)
-StartWhen file WrongVersion place = (place ≡ 0) × (52 ≤ length file) × (version file ≡ 1 → ⊥)
-StartWhen file WrongActuators place = (place ≡ 0) × (52 ≤ length file) × (version file ≡ 1) × (actuators file ≡ 1 → ⊥)
-StartWhen file WrongLayout place = (place ≡ 0) × (52 ≤ length file) × (version file ≡ 1) × (actuators file ≡ 1) × (GoodLayout file → ⊥)
-StartWhen file BadParameter place = GoodHeader file × FirstBad (parametersIn file) place
+StartWhen file WrongLength place = (place ≡ 0) × ((length file < 52) ⊎ (HasVersion (version file) × (length file < inputsAt (formIn file))))
+StartWhen file WrongVersion place = (place ≡ 0) × (52 ≤ length file) × (HasVersion (version file) → ⊥)
+StartWhen file WrongActuators place = (place ≡ 0) × LongEnough file × (actuators file ≡ 1 → ⊥)
+StartWhen file WrongLayout place = (place ≡ 0) × LongEnough file × (actuators file ≡ 1) × (GoodLayout file → ⊥)
+StartWhen file BadParameter place = GoodHeader file × FirstBad (formIn file) (parametersIn file) place
 StartWhen file BadInput place = ⊥
 StartWhen file BadStamp place = ⊥
 StartWhen file ShortBuffer place = ⊥
@@ -91,14 +100,14 @@ StartWhen file BadAction place = ⊥
 -- the stamp before that of an input; before the first it is 0
 abbrev pub stampBefore : List ℕ → ℕ → ℕ
 stampBefore file zero = 0
-stampBefore file (suc j) = stampAt file (inputPlace j)
+stampBefore file (suc j) = stampAt file (inputPlace file j)
 
 -- an input that neither row 6 nor row 7 holds for
 pub record GoodInput {A : Type 0} (at : ℕ → Option A) (file : List ℕ) (j : ℕ) : Type 0 where
   pub input : A
   pub means : at j ≡ some input
-  pub risen : stampBefore file j ≤ stampAt file (inputPlace j)
-  pub timely : stampAt file (inputPlace j) ≤ endTime file
+  pub risen : stampBefore file j ≤ stampAt file (inputPlace file j)
+  pub timely : stampAt file (inputPlace file j) ≤ endTime file
 
 abbrev pub GoodInputs : {A : Type 0} → (ℕ → Option A) → List ℕ → Type 0
 GoodInputs at file = (j : ℕ) → j < inputCount file → GoodInput at file j
@@ -114,7 +123,7 @@ pub record FirstUntimely {A : Type 0} (at : ℕ → Option A) (file : List ℕ) 
   pub within : place < inputCount file
   pub input : A
   pub means : at place ≡ some input
-  pub untimely : (stampAt file (inputPlace place) < stampBefore file place) ⊎ (endTime file < stampAt file (inputPlace place))
+  pub untimely : (stampAt file (inputPlace file place) < stampBefore file place) ⊎ (endTime file < stampAt file (inputPlace file place))
   pub good : (j : ℕ) → j < place → GoodInput at file j
 
 -- when a file is refused for one of its inputs
@@ -143,8 +152,9 @@ pub record GoodFile (file : List ℕ) : Type 0 where
 
 -- ---- the public calls: each code with its place, exactly when the table gives it
 
+-- 02, [2]: "parameters alone are told by 32 or 40 octets"
 abbrev pub FreshCodes : List ℕ → ℕ → ℕ → Type 0
-FreshCodes octets = Codes (λ why p. FoundWhen octets (Refused why p)) (GoodParameters octets)
+FreshCodes octets = Codes (λ why p. FoundWhen (formAlone octets) octets (Refused why p)) (GoodParameters (formAlone octets) octets)
 
 -- "For a single input 9, 6, 7, place 0."
 abbrev pub SingleCodes : State → List ℕ → ℕ → ℕ → Type 0

@@ -6,12 +6,11 @@ use Rattle.octets.specs.BigEndian.{octets32}
 use Rattle.rules.specs.declared.record.Record.{Record}
 use Rattle.base.specs.declared.refusal.Refusal.{Refusal}
 use Rattle.rules.specs.declared.call.Ran.{Ran}
-use Rattle.rules.specs.Parameters.{paramsOf, scenesOf}
 use Rattle.rules.specs.Lists.{Cue, Played, playList}
 use Rattle.base.specs.Refusals.{number}
 use Rattle.rules.specs.Calls.{ownState}
 use Rattle.rules.specs.Readings.{Reading, cues, bad}
-use Rattle.rules.specs.Files.{parametersIn, endTime, readCall}
+use Rattle.rules.specs.Files.{endTime, readCall, paramsIn, scenesIn}
 
 -- "A record is 8 octets: stamp, value, attributes, cause, zero." "Numbers are most significant octet first."
 unfoldable pub recordOctets : Record → List ℕ
@@ -34,7 +33,7 @@ pub record Whole : Type 0 where
 
 -- what the cues of a file give: its own parameters and scenes, played to its end time
 unfoldable pub playFile : List ℕ → List Cue → Played
-playFile file list = playList (paramsOf (parametersIn file)) (scenesOf (parametersIn file)) list (endTime file)
+playFile file list = playList (paramsIn file) (scenesIn file) list (endTime file)
 
 unfoldable pub accepted : Played → List ℕ → List ℕ → Whole
 accepted p records answers =

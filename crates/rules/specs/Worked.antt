@@ -15,6 +15,7 @@ use Rattle.rules.specs.Lists.{Cue, cue, playList}
 abbrev pub paper : Params
 paper =
     record {
+      version = 1;
       ondelay = tenths 2;
       offdelay = tenths 5;
       timedon = tenths 60;

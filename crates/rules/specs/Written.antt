@@ -7,6 +7,9 @@ use mathlib.Core.List.{List, [], _∷_, _++_}
 use mathlib.Core.Logic.{_⊎_}
 use mathlib.Core.Path.{_≡_}
 use Rattle.octets.specs.BigEndian.{octet, octets16, octets32}
+use Rattle.rules.specs.declared.form.Scale.{Scale}
+use Rattle.rules.specs.declared.form.Scale.the-variants.{Seconds, Tenths}
+use Rattle.rules.specs.declared.form.Form.{Form}
 use Rattle.rules.specs.declared.parameters.Params.{Params}
 use Rattle.rules.specs.declared.parameters.Scene.{Scene}
 use Rattle.rules.specs.declared.input.Force.the-variants.{Free}
@@ -15,17 +18,18 @@ use Rattle.rules.specs.declared.input.Input.the-variants.{SwitchOnOffFor
 use Rattle.rules.specs.Inputs.{kind, sceneNumber, inputValue}
 use Rattle.rules.specs.Status.{bit}
 
--- "Delays are U16 seconds; a delay of s lasts 10*s tenths."
-abbrev pub delayOctets : ℕ → List ℕ
-delayOctets t = octets16 (t / 10)
+-- "Delays are U16 seconds; a delay of s lasts 10*s tenths."; 02, [2]: "the four times as U32 tenths"
+abbrev pub delayOctets : Scale → ℕ → List ℕ
+delayOctets Seconds t = octets16 (t / 10)
+delayOctets Tenths t = octets32 t
 
 -- "0-1 OnDelay; 2-3 OffDelay; 4-5 TimedOnDuration, 1 or more; 6-7 PrewarningDuration; 8 BehaviourAtLocking ..; 9 BehaviourAtUnlocking ..;
 -- 10 BusFailureMode, 11 BusReturnMode ..; 12 PowerReturnMode ..; 13 SceneLearningModeEnable (0, 1); 14-15 zero"
 abbrev pub modeOctets : Params → List ℕ
 modeOctets p = p .locking ∷ p .unlocking ∷ p .busfailure ∷ p .busreturn ∷ p .powerreturn ∷ cond (p .learning) 1 0 ∷ 0 ∷ 0 ∷ []
 
-abbrev pub paramsOctets : Params → List ℕ
-paramsOctets p = delayOctets (p .ondelay) ++ (delayOctets (p .offdelay) ++ (delayOctets (p .timedon) ++ (delayOctets (p .prewarning) ++ modeOctets p)))
+abbrev pub timesOctets : Scale → Params → List ℕ
+timesOctets s p = delayOctets s (p .ondelay) ++ (delayOctets s (p .offdelay) ++ (delayOctets s (p .timedon) ++ delayOctets s (p .prewarning)))
 
 -- "number (0 to 63, or 255 for unused) and flags (bit 0 value, bit 1 taught in, others zero)"
 abbrev pub flagsOctet : Scene → ℕ
@@ -35,14 +39,14 @@ abbrev pub scenesOctets : List Scene → List ℕ
 scenesOctets [] = []
 scenesOctets (e ∷ later) = e .number ∷ flagsOctet e ∷ scenesOctets later
 
--- "Parameters, 32 octets: .. then eight scene entries of two octets"
-abbrev pub parametersOctets : Params → List Scene → List ℕ
-parametersOctets p k = paramsOctets p ++ scenesOctets k
+-- "Parameters, 32 octets: .. then eight scene entries of two octets"; 02, [2]: "40 octets in all"
+abbrev pub parametersOctets : Form → Params → List Scene → List ℕ
+parametersOctets f p k = timesOctets (f .scale) p ++ (modeOctets p ++ scenesOctets k)
 
 -- "Header, 20 octets of counts and offsets: 0-1 version (1); 2-3 count of actuators (1); 4-7 offset of parameters (20); 8-11 count n of
--- inputs (0 to 2,048); 12-15 offset of inputs (52); 16-19 end time (at most 864,000)."
-abbrev pub headerOctets : ℕ → ℕ → List ℕ
-headerOctets n end = octets16 1 ++ (octets16 1 ++ (octets32 20 ++ (octets32 n ++ (octets32 52 ++ octets32 end))))
+-- inputs (0 to 2,048); 12-15 offset of inputs (52); 16-19 end time (at most 864,000)."; 02, [2]: "inputs at offset 60"
+abbrev pub headerOctets : ℕ → ℕ → ℕ → ℕ → List ℕ
+headerOctets version inputs n end = octets16 version ++ (octets16 1 ++ (octets32 20 ++ (octets32 n ++ (octets32 inputs ++ octets32 end))))
 
 -- "each with its own value": a value octet of an input ("4 forced: 0 and 1 no control")
 abbrev pub ValueOf : Input → ℕ → Type 0

@@ -3,6 +3,7 @@
 // This crate has no code of its own; the crates above it hold the code that is proved to follow these rules.
 pub mod barrier;
 pub mod call;
+pub mod form;
 pub mod input;
 pub mod parameters;
 pub mod phase;

@@ -16,8 +16,7 @@ use Rattle.base.specs.declared.refusal.Check.{Check}
 use Rattle.base.specs.declared.refusal.Check.the-variants.{Passed, Refused}
 use Rattle.base.specs.Refusals.{codeOf, placeOf, orElse, Decides}
 use Rattle.base.proofs.Codes.{codes-of-a-check, one-test-decides, then-decides}
-use Rattle.rules.specs.Files.{inputCount, endTime, parametersIn, checkStart, lentEnough}
-use Rattle.rules.specs.Parameters.{paramsOf, scenesOf}
+use Rattle.rules.specs.Files.{inputCount, endTime, checkStart, lentEnough, paramsIn, scenesIn}
 use Rattle.rules.specs.Calls.{ownState}
 use Rattle.rules.specs.Readings.{Reading, cues, bad, verdict, readInputs, ifLentEnough}
 use Rattle.rules.specs.Refusals.{GoodStart, RoomFor}
@@ -189,13 +188,13 @@ items-answer (listed t i ∷ later) p = rw length-append (omega (arith, items-an
 pub played-wall-count : (wall : List ℕ) (items : List Listed) → length (playWall wall items .records) ≤ 3 * length items + 3
 unfolding playWall playItems pairPlaysTo
 played-wall-count wall items =
-    let begun : Pair = pairStart (paramsOf (parametersIn (fileIn wall))) (scenesOf (parametersIn (fileIn wall))) (freshSensor (actionsIn wall)) .pair in
+    let begun : Pair = pairStart (paramsIn (fileIn wall)) (scenesIn (fileIn wall)) (freshSensor (actionsIn wall)) .pair in
     rw (length-append, length-append) (omega (arith, items-write-few items begun, a-pair-move-writes-at-most-two (pairPlays items begun .pair) (endTime (fileIn wall))))
 
 pub played-wall-answers : (wall : List ℕ) (items : List Listed) → length (playWall wall items .answers) ≡ length items
 unfolding playWall playItems pairPlaysTo
 played-wall-answers wall items =
-    let begun : Pair = pairStart (paramsOf (parametersIn (fileIn wall))) (scenesOf (parametersIn (fileIn wall))) (freshSensor (actionsIn wall)) .pair in
+    let begun : Pair = pairStart (paramsIn (fileIn wall)) (scenesIn (fileIn wall)) (freshSensor (actionsIn wall)) .pair in
     rw (length-append, length-append) (omega (arith, items-answer items begun))
 
 -- of a run that is accepted

@@ -5,84 +5,92 @@ use mathlib.Core.List.{List}
 use mathlib.Core.Logic.{_↔_, inl, inr, ⊎-elim}
 use mathlib.Core.Path.{_≡_}
 use native.Mathlib.Omega.{arith}
+use lib.ListN.{getD}
 use lib.Dec.{eqb, leb, ltb}
 use borrow.Author.Tests.{ltb-true, leb-true, leb-false, eqb-true, eqb-false, not-true, lt-ltb, le-leb, lt-leb, eq-eqb, ne-eqb}
-use Rattle.octets.specs.BigEndian.{octet, be16}
-use Rattle.rules.specs.Parameters.{greatest, numberAbove, badNumber, badFlags, badOctet}
-use Rattle.rules.specs.Facts.{Above, BadNumber, BadFlags, BadExactly}
+use Rattle.octets.specs.BigEndian.{octet}
+use Rattle.rules.specs.declared.form.Form.{Form}
+use Rattle.rules.specs.Layout.{modesAt, scenesAt}
+use Rattle.rules.specs.Parameters.{delay, greatest, badTime, numberAbove, badNumber, badFlags}
+use Rattle.rules.specs.Facts.{BadTime, Above, BadNumber, BadFlags, TooGreat, BadExactly}
 use Rattle.base.proofs.Tests.{no, both, either, or-else, cond-case}
-use Rattle.rules.proofs.Laws.Parameters.{number-octet, flags-octet}
+use Rattle.rules.proofs.Laws.Parameters.{time-octet, within-time, mode-octet, number-octet, flags-octet}
 
--- "TimedOn 0: 4"
-delay-exactly : (octets : List ℕ) (j : ℕ) → j < 8 → (badOctet octets j ≡ true) ↔ ((j ≡ 4) × (octet octets 4 ≡ 0) × (octet octets 5 ≡ 0))
-unfolding badOctet
-delay-exactly octets j within =
-    rw (lt-ltb j 8 within) (
-      λ h. let parts = both (eqb j 4) (eqb (be16 octets 4) 0) h in
-          let none : 256 * octet octets 4 + octet octets 5 ≡ 0 = eqb-true _ _ (parts .1) in (eqb-true _ _ (parts .0), omega arith, omega arith),
-      λ f. simp (eq-eqb j 4 (f .0), eq-eqb (be16 octets 4) 0 (omega arith)),
-    )
+-- "TimedOn 0: 4"; "a bad time: its first octet"
+time-exactly : (f : Form) (octets : List ℕ) (n : ℕ) → (badTime f octets n ≡ true) ↔ BadTime f octets n
+unfolding badTime
+time-exactly f octets n = (
+  λ h. ⊎-elim
+      (λ long. inl (ltb-true _ _ long))
+      (λ none. let parts = both (eqb n 2) _ none in inr (eqb-true _ _ (parts .0), eqb-true _ _ (parts .1)))
+      (either (ltb 655_350 (delay f octets n)) _ h),
+  ⊎-elim
+      (λ long. simp (lt-ltb 655_350 (delay f octets n) long))
+      (λ none. or-else (ltb 655_350 (delay f octets n)) _ (λ short. simp (eq-eqb n 2 (none .0), eq-eqb (delay f octets n) 0 (none .1)))),
+)
 
 -- ---- the numbers of the entries
 
-above-view : (octets : List ℕ) (number n : ℕ) → numberAbove octets number n ≡ true → Above octets number n
+above-view : (f : Form) (octets : List ℕ) (number n : ℕ) → numberAbove f octets number n ≡ true → Above octets (scenesAt f) number n
 unfolding numberAbove
-above-view octets number zero h = no h
-above-view octets number (suc n) h =
+above-view f octets number zero h = no h
+above-view f octets number (suc n) h =
     ⊎-elim
     (λ here. record { earlier = n; before = omega arith; same = eqb-true _ _ here })
-    (λ above. let a = above-view octets number n above in record { earlier = a .earlier; before = omega (arith, a .before); same = a .same })
+    (λ above. let a = above-view f octets number n above in record { earlier = a .earlier; before = omega (arith, a .before); same = a .same })
     (either _ _ h)
 
-above-whole : (octets : List ℕ) (number n : ℕ) → Above octets number n → numberAbove octets number n ≡ true
+above-whole : (f : Form) (octets : List ℕ) (number n : ℕ) → Above octets (scenesAt f) number n → numberAbove f octets number n ≡ true
 unfolding numberAbove
-above-whole octets number zero a = absurd (omega (arith, a .before))
-above-whole octets number (suc n) a =
-    or-else (eqb (octet octets (16 + 2 * n)) number) (numberAbove octets number n)
+above-whole f octets number zero a = absurd (omega (arith, a .before))
+above-whole f octets number (suc n) a =
+    or-else (eqb (octet octets (scenesAt f + 2 * n)) number) (numberAbove f octets number n)
     (λ differs. let other : a .earlier ≡ n → ⊥ = λ e. eqb-false _ _ differs (rw e at (a .same)) in
-    above-whole octets number n (record { earlier = a .earlier; before = omega (arith, a .before, other); same = a .same }))
+    above-whole f octets number n (record { earlier = a .earlier; before = omega (arith, a .before, other); same = a .same }))
 
-number-exactly : (octets : List ℕ) (n : ℕ) → (badNumber octets n ≡ true) ↔ BadNumber octets n
+number-exactly : (f : Form) (octets : List ℕ) (n : ℕ) → (badNumber f octets n ≡ true) ↔ BadNumber octets (scenesAt f) n
 unfolding badNumber
-number-exactly octets n = (
-  cond-case (λ (b : Bool). b ≡ true → BadNumber octets n) (leb (octet octets (16 + 2 * n)) 63) _ _
-      (λ few above. inr (leb-true _ _ few, above-view octets _ n above))
+number-exactly f octets n = (
+  cond-case (λ (b : Bool). b ≡ true → BadNumber octets (scenesAt f) n) (leb (octet octets (scenesAt f + 2 * n)) 63) _ _
+      (λ few above. inr (leb-true _ _ few, above-view f octets _ n above))
       (λ many other. inl (leb-false _ _ many, eqb-false _ _ (not-true _ other))),
   ⊎-elim
-      (λ other. simp (lt-leb (octet octets (16 + 2 * n)) 63 (other .0), ne-eqb (octet octets (16 + 2 * n)) 255 (other .1)))
-      (λ again. simp (le-leb (octet octets (16 + 2 * n)) 63 (again .0), above-whole octets (octet octets (16 + 2 * n)) n (again .1))),
+      (λ other. simp (lt-leb (octet octets (scenesAt f + 2 * n)) 63 (other .0), ne-eqb (octet octets (scenesAt f + 2 * n)) 255 (other .1)))
+      (λ again. simp (le-leb (octet octets (scenesAt f + 2 * n)) 63 (again .0), above-whole f octets (octet octets (scenesAt f + 2 * n)) n (again .1))),
 )
 
 -- ---- the flags of the entries
 
-flags-exactly : (octets : List ℕ) (n : ℕ) → (badFlags octets n ≡ true) ↔ BadFlags octets n
+flags-exactly : (f : Form) (octets : List ℕ) (n : ℕ) → (badFlags f octets n ≡ true) ↔ BadFlags octets (scenesAt f) n
 unfolding badFlags
-flags-exactly octets n = (
-  cond-case (λ (b : Bool). b ≡ true → BadFlags octets n) (eqb (octet octets (16 + 2 * n)) 255) _ _
-      (λ unused some. inl (eqb-true _ _ unused, omega (arith, eqb-false (octet octets (17 + 2 * n)) 0 (not-true _ some))))
+flags-exactly f octets n = (
+  cond-case (λ (b : Bool). b ≡ true → BadFlags octets (scenesAt f) n) (eqb (octet octets (scenesAt f + 2 * n)) 255) _ _
+      (λ unused some. inl (eqb-true _ _ unused, omega (arith, eqb-false (octet octets (scenesAt f + 1 + 2 * n)) 0 (not-true _ some))))
       (λ used many. inr (eqb-false _ _ used, ltb-true _ _ many)),
   ⊎-elim
-      (λ unused. simp (eq-eqb (octet octets (16 + 2 * n)) 255 (unused .0), ne-eqb (octet octets (17 + 2 * n)) 0 (λ e. omega (arith, unused .1))))
-      (λ used. simp (ne-eqb (octet octets (16 + 2 * n)) 255 (used .0), lt-ltb 3 (octet octets (17 + 2 * n)) (used .1))),
+      (λ unused. simp (eq-eqb (octet octets (scenesAt f + 2 * n)) 255 (unused .0), ne-eqb (octet octets (scenesAt f + 1 + 2 * n)) 0 (λ e. omega (arith, unused .1))))
+      (λ used. simp (ne-eqb (octet octets (scenesAt f + 2 * n)) 255 (used .0), lt-ltb 3 (octet octets (scenesAt f + 1 + 2 * n)) (used .1))),
 )
 
--- ---- all 32
+-- ---- all of them
 
-above-exactly : (limit n : ℕ) → (ltb limit n ≡ true) ↔ (limit < n)
-above-exactly limit n = (ltb-true limit n, lt-ltb limit n)
+mode-exactly : (f : Form) (octets : List ℕ) (m : ℕ) → m < 8 → TooGreat f octets (modesAt f + m) (getD greatest m 0)
+mode-exactly f octets m within = rw (mode-octet f octets m within) (ltb-true _ _, lt-ltb _ _)
 
-pub bad-exactly : (octets : List ℕ) → BadExactly octets
-unfolding badOctet greatest
-bad-exactly octets =
+pub bad-exactly : (f : Form) (octets : List ℕ) → BadExactly f octets
+unfolding greatest
+bad-exactly f octets =
+    let first : modesAt f + 0 ≡ modesAt f = omega arith in
     record {
-      delays = delay-exactly octets;
-      locking = above-exactly 2 (octet octets 8);
-      unlocking = above-exactly 3 (octet octets 9);
-      busfailure = above-exactly 2 (octet octets 10);
-      busreturn = above-exactly 2 (octet octets 11);
-      powerreturn = above-exactly 2 (octet octets 12);
-      learning = above-exactly 1 (octet octets 13);
-      zeros = (above-exactly 0 (octet octets 14), above-exactly 0 (octet octets 15));
-      numbers = λ n. rw (number-octet octets n) (number-exactly octets n);
-      flags = λ n. rw (flags-octet octets n) (flags-exactly octets n);
+      times = λ n within. rw (time-octet f octets n within) (time-exactly f octets n);
+      within-times = within-time f octets;
+      locking = rw first at (mode-exactly f octets 0 (omega arith));
+      unlocking = mode-exactly f octets 1 (omega arith);
+      busfailure = mode-exactly f octets 2 (omega arith);
+      busreturn = mode-exactly f octets 3 (omega arith);
+      powerreturn = mode-exactly f octets 4 (omega arith);
+      learning = mode-exactly f octets 5 (omega arith);
+      zeros = (mode-exactly f octets 6 (omega arith), mode-exactly f octets 7 (omega arith));
+      numbers = λ n. rw (number-octet f octets n) (number-exactly f octets n);
+      flags = λ n. rw (flags-octet f octets n) (flags-exactly f octets n);
     }

@@ -1,70 +1,98 @@
 -- Times in range, and deadlines that lie 1 to 655,350 after the clock: what keeps every sum within its type.
 use Prim.Native.Nat.{ℕ, _+_, _-_, _/_, _%_, _≤_, _<_}
 use mathlib.Core.Bool.{Bool, true, false}
-use mathlib.Core.Path.{_≡_}
-use mathlib.Core.Logic.{_↔_}
+use mathlib.Core.Path.{_≡_, refl}
+use mathlib.Core.Logic.{_↔_, inl, inr}
 use native.Mathlib.Omega.{arith}
 use lib.Dec.{leb, ltb}
 use borrow.Author.Tests.{leb-true, ltb-true, eqb-true, le-leb, lt-ltb, eq-eqb}
+use Rattle.rules.specs.declared.form.Scale.the-variants.{Seconds, Tenths}
 use Rattle.rules.specs.declared.parameters.Params.{Params}
 use Rattle.rules.specs.declared.phase.Phase.{Phase}
 use Rattle.rules.specs.declared.phase.Phase.the-variants.{Dark, Lit, Starting, Timed, Warning, Ending}
 use Rattle.rules.specs.declared.phase.Deadline.the-variants.{At}
 use Rattle.base.specs.Time.{tenths, longestDelay}
-use Rattle.rules.specs.Parameters.{timeInRange, paramsInRange}
+use Rattle.rules.specs.Forms.{unit, formOf}
+use Rattle.rules.specs.Parameters.{timeInRange, timesInRange, modesInRange, paramsInRange}
 use Rattle.rules.specs.Phases.{deadline}
 use Rattle.rules.specs.Answers.{due}
 use Rattle.rules.specs.Soundness.{soon}
-use Rattle.rules.specs.Facts.{Delay, ParamsFit}
+use Rattle.rules.specs.Facts.{HasVersion, Delay, ParamsFit}
 use Rattle.base.proofs.Tests.{no, both, cond-case}
+use Rattle.rules.proofs.Laws.Forms.{has-version}
 
 -- ---- parameters in range
 
--- whole seconds, as a delay that is at most 655,350 and divisible by 10
-delay-exactly-when : (t : ℕ) → (timeInRange t ≡ true) ↔ Delay t
+-- of version 1: whole seconds, as a time that is divisible by 10
+seconds-exactly-when : (t : ℕ) → (timeInRange Seconds t ≡ true) ↔ Delay 1 t
 unfolding timeInRange
-delay-exactly-when t = (
-  λ h. let parts = both _ _ h in record { seconds = t / 10; fits = omega (arith, leb-true t longestDelay (parts .0)); lasts = omega (arith, eqb-true (t % 10) 0 (parts .1)) },
-  λ d. simp (le-leb t longestDelay (omega (arith, d .fits, d .lasts)), eq-eqb (t % 10) 0 (omega (arith, d .lasts))),
+seconds-exactly-when t = (
+  λ h. let parts = both _ _ h in record { limit = leb-true t longestDelay (parts .0); seconds = λ first. (t / 10, omega (arith, eqb-true (t % 10) 0 (parts .1))) },
+  λ d. simp (le-leb t longestDelay (d .limit), eq-eqb (t % 10) 0 (omega (arith, d .seconds refl .1))),
 )
+
+-- of version 2: any tenths
+tenths-exactly-when : (t : ℕ) → (timeInRange Tenths t ≡ true) ↔ Delay 2 t
+unfolding timeInRange
+tenths-exactly-when t = (
+  λ h. record { limit = leb-true t longestDelay (both (leb t longestDelay) _ h .0); seconds = λ first. absurd (let z : _≡_ {A = ℕ} 2 1 = first in omega arith) },
+  λ d. simp (le-leb t longestDelay (d .limit), eq-eqb (t % 1) 0 (omega arith)),
+)
+
+-- a time is in range exactly when the version can write it
+delay-exactly-when : (v : ℕ) → HasVersion v → (t : ℕ) → (timeInRange (formOf v .scale) t ≡ true) ↔ Delay v t
+unfolding formOf
+delay-exactly-when v (inl one) t = rw one (seconds-exactly-when t)
+delay-exactly-when v (inr two) t = rw two (tenths-exactly-when t)
+
+-- and one that is not 0 is at least one of its units
+unit-exactly-when : (v t : ℕ) → HasVersion v → Delay v t → (leb (unit (formOf v .scale)) t ≡ true) ↔ (t ≡ 0 → ⊥)
+unfolding formOf
+unit-exactly-when v t (inl one) d = rw one (λ h none. omega (arith, leb-true 10 t h), λ some. le-leb 10 t (omega (arith, some, d .seconds one .1)))
+unit-exactly-when v t (inr two) d = rw two (λ h none. omega (arith, leb-true 1 t h), λ some. le-leb 1 t (omega (arith, some)))
 
 -- parameters are in range exactly when each of them is as 01 says
 pub params-exactly-when : (p : Params) → (paramsInRange p ≡ true) ↔ ParamsFit p
-unfolding paramsInRange
+unfolding paramsInRange timesInRange modesInRange
 params-exactly-when p = (view, whole)
   where
     view : paramsInRange p ≡ true → ParamsFit p
     view h =
-        let back = both _ _ h in
-        let buses = both _ _ (back .0) in
-        let modes = both _ _ (buses .0) in
-        let delays = both _ _ (modes .0) in
+        let parts = both _ _ h in
+        let first = both _ _ (parts .0) in
+        let known : HasVersion (p .version) = has-version (p .version) .0 (first .0) in
+        let times = both _ _ (first .1) in
+        let delays = both _ _ (times .0) in
         let switched = both _ _ (delays .0) in
         let staged = both _ _ (delays .1) in
-        let first = both _ _ (modes .1) in
-        let middle = both _ _ (buses .1) in
-        let last = both _ _ (back .1) in
+        let modes = both _ _ (parts .1) in
+        let others = both _ _ (modes .0) in
+        let locks = both _ _ (others .0) in
+        let buses = both _ _ (others .1) in
+        let timedon = delay-exactly-when _ known (p .timedon) .0 (staged .0) in
         record {
-          ondelay = delay-exactly-when _ .0 (switched .0);
-          offdelay = delay-exactly-when _ .0 (switched .1);
-          timedon = delay-exactly-when _ .0 (staged .0);
-          prewarning = delay-exactly-when _ .0 (staged .1);
-          some = λ none. omega (arith, leb-true (tenths 1) (p .timedon) (first .0));
-          locking = leb-true _ _ (first .1);
-          unlocking = leb-true _ _ (middle .0);
-          busfailure = leb-true _ _ (middle .1);
-          busreturn = leb-true _ _ (last .0);
-          powerreturn = leb-true _ _ (last .1);
+          version = known;
+          ondelay = delay-exactly-when _ known (p .ondelay) .0 (switched .0);
+          offdelay = delay-exactly-when _ known (p .offdelay) .0 (switched .1);
+          timedon = timedon;
+          prewarning = delay-exactly-when _ known (p .prewarning) .0 (staged .1);
+          some = unit-exactly-when _ (p .timedon) known timedon .0 (times .1);
+          locking = leb-true _ _ (locks .0);
+          unlocking = leb-true _ _ (locks .1);
+          busfailure = leb-true _ _ (buses .0);
+          busreturn = leb-true _ _ (buses .1);
+          powerreturn = leb-true _ _ (modes .1);
         }
 
     whole : ParamsFit p → paramsInRange p ≡ true
     whole f =
         simp (
-          delay-exactly-when _ .1 (f .ondelay),
-          delay-exactly-when _ .1 (f .offdelay),
-          delay-exactly-when _ .1 (f .timedon),
-          delay-exactly-when _ .1 (f .prewarning),
-          le-leb (tenths 1) (p .timedon) (omega (arith, f .some, f .timedon .lasts)),
+          has-version (p .version) .1 (f .version),
+          delay-exactly-when (p .version) (f .version) (p .ondelay) .1 (f .ondelay),
+          delay-exactly-when (p .version) (f .version) (p .offdelay) .1 (f .offdelay),
+          delay-exactly-when (p .version) (f .version) (p .timedon) .1 (f .timedon),
+          delay-exactly-when (p .version) (f .version) (p .prewarning) .1 (f .prewarning),
+          unit-exactly-when (p .version) (p .timedon) (f .version) (f .timedon) .1 (f .some),
           le-leb _ _ (f .locking),
           le-leb _ _ (f .unlocking),
           le-leb _ _ (f .busfailure),
@@ -84,10 +112,10 @@ pub times-bounded : (p : Params) → paramsInRange p ≡ true → Times p
 times-bounded p h =
     let f = params-exactly-when p .0 h in
     record {
-      ondelay = omega (arith, f .ondelay .fits, f .ondelay .lasts);
-      offdelay = omega (arith, f .offdelay .fits, f .offdelay .lasts);
-      timedon = omega (arith, f .timedon .fits, f .timedon .lasts);
-      prewarning = omega (arith, f .prewarning .fits, f .prewarning .lasts);
+      ondelay = f .ondelay .limit;
+      offdelay = f .offdelay .limit;
+      timedon = f .timedon .limit;
+      prewarning = f .prewarning .limit;
       some = omega (arith, f .some);
     }
 

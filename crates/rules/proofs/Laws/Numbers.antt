@@ -13,6 +13,7 @@ use Rattle.rules.specs.declared.state.State.{State}
 use Rattle.rules.specs.declared.state.Link.{Link}
 use Rattle.rules.specs.declared.state.Link.the-variants.{Up, BusDown, PowerDown}
 use Rattle.base.specs.Refusals.{number}
+use Rattle.rules.specs.Forms.{formOf}
 use Rattle.rules.specs.Barriers.{powerDown, busDown}
 use Rattle.rules.specs.Steps.{fresh}
 use Rattle.rules.specs.Calls.{leastParams, unused, noScenes, blank}
@@ -30,9 +31,9 @@ unfolding recordOctets blank octets32
 a-blank-record-is-eight-zeros = refl
 
 -- "a refusal's state is the fresh one with TimedOn 1 second, other times and modes 0, no scenes": as the 32 octets of its parameters
-pub the-least-parameters-in-octets : parametersOctets leastParams noScenes ≡
+pub the-least-parameters-in-octets : parametersOctets (formOf 1) leastParams noScenes ≡
     0 ∷ 0 ∷ 0 ∷ 0 ∷ 0 ∷ 1 ∷ 0 ∷ 0 ∷ 0 ∷ 0 ∷ 0 ∷ 0 ∷ 0 ∷ 0 ∷ 0 ∷ 0 ∷ 255 ∷ 0 ∷ 255 ∷ 0 ∷ 255 ∷ 0 ∷ 255 ∷ 0 ∷ 255 ∷ 0 ∷ 255 ∷ 0 ∷ 255 ∷ 0 ∷ 255 ∷ 0 ∷ []
-unfolding leastParams noScenes unused
+unfolding leastParams noScenes unused formOf
 the-least-parameters-in-octets = refl
 
 -- "Fresh: clock 0, Dark, link up, night off, no lock, no force, both remembered outputs off."

@@ -1,221 +1,291 @@
 -- What the check of parameters answers, exactly; and accepted octets are parameters and scenes in range.
 use Prim.Native.Nat.{ℕ, zero, suc, _+_, _-_, _*_, _/_, _%_, _≤_, _<_}
-use mathlib.Core.Bool.{Bool, true, false, cond, not, _||_, or-true}
+use mathlib.Core.Bool.{Bool, true, false, cond, not, _&&_, _||_, and-false, or-true}
 use mathlib.Core.List.{List, [], _∷_}
 use mathlib.Core.Logic.{_↔_, _⊎_, inl, inr, ⊎-elim}
 use mathlib.Core.Path.{_≡_, refl, sym, _∙_, ap}
 use native.Mathlib.Nat.{eq-or-lt-of-le, le-of-suc-le-suc}
 use native.Mathlib.Omega.{arith}
-use lib.ListN.{length}
-use lib.Dec.{eqb, leb}
+use lib.ListN.{length, getD}
+use lib.Dec.{eqb, leb, ltb}
 use borrow.Author.Count.{below-none, below-more}
-use borrow.Author.Tests.{ltb-false, leb-true, eqb-true, eqb-false, not-false, le-leb, le-ltb, eq-eqb, ne-eqb}
-use Rattle.octets.specs.BigEndian.{octet, be16}
+use borrow.Author.Tests.{ltb-false, leb-true, eqb-true, eqb-false, not-false, le-leb, lt-ltb, le-ltb, eq-eqb, ne-eqb}
+use Rattle.octets.specs.BigEndian.{octet}
+use Rattle.rules.specs.declared.form.Scale.{Scale}
+use Rattle.rules.specs.declared.form.Scale.the-variants.{Seconds, Tenths}
+use Rattle.rules.specs.declared.form.Form.{Form}
 use Rattle.rules.specs.declared.parameters.Scene.{Scene}
 use Rattle.base.specs.declared.refusal.Refusal.the-variants.{WrongLength, BadParameter}
 use Rattle.base.specs.declared.refusal.Check.{Check}
 use Rattle.base.specs.declared.refusal.Check.the-variants.{Passed, Refused}
-use Rattle.base.specs.Time.{tenths}
-use Rattle.rules.specs.Parameters.{delay, paramsOf, sceneAt, scenesOf, greatest, numberAbove, badNumber, badFlags, badOctet, timeInRange, paramsInRange, lowestBad, checkParameters}
+use Rattle.rules.specs.Forms.{width, unit, isVersion}
+use Rattle.rules.specs.Layout.{timePlace, modesAt, scenesAt, parametersSize}
+use Rattle.rules.specs.Parameters.{timeAt, delay, paramsOf, sceneAt, scenesOf, greatest, badTime, numberAbove, badNumber, badFlags, badOctet, timeInRange, timesInRange, modesInRange, paramsInRange, lowestBad, checkParameters}
 use Rattle.rules.specs.Scenes.{entryInRange, absent, scenesInRange}
 use Rattle.rules.specs.Steps.{fresh}
 use Rattle.rules.specs.Soundness.{sound}
 use Rattle.rules.specs.Refusals.{GoodParameters, FirstBad, FoundWhen}
-use Rattle.base.proofs.Tests.{no, neither-left, cond-case}
+use Rattle.base.proofs.Tests.{no, neither-left, or-else, cond-case, eqb-same}
+use Rattle.rules.proofs.Laws.Forms.{IsRow}
 use Rattle.rules.proofs.Laws.Soundness.{fresh-is-sound}
 
 -- ---- exactly what is answered
 
 -- from a place on, when every octet before it is good
-lowest-given : (octets : List ℕ) → length octets ≡ 32 → (left at : ℕ) → at + left ≡ 32 → ((j : ℕ) → j < at → badOctet octets j ≡ false) → FoundWhen octets (lowestBad octets left at)
+lowest-given : (f : Form) (octets : List ℕ) → length octets ≡ parametersSize f → (left at : ℕ) → at + left ≡ parametersSize f → ((j : ℕ) → j < at → badOctet f octets j ≡ false) → FoundWhen f octets (lowestBad f octets left at)
 unfolding lowestBad
-lowest-given octets whole zero at end good = record { whole = whole; good = λ j within. good j (omega arith) }
-lowest-given octets whole (suc left) at end good =
-    cond-case (FoundWhen octets) (badOctet octets at) (Refused BadParameter at) (lowestBad octets left (at + 1))
+lowest-given f octets whole zero at end good = record { whole = whole; good = λ j within. good j (omega arith) }
+lowest-given f octets whole (suc left) at end good =
+    cond-case (FoundWhen f octets) (badOctet f octets at) (Refused BadParameter at) (lowestBad f octets left (at + 1))
     (λ bad. record { whole = whole; within = omega arith; bad = bad; good = good })
-    (λ fine. lowest-given octets whole left (at + 1) (omega arith) (below-more (λ j. badOctet octets j ≡ false) at good fine))
+    (λ fine. lowest-given f octets whole left (at + 1) (omega arith) (below-more (λ j. badOctet f octets j ≡ false) at good fine))
 
 -- the length first, then every octet from 0 on
-check-given : (octets : List ℕ) → FoundWhen octets (checkParameters octets)
+check-given : (f : Form) (octets : List ℕ) → FoundWhen f octets (checkParameters f octets)
 unfolding checkParameters
-check-given octets =
-    cond-case (FoundWhen octets) (eqb (length octets) 32) (lowestBad octets 32 0) (Refused WrongLength 0)
-    (λ whole. lowest-given octets (eqb-true _ _ whole) 32 0 refl (below-none _))
+check-given f octets =
+    cond-case (FoundWhen f octets) (eqb (length octets) (parametersSize f)) (lowestBad f octets (parametersSize f) 0) (Refused WrongLength 0)
+    (λ whole. lowest-given f octets (eqb-true _ _ whole) (parametersSize f) 0 (omega arith) (below-none _))
     (λ other. (refl, eqb-false _ _ other))
 
 -- an octet is not both good and bad
-clash : {A : Type 0} (octets : List ℕ) (at : ℕ) → badOctet octets at ≡ true → badOctet octets at ≡ false → A
-clash octets at bad good = no (sym good ∙ bad)
+clash : {A : Type 0} (f : Form) (octets : List ℕ) (at : ℕ) → badOctet f octets at ≡ true → badOctet f octets at ≡ false → A
+clash f octets at bad good = no (sym good ∙ bad)
 
 -- neither of two first bad octets comes before the other
-pub same-place : (octets : List ℕ) (a b : ℕ) → FirstBad octets a → FirstBad octets b → a ≡ b
-same-place octets a b f g =
-    let not-less : a < b → ⊥ = λ less. clash octets a (f .bad) (g .good a less) in
-    let not-more : b < a → ⊥ = λ more. clash octets b (g .bad) (f .good b more) in
+pub same-place : (f : Form) (octets : List ℕ) (a b : ℕ) → FirstBad f octets a → FirstBad f octets b → a ≡ b
+same-place f octets a b x y =
+    let not-less : a < b → ⊥ = λ less. clash f octets a (x .bad) (y .good a less) in
+    let not-more : b < a → ⊥ = λ more. clash f octets b (y .bad) (x .good b more) in
     omega arith
 
 -- no two answers fit
-one-answer : (octets : List ℕ) (x y : Check) → FoundWhen octets x → FoundWhen octets y → x ≡ y
-one-answer octets Passed Passed f g = refl
-one-answer octets Passed (Refused WrongLength place) f g = absurd (g .1 (f .whole))
-one-answer octets Passed (Refused BadParameter place) f g = clash octets place (g .bad) (f .good place (g .within))
-one-answer octets (Refused WrongLength place) Passed f g = absurd (f .1 (g .whole))
-one-answer octets (Refused WrongLength place) (Refused WrongLength other) f g = ap (Refused WrongLength) (omega arith)
-one-answer octets (Refused WrongLength place) (Refused BadParameter other) f g = absurd (f .1 (g .whole))
-one-answer octets (Refused BadParameter place) Passed f g = clash octets place (f .bad) (g .good place (f .within))
-one-answer octets (Refused BadParameter place) (Refused WrongLength other) f g = absurd (g .1 (f .whole))
-one-answer octets (Refused BadParameter place) (Refused BadParameter other) f g = ap (Refused BadParameter) (same-place octets place other f g)
+one-answer : (f : Form) (octets : List ℕ) (x y : Check) → FoundWhen f octets x → FoundWhen f octets y → x ≡ y
+one-answer f octets Passed Passed a b = refl
+one-answer f octets Passed (Refused WrongLength place) a b = absurd (b .1 (a .whole))
+one-answer f octets Passed (Refused BadParameter place) a b = clash f octets place (b .bad) (a .good place (b .within))
+one-answer f octets (Refused WrongLength place) Passed a b = absurd (a .1 (b .whole))
+one-answer f octets (Refused WrongLength place) (Refused WrongLength other) a b = ap (Refused WrongLength) (omega arith)
+one-answer f octets (Refused WrongLength place) (Refused BadParameter other) a b = absurd (a .1 (b .whole))
+one-answer f octets (Refused BadParameter place) Passed a b = clash f octets place (a .bad) (b .good place (a .within))
+one-answer f octets (Refused BadParameter place) (Refused WrongLength other) a b = absurd (b .1 (a .whole))
+one-answer f octets (Refused BadParameter place) (Refused BadParameter other) a b = ap (Refused BadParameter) (same-place f octets place other a b)
 
 -- an answer is given exactly when it fits: the answer given fits, and no other does
-pub lowest-bad-octet : (octets : List ℕ) (x : Check) → (checkParameters octets ≡ x) ↔ FoundWhen octets x
-lowest-bad-octet octets x = (λ e. rw e at (check-given octets), λ fits. one-answer octets (checkParameters octets) x (check-given octets) fits)
+pub lowest-bad-octet : (f : Form) (octets : List ℕ) (x : Check) → (checkParameters f octets ≡ x) ↔ FoundWhen f octets x
+lowest-bad-octet f octets x = (λ e. rw e at (check-given f octets), λ fits. one-answer f octets (checkParameters f octets) x (check-given f octets) fits)
 
--- ---- accepted octets are parameters in range
+-- ---- the times
 
--- an octet is below 256, so two of them are at most 65,535
-delay-in-range : (octets : List ℕ) → ((i : ℕ) → octet octets i < 256) → (at : ℕ) → timeInRange (delay octets at) ≡ true
-unfolding timeInRange delay
-delay-in-range octets small at =
-    simp (le-leb (10 * be16 octets at) 655_350 (omega (arith, small at, small (at + 1))), eq-eqb (10 * be16 octets at % 10) 0 (omega arith))
+-- where a time starts it is tested, and nowhere behind that, up to the next
+pub time-octet : (f : Form) (octets : List ℕ) (n : ℕ) → n < 4 → badOctet f octets (timePlace f n) ≡ badTime f octets n
+unfolding badOctet
+time-octet f octets n within = by (f .scale) _
+  where
+    by : (s : Scale) (rest : Bool) → cond (ltb (width s * n) (width s * 4)) (eqb (width s * n % width s) 0 && badTime f octets (width s * n / width s)) rest ≡ badTime f octets n
+    by Seconds rest = let which : 2 * n / 2 ≡ n = omega arith in simp (lt-ltb (2 * n) 8 (omega arith), eq-eqb (2 * n % 2) 0 (omega arith), which)
+    by Tenths rest = let which : 4 * n / 4 ≡ n = omega arith in simp (lt-ltb (4 * n) 16 (omega arith), eq-eqb (4 * n % 4) 0 (omega arith), which)
 
--- TimedOn that is not refused is 1 second or more
-some-time : (octets : List ℕ) → badOctet octets 4 ≡ false → tenths 1 ≤ delay octets 4
-unfolding badOctet delay
-some-time octets good = omega (arith, eqb-false (be16 octets 4) 0 good)
+pub within-time : (f : Form) (octets : List ℕ) (n k : ℕ) → n < 4 → 0 < k → k < width (f .scale) → badOctet f octets (timePlace f n + k) ≡ false
+unfolding badOctet
+within-time f octets n k within some = by (f .scale) _
+  where
+    by : (s : Scale) (rest : Bool) → k < width s → cond (ltb (width s * n + k) (width s * 4)) (eqb ((width s * n + k) % width s) 0 && badTime f octets ((width s * n + k) / width s)) rest ≡ false
+    by Seconds rest less = simp (lt-ltb (2 * n + k) 8 (omega arith), ne-eqb ((2 * n + k) % 2) 0 (λ z. omega arith))
+    by Tenths rest less = simp (lt-ltb (4 * n + k) 16 (omega arith), ne-eqb ((4 * n + k) % 4) 0 (λ z. omega arith))
 
-pub passed-has-some-time : (octets : List ℕ) → checkParameters octets ≡ Passed → 1 ≤ paramsOf octets .timedon
+-- so where no time is bad, none of their octets is
+pub good-times-are-good-octets : (f : Form) (octets : List ℕ) → ((n : ℕ) → n < 4 → badTime f octets n ≡ false) → (j : ℕ) → j < modesAt f → badOctet f octets j ≡ false
+unfolding badOctet
+good-times-are-good-octets f octets good j = by (f .scale) _
+  where
+    by : (s : Scale) (rest : Bool) → j < width s * 4 → cond (ltb j (width s * 4)) (eqb (j % width s) 0 && badTime f octets (j / width s)) rest ≡ false
+    by Seconds rest within = simp (lt-ltb j 8 within, good (j / 2) (omega arith), and-false)
+    by Tenths rest within = simp (lt-ltb j 16 within, good (j / 4) (omega arith), and-false)
+
+-- none of the times of good parameters is bad
+pub good-time : (f : Form) (octets : List ℕ) → GoodParameters f octets → (n : ℕ) → n < 4 → badTime f octets n ≡ false
+good-time f octets a n within = sym (time-octet f octets n within) ∙ a .good (timePlace f n) (inside (f .scale))
+  where
+    inside : (s : Scale) → width s * n < width s * 4 + 8 + 16
+    inside Seconds = omega arith
+    inside Tenths = omega arith
+
+-- a time that is not bad is not too long
+pub time-fits : (f : Form) (octets : List ℕ) (n : ℕ) → badTime f octets n ≡ false → delay f octets n ≤ 655_350
+unfolding badTime
+time-fits f octets n good = ltb-false 655_350 (delay f octets n) (neither-left (ltb 655_350 (delay f octets n)) _ good)
+
+-- and TimedOn is then not 0
+some-time : (f : Form) (octets : List ℕ) → badTime f octets 2 ≡ false → delay f octets 2 ≡ 0 → ⊥
+unfolding badTime
+some-time f octets good none = no (sym good ∙ or-else (ltb 655_350 (delay f octets 2)) _ (λ short. eq-eqb (delay f octets 2) 0 none))
+
+pub passed-has-some-time : (f : Form) (octets : List ℕ) → checkParameters f octets ≡ Passed → 1 ≤ paramsOf f octets .timedon
 unfolding paramsOf
-passed-has-some-time octets passed = omega (arith, some-time octets (lowest-bad-octet octets Passed .0 passed .good 4 (omega arith)))
+passed-has-some-time f octets passed = omega (arith, some-time f octets (good-time f octets (lowest-bad-octet f octets Passed .0 passed) 2 (omega arith)))
 
--- a mode that is not refused is at most the greatest of its octet
-modes-in-range : (octets : List ℕ) → GoodParameters octets → (octet octets 8 ≤ 2) × (octet octets 9 ≤ 3) × (octet octets 10 ≤ 2) × (octet octets 11 ≤ 2) × (octet octets 12 ≤ 2)
-unfolding badOctet greatest
-modes-in-range octets a = (
-  ltb-false _ _ (a .good 8 (omega arith)),
-  ltb-false _ _ (a .good 9 (omega arith)),
-  ltb-false _ _ (a .good 10 (omega arith)),
-  ltb-false _ _ (a .good 11 (omega arith)),
-  ltb-false _ _ (a .good 12 (omega arith)),
-)
+-- whatever a time is, it is so many of its units
+delay-in-units : (f : Form) (octets : List ℕ) (n : ℕ) → delay f octets n % unit (f .scale) ≡ 0
+unfolding delay timeAt
+delay-in-units f octets n = by (f .scale)
+  where
+    by : (s : Scale) → timeAt s octets (timePlace f n) % unit s ≡ 0
+    by Seconds = omega arith
+    by Tenths = omega arith
 
-params-in-range : (octets : List ℕ) → ((i : ℕ) → octet octets i < 256) → GoodParameters octets → paramsInRange (paramsOf octets) ≡ true
-unfolding paramsInRange paramsOf
-params-in-range octets small a =
-    let modes = modes-in-range octets a in
-    simp (
-      delay-in-range octets small 0,
-      delay-in-range octets small 2,
-      delay-in-range octets small 4,
-      delay-in-range octets small 6,
-      le-leb (tenths 1) (delay octets 4) (some-time octets (a .good 4 (omega arith))),
-      le-leb (octet octets 8) 2 (modes .0),
-      le-leb (octet octets 9) 3 (modes .1),
-      le-leb (octet octets 10) 2 (modes .2),
-      le-leb (octet octets 11) 2 (modes .3),
-      le-leb (octet octets 12) 2 (modes .4),
-    )
+delay-in-range : (f : Form) (octets : List ℕ) (n : ℕ) → badTime f octets n ≡ false → timeInRange (f .scale) (delay f octets n) ≡ true
+unfolding timeInRange
+delay-in-range f octets n good = simp (le-leb (delay f octets n) 655_350 (time-fits f octets n good), delay-in-units f octets n)
+
+-- so a TimedOn that is not 0 is one of them or more
+some-units : (f : Form) (octets : List ℕ) → badTime f octets 2 ≡ false → unit (f .scale) ≤ delay f octets 2
+some-units f octets good = by (f .scale) (delay-in-units f octets 2)
+  where
+    by : (s : Scale) → delay f octets 2 % unit s ≡ 0 → unit s ≤ delay f octets 2
+    by Seconds whole = omega (arith, some-time f octets good)
+    by Tenths whole = omega (arith, some-time f octets good)
+
+-- ---- the modes
+
+-- an octet of the modes is tested against the table of their greatest
+pub mode-octet : (f : Form) (octets : List ℕ) (m : ℕ) → m < 8 → badOctet f octets (modesAt f + m) ≡ ltb (getD greatest m 0) (octet octets (modesAt f + m))
+unfolding badOctet
+mode-octet f octets m within =
+    let which : modesAt f + m - modesAt f ≡ m = omega arith in
+    simp (le-ltb (modesAt f + m) (modesAt f) (omega arith), lt-ltb (modesAt f + m) (scenesAt f) (omega arith), which)
+
+pub mode-in-range : (f : Form) (octets : List ℕ) → GoodParameters f octets → (m : ℕ) → m < 8 → octet octets (modesAt f + m) ≤ getD greatest m 0
+mode-in-range f octets a m within = ltb-false _ _ (sym (mode-octet f octets m within) ∙ a .good (modesAt f + m) (omega arith))
+
+-- ---- accepted octets of a row are parameters in range for its version
+
+params-in-range : (f : Form) (octets : List ℕ) → IsRow f → GoodParameters f octets → paramsInRange (paramsOf f octets) ≡ true
+unfolding paramsInRange timesInRange modesInRange paramsOf isVersion greatest
+params-in-range f octets row a =
+    let time : (n : ℕ) → n < 4 → timeInRange (f .scale) (delay f octets n) ≡ true = λ n within. delay-in-range f octets n (good-time f octets a n within) in
+    let mode : (m : ℕ) → m < 8 → octet octets (modesAt f + m) ≤ getD greatest m 0 = mode-in-range f octets a in
+    let first : modesAt f + 0 ≡ modesAt f = omega arith in
+    rw row
+    (simp (
+      eqb-same (f .version),
+      time 0 (omega arith),
+      time 1 (omega arith),
+      time 2 (omega arith),
+      time 3 (omega arith),
+      le-leb (unit (f .scale)) (delay f octets 2) (some-units f octets (good-time f octets a 2 (omega arith))),
+      le-leb (octet octets (modesAt f)) 2 (rw first at (mode 0 (omega arith))),
+      le-leb (octet octets (modesAt f + 1)) 3 (mode 1 (omega arith)),
+      le-leb (octet octets (modesAt f + 2)) 2 (mode 2 (omega arith)),
+      le-leb (octet octets (modesAt f + 3)) 2 (mode 3 (omega arith)),
+      le-leb (octet octets (modesAt f + 4)) 2 (mode 4 (omega arith)),
+    ))
 
 -- ---- accepted octets are scenes in range
 
-abbrev numberOf : List ℕ → ℕ → ℕ
-numberOf octets n = octet octets (16 + 2 * n)
+abbrev numberOf : Form → List ℕ → ℕ → ℕ
+numberOf f octets n = octet octets (scenesAt f + 2 * n)
 
--- from octet 16 on the even octets are numbers, the odd ones flags
-scene-octet : (octets : List ℕ) (at n : ℕ) → 16 ≤ at → (at - 16) / 2 ≡ n → badOctet octets at ≡ cond (eqb (at % 2) 0) (badNumber octets n) (badFlags octets n)
+-- behind the modes numbers and flags take turns
+scene-octet : (f : Form) (octets : List ℕ) (k n : ℕ) → k / 2 ≡ n → badOctet f octets (scenesAt f + k) ≡ cond (eqb (k % 2) 0) (badNumber f octets n) (badFlags f octets n)
 unfolding badOctet
-scene-octet octets at n past entry = simp (le-ltb at 8 (omega arith), le-ltb at 16 past, entry)
+scene-octet f octets k n entry =
+    let which : scenesAt f + k - scenesAt f ≡ k = omega arith in
+    simp (le-ltb (scenesAt f + k) (modesAt f) (omega arith), le-ltb (scenesAt f + k) (scenesAt f) (omega arith), which, entry)
 
-pub number-octet : (octets : List ℕ) (n : ℕ) → badOctet octets (16 + 2 * n) ≡ badNumber octets n
-number-octet octets n = scene-octet octets (16 + 2 * n) n (omega arith) (omega arith) ∙ simp (eq-eqb ((16 + 2 * n) % 2) 0 (omega arith))
+pub number-octet : (f : Form) (octets : List ℕ) (n : ℕ) → badOctet f octets (scenesAt f + 2 * n) ≡ badNumber f octets n
+number-octet f octets n = scene-octet f octets (2 * n) n (omega arith) ∙ simp (eq-eqb (2 * n % 2) 0 (omega arith))
 
-pub flags-octet : (octets : List ℕ) (n : ℕ) → badOctet octets (17 + 2 * n) ≡ badFlags octets n
-flags-octet octets n = scene-octet octets (17 + 2 * n) n (omega arith) (omega arith) ∙ simp (ne-eqb ((17 + 2 * n) % 2) 0 (λ even. omega arith))
+pub flags-octet : (f : Form) (octets : List ℕ) (n : ℕ) → badOctet f octets (scenesAt f + 1 + 2 * n) ≡ badFlags f octets n
+flags-octet f octets n =
+    let place : scenesAt f + 1 + 2 * n ≡ scenesAt f + (2 * n + 1) = omega arith in
+    rw place (scene-octet f octets (2 * n + 1) n (omega arith) ∙ simp (ne-eqb ((2 * n + 1) % 2) 0 (λ even. omega arith)))
 
 -- a used entry: its number is at most 63 and in no earlier entry
-record Used (octets : List ℕ) (n : ℕ) : Type 0 where
-  few : numberOf octets n ≤ 63
-  new : numberAbove octets (numberOf octets n) n ≡ false
+record Used (f : Form) (octets : List ℕ) (n : ℕ) : Type 0 where
+  few : numberOf f octets n ≤ 63
+  new : numberAbove f octets (numberOf f octets n) n ≡ false
 
 -- a number that is not refused is new, or 255
-used-or-unused : (octets : List ℕ) (n : ℕ) → GoodParameters octets → n < 8 → Used octets n ⊎ (numberOf octets n ≡ 255)
+used-or-unused : (f : Form) (octets : List ℕ) (n : ℕ) → GoodParameters f octets → n < 8 → Used f octets n ⊎ (numberOf f octets n ≡ 255)
 unfolding badNumber
-used-or-unused octets n a within =
-    cond-case (λ (b : Bool). b ≡ false → Used octets n ⊎ (numberOf octets n ≡ 255)) (leb (numberOf octets n) 63)
-    (numberAbove octets (numberOf octets n) n) (not (eqb (numberOf octets n) 255))
+used-or-unused f octets n a within =
+    cond-case (λ (b : Bool). b ≡ false → Used f octets n ⊎ (numberOf f octets n ≡ 255)) (leb (numberOf f octets n) 63)
+    (numberAbove f octets (numberOf f octets n) n) (not (eqb (numberOf f octets n) 255))
     (λ few new. inl (record { few = leb-true _ _ few; new = new }))
     (λ many unused. inr (eqb-true _ _ (not-false _ unused)))
-    (sym (number-octet octets n) ∙ a .good (16 + 2 * n) (omega arith))
+    (sym (number-octet f octets n) ∙ a .good (scenesAt f + 2 * n) (omega arith))
 
 -- the flags of an unused entry, if not refused, are 0
-unused-flags : (octets : List ℕ) (n : ℕ) → GoodParameters octets → n < 8 → numberOf octets n ≡ 255 → octet octets (16 + 2 * n + 1) ≡ 0
+unused-flags : (f : Form) (octets : List ℕ) (n : ℕ) → GoodParameters f octets → n < 8 → numberOf f octets n ≡ 255 → octet octets (scenesAt f + 2 * n + 1) ≡ 0
 unfolding badFlags
-unused-flags octets n a within unused =
-    let next : 16 + 2 * n + 1 ≡ 17 + 2 * n = omega arith in
-    rw next (eqb-true _ _ (not-false _ (simp (unused) at (sym (flags-octet octets n) ∙ a .good (17 + 2 * n) (omega arith)))))
+unused-flags f octets n a within unused =
+    let next : scenesAt f + 2 * n + 1 ≡ scenesAt f + 1 + 2 * n = omega arith in
+    rw next (eqb-true _ _ (not-false _ (simp (unused) at (sym (flags-octet f octets n) ∙ a .good (scenesAt f + 1 + 2 * n) (omega arith)))))
 
 -- a used entry needs only a number up to 63, an unused one only flags that are 0
-entry-in-range : (octets : List ℕ) (n : ℕ) → GoodParameters octets → n < 8 → entryInRange (sceneAt octets (16 + 2 * n)) ≡ true
+entry-in-range : (f : Form) (octets : List ℕ) (n : ℕ) → GoodParameters f octets → n < 8 → entryInRange (sceneAt octets (scenesAt f + 2 * n)) ≡ true
 unfolding entryInRange sceneAt
-entry-in-range octets n a within =
+entry-in-range f octets n a within =
     ⊎-elim
-    (λ used. simp (ne-eqb (numberOf octets n) 255 (λ unused. omega arith), le-leb (numberOf octets n) 63 (used .few)))
-    (λ unused. simp (eq-eqb (numberOf octets n) 255 unused, unused-flags octets n a within unused))
-    (used-or-unused octets n a within)
+    (λ used. simp (ne-eqb (numberOf f octets n) 255 (λ unused. omega arith), le-leb (numberOf f octets n) 63 (used .few)))
+    (λ unused. simp (eq-eqb (numberOf f octets n) 255 unused, unused-flags f octets n a within unused))
+    (used-or-unused f octets n a within)
 
 -- a number that none of the first n entries has differs from the number of each
-above-differs : (octets : List ℕ) (number n m : ℕ) → numberAbove octets number n ≡ false → m < n → eqb (numberOf octets m) number ≡ false
+above-differs : (f : Form) (octets : List ℕ) (number n m : ℕ) → numberAbove f octets number n ≡ false → m < n → eqb (numberOf f octets m) number ≡ false
 unfolding numberAbove
-above-differs octets number zero m new earlier = absurd (omega arith)
-above-differs octets number (suc n) m new earlier =
-    let here = neither-left (eqb (numberOf octets n) number) _ new in
+above-differs f octets number zero m new earlier = absurd (omega arith)
+above-differs f octets number (suc n) m new earlier =
+    let here = neither-left (eqb (numberOf f octets n) number) _ new in
     elim (eq-or-lt-of-le (le-of-suc-le-suc earlier)) [
       | inl same ↦ rw same here
-      | inr less ↦ above-differs octets number n m (rw here at new) less
+      | inr less ↦ above-differs f octets number n m (rw here at new) less
     ]
 
 -- a used number does not come again: it would be refused at the later entry
-later-differs : (octets : List ℕ) (m n : ℕ) → GoodParameters octets → n < 8 → m < n → numberOf octets m ≤ 63 → eqb (numberOf octets n) (numberOf octets m) ≡ false
-later-differs octets m n a within earlier few =
-    ne-eqb (numberOf octets n) (numberOf octets m)
+later-differs : (f : Form) (octets : List ℕ) (m n : ℕ) → GoodParameters f octets → n < 8 → m < n → numberOf f octets m ≤ 63 → eqb (numberOf f octets n) (numberOf f octets m) ≡ false
+later-differs f octets m n a within earlier few =
+    ne-eqb (numberOf f octets n) (numberOf f octets m)
     (λ same. ⊎-elim
-    (λ used. eqb-false _ _ (above-differs octets (numberOf octets n) n m (used .new) earlier) (sym same))
+    (λ used. eqb-false _ _ (above-differs f octets (numberOf f octets n) n m (used .new) earlier) (sym same))
     (λ unused. omega arith)
-    (used-or-unused octets n a within))
+    (used-or-unused f octets n a within))
 
 -- the entries from the n-th on, this many
-unfoldable pub entries : List ℕ → ℕ → ℕ → List Scene
-entries octets zero n = []
-entries octets (suc left) n = sceneAt octets (16 + 2 * n) ∷ entries octets left (n + 1)
+unfoldable pub entries : Form → List ℕ → ℕ → ℕ → List Scene
+entries f octets zero n = []
+entries f octets (suc left) n = sceneAt octets (scenesAt f + 2 * n) ∷ entries f octets left (n + 1)
 
 -- so no later entry has it
-used-is-absent : (octets : List ℕ) (m left n : ℕ) → GoodParameters octets → n + left ≡ 8 → m < n → numberOf octets m ≤ 63 → absent (entries octets left n) (numberOf octets m) ≡ true
+used-is-absent : (f : Form) (octets : List ℕ) (m left n : ℕ) → GoodParameters f octets → n + left ≡ 8 → m < n → numberOf f octets m ≤ 63 → absent (entries f octets left n) (numberOf f octets m) ≡ true
 unfolding absent entries sceneAt
-used-is-absent octets m zero n a end earlier few = refl
-used-is-absent octets m (suc left) n a end earlier few =
-    simp (later-differs octets m n a (omega arith) earlier few, used-is-absent octets m left (n + 1) a (omega arith) (omega arith) few)
+used-is-absent f octets m zero n a end earlier few = refl
+used-is-absent f octets m (suc left) n a end earlier few =
+    simp (later-differs f octets m n a (omega arith) earlier few, used-is-absent f octets m left (n + 1) a (omega arith) (omega arith) few)
 
 -- entry by entry: each is in range, and unused or absent from the later ones
-entries-in-range : (octets : List ℕ) (left n : ℕ) → GoodParameters octets → n + left ≡ 8 → scenesInRange (entries octets left n) ≡ true
+entries-in-range : (f : Form) (octets : List ℕ) (left n : ℕ) → GoodParameters f octets → n + left ≡ 8 → scenesInRange (entries f octets left n) ≡ true
 unfolding scenesInRange entries sceneAt
-entries-in-range octets zero n a end = refl
-entries-in-range octets (suc left) n a end =
-    let here : (eqb (numberOf octets n) 255 || absent (entries octets left (n + 1)) (numberOf octets n)) ≡ true =
+entries-in-range f octets zero n a end = refl
+entries-in-range f octets (suc left) n a end =
+    let here : (eqb (numberOf f octets n) 255 || absent (entries f octets left (n + 1)) (numberOf f octets n)) ≡ true =
     ⊎-elim
-    (λ used. simp (used-is-absent octets n left (n + 1) a (omega arith) (omega arith) (used .few), or-true))
-    (λ unused. simp (eq-eqb (numberOf octets n) 255 unused))
-    (used-or-unused octets n a (omega arith))
+    (λ used. simp (used-is-absent f octets n left (n + 1) a (omega arith) (omega arith) (used .few), or-true))
+    (λ unused. simp (eq-eqb (numberOf f octets n) 255 unused))
+    (used-or-unused f octets n a (omega arith))
     in
-    simp (entry-in-range octets n a (omega arith), here, entries-in-range octets left (n + 1) a (omega arith))
+    simp (entry-in-range f octets n a (omega arith), here, entries-in-range f octets left (n + 1) a (omega arith))
 
 -- the eight entries are the scene table
-pub passed-is-in-range : (octets : List ℕ) → ((i : ℕ) → octet octets i < 256) → checkParameters octets ≡ Passed → (paramsInRange (paramsOf octets) ≡ true) × (scenesInRange (scenesOf octets) ≡ true)
+pub passed-is-in-range : (f : Form) (octets : List ℕ) → IsRow f → checkParameters f octets ≡ Passed → (paramsInRange (paramsOf f octets) ≡ true) × (scenesInRange (scenesOf f octets) ≡ true)
 unfolding scenesOf entries
-passed-is-in-range octets small passed =
-    let a = lowest-bad-octet octets Passed .0 passed in
-    (params-in-range octets small a, entries-in-range octets 8 0 a refl)
+passed-is-in-range f octets row passed =
+    let a = lowest-bad-octet f octets Passed .0 passed in
+    (params-in-range f octets row a, entries-in-range f octets 8 0 a refl)
 
 -- accepted parameters start a sound state
-pub passed-is-sound : (octets : List ℕ) → ((i : ℕ) → octet octets i < 256) → checkParameters octets ≡ Passed → sound (fresh (paramsOf octets) (scenesOf octets)) ≡ true
-passed-is-sound octets small passed =
-    let ranges = passed-is-in-range octets small passed in
-    fresh-is-sound (paramsOf octets) (scenesOf octets) (ranges .0) (ranges .1)
+pub passed-is-sound : (f : Form) (octets : List ℕ) → IsRow f → checkParameters f octets ≡ Passed → sound (fresh (paramsOf f octets) (scenesOf f octets)) ≡ true
+passed-is-sound f octets row passed =
+    let ranges = passed-is-in-range f octets row passed in
+    fresh-is-sound (paramsOf f octets) (scenesOf f octets) (ranges .0) (ranges .1)

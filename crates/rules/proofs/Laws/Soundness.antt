@@ -16,7 +16,8 @@ use Rattle.rules.specs.declared.barrier.Barrier.{Barrier}
 use Rattle.rules.specs.declared.barrier.Barrier.the-variants.{Open, Stopped}
 use Rattle.base.specs.Time.{lastStamp}
 use Rattle.rules.specs.Inputs.{sceneNumber}
-use Rattle.rules.specs.Parameters.{timeInRange, paramsInRange}
+use Rattle.rules.specs.Forms.{formOf, isVersion}
+use Rattle.rules.specs.Parameters.{timeInRange, timesInRange, modesInRange, paramsInRange}
 use Rattle.rules.specs.Scenes.{entryInRange, scenesInRange}
 use Rattle.rules.specs.Phases.{output, deadline}
 use Rattle.rules.specs.Orders.{order}
@@ -78,7 +79,7 @@ fresh-is-sound p k params scenes =
     sound-whole (fresh p k) record { params = params; scenes = scenes; clock = omega arith; soon = f .soon; consistent = fits-consistent _ f }
 
 pub own-state-is-sound : sound ownState ≡ true
-unfolding ownState leastParams noScenes unused paramsInRange timeInRange scenesInRange entryInRange
+unfolding ownState leastParams noScenes unused paramsInRange timesInRange modesInRange timeInRange isVersion formOf scenesInRange entryInRange
 own-state-is-sound = fresh-is-sound leastParams noScenes refl refl
 
 -- ---- a timer

@@ -3,26 +3,33 @@
 use Prim.Native.Nat.{ℕ, zero, suc, _+_, _-_, _*_, _/_, _%_, _≤_, _<_}
 use mathlib.Core.Bool.{Bool, true, false, cond, and-false}
 use mathlib.Core.List.{List, [], _∷_, _++_, append-nil}
-use mathlib.Core.Logic.{⊎-elim}
+use mathlib.Core.Logic.{inl, inr, ⊎-elim}
 use mathlib.Core.Path.{_≡_, refl, sym, _∙_, ap}
 use native.Mathlib.Omega.{arith}
-use lib.ListN.{length, getD, drop}
+use lib.ListN.{length, getD, drop, length-append}
 use lib.Seq.{drop-length, drop-cons, getD-append-add}
 use lib.Dec.{eqb, ltb}
 use borrow.Author.Tests.{ltb-true, ltb-false, eqb-true, eqb-false, le-leb, le-ltb, ne-eqb, not-false}
-use Rattle.octets.specs.BigEndian.{octet, be16, octets32}
+use Rattle.octets.specs.BigEndian.{octet, octets32}
+use Rattle.rules.specs.declared.form.Scale.{Scale}
+use Rattle.rules.specs.declared.form.Scale.the-variants.{Seconds, Tenths}
+use Rattle.rules.specs.declared.form.Form.{Form}
 use Rattle.rules.specs.declared.parameters.Params.{Params}
 use Rattle.rules.specs.declared.parameters.Scene.{Scene}
 use Rattle.base.specs.declared.refusal.Check.the-variants.{Passed}
-use Rattle.rules.specs.Parameters.{delay, paramsOf, sceneAt, scenesOf, greatest, numberAbove, badNumber, badFlags, badOctet, checkParameters}
+use Rattle.rules.specs.Forms.{width, formOf, version}
+use Rattle.rules.specs.Layout.{modesAt, scenesAt, scenePlace, flagsPlace, parametersSize}
+use Rattle.rules.specs.Parameters.{timeAt, delay, badTime, paramsOf, sceneAt, scenesOf, greatest, numberAbove, badNumber, badFlags, badOctet, checkParameters}
 use Rattle.octets.specs.Groups.{stampAt}
-use Rattle.rules.specs.Files.{version, actuators, parametersOffset, inputCount, inputsOffset, endTime}
-use Rattle.rules.specs.Written.{delayOctets, modeOctets, paramsOctets, flagsOctet, scenesOctets, parametersOctets, headerOctets}
-use Rattle.rules.specs.Facts.{Delay, ParamsFit, entry, ScenesFit}
+use Rattle.rules.specs.Files.{actuators, parametersOffset, inputCount, inputsOffset, endTime}
+use Rattle.rules.specs.Written.{delayOctets, timesOctets, modeOctets, flagsOctet, scenesOctets, parametersOctets, headerOctets}
+use Rattle.rules.specs.Facts.{HasVersion, Delay, ParamsFit, entry, ScenesFit}
+use Rattle.rules.specs.Refusals.{GoodParameters}
 use Rattle.rules.specs.Calls.{unused}
-use Rattle.octets.proofs.BothWays.{what-is-written-is-read}
-use Rattle.base.proofs.Tests.{cond-case, either-way}
-use Rattle.rules.proofs.Laws.Parameters.{lowest-bad-octet, flags-octet, entries}
+use Rattle.octets.proofs.BothWays.{what-is-written-is-read-16, what-is-written-is-read}
+use Rattle.base.proofs.Tests.{cond-case, either-way, by-order}
+use Rattle.rules.proofs.Laws.Forms.{own-row}
+use Rattle.rules.proofs.Laws.Parameters.{lowest-bad-octet, good-times-are-good-octets, mode-octet, mode-in-range, number-octet, flags-octet, entries}
 
 -- ---- accepted parameters are written in one way
 
@@ -41,10 +48,30 @@ from-drop octets (suc left) n within =
     let one : suc n ≡ n + 1 = omega arith in
     rw (drop-cons octets n 0 (omega arith), one) (rw next (ap (λ (x : List ℕ). octet octets n ∷ x) (from-drop octets left (n + 1) (omega arith))))
 
--- two octets below 256, from the delay that they say
-delay-octets : (octets : List ℕ) → ((i : ℕ) → octet octets i < 256) → (at : ℕ) → (delay octets at / 10 / 256 ≡ octet octets at) × (delay octets at / 10 % 256 ≡ octet octets (at + 1))
-unfolding delay
-delay-octets octets small at = (omega (arith, small (at + 1)), omega (arith, small (at + 1)))
+-- octets below 256, from the time that they say
+time-octets : (octets : List ℕ) → ((i : ℕ) → octet octets i < 256) → (s : Scale) (at : ℕ) → delayOctets s (timeAt s octets at) ≡ from octets (width s) at
+unfolding timeAt from octets32
+time-octets octets small Seconds at =
+    let first : 10 * (256 * octet octets at + octet octets (at + 1)) / 10 / 256 ≡ octet octets at = omega (arith, small (at + 1)) in
+    let last : 10 * (256 * octet octets at + octet octets (at + 1)) / 10 % 256 ≡ octet octets (at + 1) = omega (arith, small (at + 1)) in
+    rw (first, last)
+time-octets octets small Tenths at =
+    let third : at + 1 + 1 ≡ at + 2 = omega arith in
+    let fourth : at + 2 + 1 ≡ at + 3 = omega arith in
+    rw (third, fourth)
+    (four (octet octets at) (octet octets (at + 1)) (octet octets (at + 2)) (octet octets (at + 3)) (small (at + 1)) (small (at + 2)) (small (at + 3)))
+  where
+    four : (a b c d : ℕ) → b < 256 → c < 256 → d < 256 → octets32 (65536 * (256 * a + b) + (256 * c + d)) ≡ a ∷ b ∷ c ∷ d ∷ []
+    four a b c d small-b small-c small-d =
+        let n : ℕ = 65536 * (256 * a + b) + (256 * c + d) in
+        let e1 : n / 16777216 ≡ a = omega arith in
+        let e2 : n / 65536 % 256 ≡ b = omega arith in
+        let e3 : n / 256 % 256 ≡ c = omega arith in
+        let e4 : n % 256 ≡ d = omega arith in
+        rw (e1, e2, e3, e4)
+
+joined : {a b x y : List ℕ} → a ≡ x → b ≡ y → a ++ b ≡ x ++ y
+joined first second = rw (first, second)
 
 -- an octet that is 0 or 1
 zero-or-one : (n : ℕ) → n ≤ 1 → cond (eqb n 1) 1 0 ≡ n
@@ -60,59 +87,89 @@ two-bits n few =
     rw (low, high) (omega arith)
 
 -- flags that are not refused are at most 3: those of an unused entry are 0
-flags-few : (octets : List ℕ) (n : ℕ) → badFlags octets n ≡ false → octet octets (17 + 2 * n) ≤ 3
+flags-few : (f : Form) (octets : List ℕ) (n : ℕ) → badFlags f octets n ≡ false → octet octets (flagsPlace f n) ≤ 3
 unfolding badFlags
-flags-few octets n good =
-    cond-case (λ (b : Bool). b ≡ false → octet octets (17 + 2 * n) ≤ 3) (eqb (octet octets (16 + 2 * n)) 255) _ _
-    (λ unused none. omega (arith, eqb-true (octet octets (17 + 2 * n)) 0 (not-false _ none)))
+flags-few f octets n good =
+    cond-case (λ (b : Bool). b ≡ false → octet octets (flagsPlace f n) ≤ 3) (eqb (octet octets (scenePlace f n)) 255) _ _
+    (λ unused none. omega (arith, eqb-true (octet octets (flagsPlace f n)) 0 (not-false _ none)))
     (λ used few. ltb-false _ _ few)
     good
 
-module _ (octets : List ℕ) (small : (i : ℕ) → octet octets i < 256) (passed : checkParameters octets ≡ Passed) where
-  good-at : (j : ℕ) → j < 32 → badOctet octets j ≡ false
-  good-at j within = lowest-bad-octet octets Passed .0 passed .good j within
+module _ (f : Form) (octets : List ℕ) (small : (i : ℕ) → octet octets i < 256) (passed : checkParameters f octets ≡ Passed) where
+  good : GoodParameters f octets
+  good = lowest-bad-octet f octets Passed .0 passed
 
-  modes-few : (octet octets 13 ≤ 1) × (octet octets 14 ≤ 0) × (octet octets 15 ≤ 0)
-  unfolding badOctet greatest
-  modes-few = (ltb-false _ _ (good-at 13 (omega arith)), ltb-false _ _ (good-at 14 (omega arith)), ltb-false _ _ (good-at 15 (omega arith)))
+  times-as-written : timesOctets (f .scale) (paramsOf f octets) ≡ from octets (modesAt f) 0
+  unfolding paramsOf delay
+  times-as-written = by (f .scale)
+    where
+      by : (s : Scale) → delayOctets s (timeAt s octets (width s * 0)) ++ (delayOctets s (timeAt s octets (width s * 1)) ++ (delayOctets s (timeAt s octets (width s * 2)) ++ delayOctets s (timeAt s octets (width s * 3)))) ≡ from octets (width s * 4) 0
+      by Seconds = unfold from in joined (time-octets octets small Seconds 0) (joined (time-octets octets small Seconds 2) (joined (time-octets octets small Seconds 4) (time-octets octets small Seconds 6)))
+      by Tenths = unfold from in joined (time-octets octets small Tenths 0) (joined (time-octets octets small Tenths 4) (joined (time-octets octets small Tenths 8) (time-octets octets small Tenths 12)))
 
-  params-as-written : paramsOctets (paramsOf octets) ≡ from octets 16 0
-  unfolding paramsOf from
-  params-as-written =
-      let ondelay = delay-octets octets small 0 in
-      let offdelay = delay-octets octets small 2 in
-      let timedon = delay-octets octets small 4 in
-      let prewarning = delay-octets octets small 6 in
-      let first : octet octets 14 ≡ 0 = omega (arith, modes-few .1) in
-      let second : octet octets 15 ≡ 0 = omega (arith, modes-few .2) in
-      rw (ondelay .0, ondelay .1, offdelay .0, offdelay .1, timedon .0, timedon .1, prewarning .0, prewarning .1, zero-or-one (octet octets 13) (modes-few .0), first, second)
+  modes-as-written : modeOctets (paramsOf f octets) ≡ from octets 8 (modesAt f)
+  unfolding paramsOf from greatest
+  modes-as-written =
+      let mode : (m : ℕ) → m < 8 → octet octets (modesAt f + m) ≤ getD greatest m 0 = mode-in-range f octets good in
+      let first : octet octets (modesAt f + 6) ≡ 0 = omega (arith, mode 6 (omega arith)) in
+      let second : octet octets (modesAt f + 7) ≡ 0 = omega (arith, mode 7 (omega arith)) in
+      rw (zero-or-one (octet octets (modesAt f + 5)) (mode 5 (omega arith)))
+      (places (modesAt f) first second)
+    where
+      places : (at : ℕ) → octet octets (at + 6) ≡ 0 → octet octets (at + 7) ≡ 0 →
+          octet octets at ∷ octet octets (at + 1) ∷ octet octets (at + 2) ∷ octet octets (at + 3) ∷ octet octets (at + 4) ∷ octet octets (at + 5) ∷ 0 ∷ 0 ∷ [] ≡ from octets 8 at
+      places at first second =
+          let p2 : at + 1 + 1 ≡ at + 2 = omega arith in
+          let p3 : at + 2 + 1 ≡ at + 3 = omega arith in
+          let p4 : at + 3 + 1 ≡ at + 4 = omega arith in
+          let p5 : at + 4 + 1 ≡ at + 5 = omega arith in
+          let p6 : at + 5 + 1 ≡ at + 6 = omega arith in
+          let p7 : at + 6 + 1 ≡ at + 7 = omega arith in
+          rw (p2, p3, p4, p5, p6, p7, first, second)
 
-  scenes-as-written : (left n : ℕ) → n + left ≡ 8 → scenesOctets (entries octets left n) ≡ from octets (2 * left) (16 + 2 * n)
+  scenes-as-written : (left n : ℕ) → n + left ≡ 8 → scenesOctets (entries f octets left n) ≡ from octets (2 * left) (scenePlace f n)
   unfolding entries from sceneAt
   scenes-as-written zero n end = refl
   scenes-as-written (suc left) n end =
       let two : 2 * suc left ≡ suc (suc (2 * left)) = omega arith in
-      let next : 16 + 2 * n + 1 + 1 ≡ 16 + 2 * (n + 1) = omega arith in
-      let place : 16 + 2 * n + 1 ≡ 17 + 2 * n = omega arith in
-      let flags = two-bits (octet octets (17 + 2 * n)) (flags-few octets n (sym (flags-octet octets n) ∙ good-at (17 + 2 * n) (omega arith))) in
+      let next : scenePlace f n + 1 + 1 ≡ scenePlace f (n + 1) = omega arith in
+      let place : scenePlace f n + 1 ≡ flagsPlace f n = omega arith in
+      let flags = two-bits (octet octets (flagsPlace f n)) (flags-few f octets n (sym (flags-octet f octets n) ∙ good .good (flagsPlace f n) (omega arith))) in
       rw (two, next, place, flags, scenes-as-written left (n + 1) (omega arith))
 
-  -- parameters that are accepted are the octets that 01 writes for what they say, and no others
-  pub accepted-as-written : parametersOctets (paramsOf octets) (scenesOf octets) ≡ octets
+  -- parameters that are accepted are the octets that 01 and 02 write for what they say, and no others
+  pub accepted-as-written : parametersOctets f (paramsOf f octets) (scenesOf f octets) ≡ octets
   unfolding scenesOf entries
   accepted-as-written =
-      let whole : length octets ≡ 32 = lowest-bad-octet octets Passed .0 passed .whole in
-      let over : drop 32 octets ≡ [] = rw (← whole) (drop-length octets) in
-      let scenes : scenesOctets (entries octets 8 0) ≡ drop 16 octets =
-      scenes-as-written 8 0 refl ∙ (sym (append-nil (from octets 16 16)) ∙ (ap (λ (x : List ℕ). from octets 16 16 ++ x) (sym over) ∙ from-drop octets 16 16 (omega arith)))
+      let past : drop (parametersSize f) octets ≡ [] = rw (← good .whole) (drop-length octets) in
+      let first : scenePlace f 0 ≡ scenesAt f = omega arith in
+      let table : scenesOctets (entries f octets 8 0) ≡ from octets 16 (scenesAt f) = scenes-as-written 8 0 refl ∙ rw first in
+      let scenes : scenesOctets (entries f octets 8 0) ≡ drop (scenesAt f) octets =
+      table ∙
+      (sym (append-nil (from octets 16 (scenesAt f))) ∙
+      (ap (λ (x : List ℕ). from octets 16 (scenesAt f) ++ x) (sym past) ∙ from-drop octets 16 (scenesAt f) (omega (arith, good .whole))))
       in
-      ap (λ (x : List ℕ). x ++ scenesOctets (entries octets 8 0)) params-as-written ∙
-      (ap (λ (x : List ℕ). from octets 16 0 ++ x) scenes ∙ from-drop octets 16 0 (omega arith))
+      let modes : modeOctets (paramsOf f octets) ++ scenesOctets (entries f octets 8 0) ≡ drop (modesAt f) octets =
+      joined modes-as-written scenes ∙ from-drop octets 8 (modesAt f) (omega (arith, good .whole))
+      in
+      let start : 0 + modesAt f ≡ modesAt f = omega arith in
+      joined times-as-written modes ∙ rw start at (from-drop octets (modesAt f) 0 (omega (arith, good .whole)))
 
 -- ---- what is written is accepted and read back
 
-delay-back : (t : ℕ) → Delay t → 10 * (256 * (t / 10 / 256) + t / 10 % 256) ≡ t
-delay-back t d = omega (arith, d .lasts)
+-- the four times of version 1, whole seconds, and of version 2
+times-back : (p : Params) (later : List ℕ) → ParamsFit p → let f : Form = formOf (p .version) in let octets : List ℕ = timesOctets (f .scale) p ++ later in
+    (delay f octets 0 ≡ p .ondelay) × (delay f octets 1 ≡ p .offdelay) × (delay f octets 2 ≡ p .timedon) × (delay f octets 3 ≡ p .prewarning)
+unfolding delay timeAt formOf octets32
+times-back p later f = by (f .version)
+  where
+    seconds : (t : ℕ) → Delay (p .version) t → p .version ≡ 1 → 10 * (256 * (t / 10 / 256) + t / 10 % 256) ≡ t
+    seconds t d one = omega (arith, d .seconds one .1)
+
+    by : HasVersion (p .version) → let f : Form = formOf (p .version) in let octets : List ℕ = timesOctets (f .scale) p ++ later in
+        (delay f octets 0 ≡ p .ondelay) × (delay f octets 1 ≡ p .offdelay) × (delay f octets 2 ≡ p .timedon) × (delay f octets 3 ≡ p .prewarning)
+    by (inl one) = rw one (seconds (p .ondelay) (f .ondelay) one, seconds (p .offdelay) (f .offdelay) one, seconds (p .timedon) (f .timedon) one, seconds (p .prewarning) (f .prewarning) one)
+    by (inr two) = rw two (what-is-written-is-read (p .ondelay) [], what-is-written-is-read (p .offdelay) [], what-is-written-is-read (p .timedon) [], what-is-written-is-read (p .prewarning) [])
 
 learning-back : (b : Bool) → eqb (cond b 1 0) 1 ≡ b
 learning-back true = refl
@@ -149,31 +206,54 @@ modes-within p f later (suc (suc (suc (suc (suc (suc (suc zero))))))) within = r
 modes-within p f later (suc (suc (suc (suc (suc (suc (suc (suc m)))))))) within = absurd (omega arith)
 
 -- a number that none of the first n entries has
-new-number : (octets : List ℕ) (number n : ℕ) → ((m : ℕ) → m < n → octet octets (16 + 2 * m) ≡ number → ⊥) → numberAbove octets number n ≡ false
+new-number : (f : Form) (octets : List ℕ) (number n : ℕ) → ((m : ℕ) → m < n → octet octets (scenePlace f m) ≡ number → ⊥) → numberAbove f octets number n ≡ false
 unfolding numberAbove
-new-number octets number zero none = refl
-new-number octets number (suc n) none = simp (ne-eqb (octet octets (16 + 2 * n)) number (none n (omega arith)), new-number octets number n (λ m before. none m (omega arith)))
+new-number f octets number zero none = refl
+new-number f octets number (suc n) none = simp (ne-eqb (octet octets (scenePlace f n)) number (none n (omega arith)), new-number f octets number n (λ m before. none m (omega arith)))
 
-module _ (p : Params) (k : List Scene) (f : ParamsFit p) (g : ScenesFit k) (eight : length k ≡ 8) where
-  number-at : (n : ℕ) → n < 8 → octet (parametersOctets p k) (16 + 2 * n) ≡ entry k n .number
-  number-at n within = getD-append-add (paramsOctets p) (scenesOctets k) (2 * n) 0 ∙ entry-octets k n (omega arith) .0
+-- the four times take the octets before the modes
+times-length : (s : Scale) (p : Params) → length (timesOctets s p) ≡ width s * 4
+unfolding octets32
+times-length Seconds p = refl
+times-length Tenths p = refl
 
-  flags-at : (n : ℕ) → n < 8 → octet (parametersOctets p k) (17 + 2 * n) ≡ flagsOctet (entry k n)
+module _ (p : Params) (k : List Scene) (fit : ParamsFit p) (g : ScenesFit k) (eight : length k ≡ 8) where
+  abbrev f : Form
+  f = formOf (p .version)
+
+  abbrev written : List ℕ
+  written = parametersOctets f p k
+
+  behind-times : (m : ℕ) → octet written (modesAt f + m) ≡ octet (modeOctets p ++ scenesOctets k) m
+  behind-times m = rw (← times-length (f .scale) p) (getD-append-add (timesOctets (f .scale) p) (modeOctets p ++ scenesOctets k) m 0)
+
+  behind-modes : (m : ℕ) → octet written (scenesAt f + m) ≡ octet (scenesOctets k) m
+  behind-modes m =
+      let place : scenesAt f + m ≡ modesAt f + (8 + m) = omega arith in
+      rw place (behind-times (8 + m) ∙ getD-append-add (modeOctets p) (scenesOctets k) m 0)
+
+  number-at : (n : ℕ) → n < 8 → octet written (scenePlace f n) ≡ entry k n .number
+  number-at n within = behind-modes (2 * n) ∙ entry-octets k n (omega arith) .0
+
+  flags-at : (n : ℕ) → n < 8 → octet written (flagsPlace f n) ≡ flagsOctet (entry k n)
   flags-at n within =
-      let place : 17 + 2 * n ≡ 16 + (2 * n + 1) = omega arith in
-      rw place (getD-append-add (paramsOctets p) (scenesOctets k) (2 * n + 1) 0 ∙ entry-octets k n (omega arith) .1)
+      let place : flagsPlace f n ≡ scenesAt f + (2 * n + 1) = omega arith in
+      rw place (behind-modes (2 * n + 1) ∙ entry-octets k n (omega arith) .1)
 
-  number-good : (n : ℕ) → n < 8 → badNumber (parametersOctets p k) n ≡ false
+  times : (delay f written 0 ≡ p .ondelay) × (delay f written 1 ≡ p .offdelay) × (delay f written 2 ≡ p .timedon) × (delay f written 3 ≡ p .prewarning)
+  times = times-back p (modeOctets p ++ scenesOctets k) fit
+
+  number-good : (n : ℕ) → n < 8 → badNumber f written n ≡ false
   unfolding badNumber
   number-good n within =
       rw (number-at n within)
       (⊎-elim
-      (λ few. rw (le-leb (entry k n .number) 63 few) (new-number (parametersOctets p k) (entry k n .number) n
+      (λ few. rw (le-leb (entry k n .number) 63 few) (new-number f written (entry k n .number) n
       (λ m before same. omega (arith, few, g .distinct m n before (sym (number-at m (omega arith)) ∙ same)))))
       (λ none. rw (none .0))
       (g .entries n))
 
-  flags-good : (n : ℕ) → n < 8 → badFlags (parametersOctets p k) n ≡ false
+  flags-good : (n : ℕ) → n < 8 → badFlags f written n ≡ false
   unfolding badFlags
   flags-good n within =
       rw (number-at n within, flags-at n within)
@@ -182,34 +262,45 @@ module _ (p : Params) (k : List Scene) (f : ParamsFit p) (g : ScenesFit k) (eigh
       (λ none. rw (none .0, none .1, none .2))
       (g .entries n))
 
-  some-time : eqb (be16 (parametersOctets p k) 4) 0 ≡ false
-  some-time = ne-eqb (256 * (p .timedon / 10 / 256) + p .timedon / 10 % 256) 0 (λ e. omega (arith, f .some, f .timedon .lasts))
+  time-good : (n : ℕ) → n < 4 → badTime f written n ≡ false
+  unfolding badTime
+  time-good zero within = rw (times .0) (rw (le-ltb 655_350 (p .ondelay) (fit .ondelay .limit)))
+  time-good (suc zero) within = rw (times .1) (rw (le-ltb 655_350 (p .offdelay) (fit .offdelay .limit)))
+  time-good (suc (suc zero)) within = rw (times .2) (rw (le-ltb 655_350 (p .timedon) (fit .timedon .limit), ne-eqb (p .timedon) 0 (fit .some)))
+  time-good (suc (suc (suc zero))) within = rw (times .3) (rw (le-ltb 655_350 (p .prewarning) (fit .prewarning .limit)))
+  time-good (suc (suc (suc (suc n)))) within = absurd (omega arith)
 
-  mode-good : (j : ℕ) → 8 ≤ j → j < 16 → ltb (getD greatest (j - 8) 0) (octet (parametersOctets p k) j) ≡ false
-  mode-good j past within =
-      let delays : List ℕ = delayOctets (p .ondelay) ++ (delayOctets (p .offdelay) ++ (delayOctets (p .timedon) ++ delayOctets (p .prewarning))) in
-      let later : octet (parametersOctets p k) (8 + (j - 8)) ≡ octet (modeOctets p ++ scenesOctets k) (j - 8) = getD-append-add delays (modeOctets p ++ scenesOctets k) (j - 8) 0 in
-      let place : 8 + (j - 8) ≡ j = omega arith in
-      rw (rw place at later) (modes-within p f (scenesOctets k) (j - 8) (omega arith))
+  mode-good : (m : ℕ) → m < 8 → badOctet f written (modesAt f + m) ≡ false
+  mode-good m within = mode-octet f written m within ∙ rw (behind-times m) (modes-within p fit (scenesOctets k) m within)
 
-  every-octet-good : (j : ℕ) → j < 32 → badOctet (parametersOctets p k) j ≡ false
-  unfolding badOctet
+  -- whatever the octet: of a time its first, of a mode, of a scene's number or flags
+  every-octet-good : (j : ℕ) → j < parametersSize f → badOctet f written j ≡ false
   every-octet-good j within =
-      let Good : Bool → Type 0 = λ b. b ≡ false in
-      cond-case Good (ltb j 8) _ _
-      (λ delays. rw some-time (and-false (eqb j 4)))
-      (λ past. cond-case Good (ltb j 16) _ _
-      (λ modes. mode-good j (ltb-false _ _ past) (ltb-true _ _ modes))
-      (λ scenes. either-way Good (eqb (j % 2) 0) _ _ (number-good ((j - 16) / 2) (omega arith)) (flags-good ((j - 16) / 2) (omega arith))))
+      by-order (modesAt f) j
+      (λ past. by-order (scenesAt f) j
+      (λ scene. scene-good (j - scenesAt f) (omega arith) (omega arith))
+      (λ mode. let place : modesAt f + (j - modesAt f) ≡ j = omega arith in rw place at (mode-good (j - modesAt f) (omega arith))))
+      (good-times-are-good-octets f written time-good j)
+    where
+      scene-good : (m : ℕ) → scenesAt f + m ≡ j → m < 16 → badOctet f written j ≡ false
+      scene-good m place within = by (eqb (m % 2) 0) refl
+        where
+          by : (b : Bool) → eqb (m % 2) 0 ≡ b → badOctet f written j ≡ false
+          by true even =
+              let number : scenePlace f (m / 2) ≡ j = omega (arith, eqb-true (m % 2) 0 even) in
+              rw number at (number-octet f written (m / 2) ∙ number-good (m / 2) (omega arith))
+          by false odd =
+              let flags : flagsPlace f (m / 2) ≡ j = omega (arith, eqb-false (m % 2) 0 odd) in
+              rw flags at (flags-octet f written (m / 2) ∙ flags-good (m / 2) (omega arith))
 
-  scene-back : (n : ℕ) → n < 8 → sceneAt (parametersOctets p k) (16 + 2 * n) ≡ entry k n
+  scene-back : (n : ℕ) → n < 8 → sceneAt written (scenePlace f n) ≡ entry k n
   unfolding sceneAt
   scene-back n within =
-      let place : 16 + 2 * n + 1 ≡ 17 + 2 * n = omega arith in
+      let place : scenePlace f n + 1 ≡ flagsPlace f n = omega arith in
       let flags = flags-back (entry k n .value) (entry k n .taught) in
       rw (place, number-at n within, flags-at n within, flags .0, flags .1)
 
-  scenes-back : (left n : ℕ) → n + left ≡ 8 → entries (parametersOctets p k) left n ≡ drop n k
+  scenes-back : (left n : ℕ) → n + left ≡ 8 → entries f written left n ≡ drop n k
   unfolding entries
   scenes-back zero n end =
       let all : n ≡ length k = omega arith in
@@ -222,25 +313,29 @@ module _ (p : Params) (k : List Scene) (f : ParamsFit p) (g : ScenesFit k) (eigh
   length-as-written [] = refl
   length-as-written (e ∷ later) = rw (length-as-written later) (omega arith)
 
-  -- parameters and a table in range, written as 01 says, are accepted and read back as themselves
-  pub written-is-accepted : checkParameters (parametersOctets p k) ≡ Passed
+  -- parameters and a table in range, written as 01 and 02 say, are accepted and read back as themselves
+  pub written-is-accepted : checkParameters f written ≡ Passed
   written-is-accepted =
-      lowest-bad-octet (parametersOctets p k) Passed .1
-      record { whole = rw (length-as-written k, eight); good = every-octet-good }
+      lowest-bad-octet f written Passed .1
+      record { whole = length-append (timesOctets (f .scale) p) (modeOctets p ++ scenesOctets k) ∙ rw (times-length (f .scale) p, length-as-written k, eight) (omega arith); good = every-octet-good }
 
-  pub written-is-read-back : (paramsOf (parametersOctets p k) ≡ p) × (scenesOf (parametersOctets p k) ≡ k)
-  unfolding paramsOf delay scenesOf entries
-  written-is-read-back = (
-    rw (delay-back (p .ondelay) (f .ondelay), delay-back (p .offdelay) (f .offdelay), delay-back (p .timedon) (f .timedon), delay-back (p .prewarning) (f .prewarning), learning-back (p .learning)),
-    scenes-back 8 0 refl,
-  )
+  params-back : paramsOf f written ≡ p
+  unfolding paramsOf
+  params-back =
+      let first : modesAt f + 0 ≡ modesAt f = omega arith in
+      rw (times .0, times .1, times .2, times .3, rw first at (behind-times 0), behind-times 1, behind-times 2, behind-times 3, behind-times 4, behind-times 5, learning-back (p .learning), own-row (p .version) (fit .version))
+
+  pub written-is-read-back : (paramsOf f written ≡ p) × (scenesOf f written ≡ k)
+  unfolding paramsOf scenesOf entries
+  written-is-read-back = (params-back, scenes-back 8 0 refl)
 
 -- ---- the header and a stamp
 
-pub header-is-read-back : (n end : ℕ) (later : List ℕ) →
-    (version (headerOctets n end ++ later) ≡ 1) × (actuators (headerOctets n end ++ later) ≡ 1) × (parametersOffset (headerOctets n end ++ later) ≡ 20) × (inputCount (headerOctets n end ++ later) ≡ n) × (inputsOffset (headerOctets n end ++ later) ≡ 52) × (endTime (headerOctets n end ++ later) ≡ end)
+pub header-is-read-back : (v inputs n end : ℕ) (later : List ℕ) → let file : List ℕ = headerOctets v inputs n end ++ later in
+    (version file ≡ v) × (actuators file ≡ 1) × (parametersOffset file ≡ 20) × (inputCount file ≡ n) × (inputsOffset file ≡ inputs) × (endTime file ≡ end)
 unfolding octets32
-header-is-read-back n end later = (refl, refl, refl, what-is-written-is-read n [], refl, what-is-written-is-read end [])
+header-is-read-back v inputs n end later =
+    (what-is-written-is-read-16 v [], refl, refl, what-is-written-is-read n [], what-is-written-is-read inputs [], what-is-written-is-read end [])
 
 -- "0-3 stamp"
 pub stamp-is-read-back : (t : ℕ) (later : List ℕ) → stampAt (octets32 t ++ later) 0 ≡ t

@@ -5,7 +5,7 @@ use mathlib.Core.List.{List, [], _++_}
 use mathlib.Core.Logic.{_↔_}
 use mathlib.Core.Path.{_≡_, refl}
 use lib.ListN.{length}
-use Rattle.octets.specs.BigEndian.{octet}
+use Rattle.rules.specs.declared.form.Form.{Form}
 use Rattle.rules.specs.declared.input.Input.{Input}
 use Rattle.rules.specs.declared.input.Decoded.{Decoded}
 use Rattle.rules.specs.declared.input.Decoded.the-variants.{Meant, Wrong}
@@ -20,13 +20,15 @@ use Rattle.octets.specs.Groups.{stampAt}
 use Rattle.rules.specs.Steps.{clockMove, step}
 use Rattle.rules.specs.Soundness.{sound}
 use Rattle.base.specs.Refusals.{codeOf, placeOf, stampInRange, checkCall}
-use Rattle.rules.specs.Parameters.{checkParameters}
+use Rattle.rules.specs.Layout.{formAlone}
+use Rattle.rules.specs.Parameters.{checkParameters, checkAlone}
 use Rattle.rules.specs.Calls.{freshBy, freshCall, places, singleDone, singleRefused, singleMeant, singleCall, moveDone, moveRefused, moveCall}
 use Rattle.rules.specs.Refusals.{FoundWhen, FreshCodes, SingleCodes, MoveCodes}
 use Rattle.base.proofs.Tests.{no}
 use Rattle.base.proofs.Codes.{codes-of-a-check, timely-exactly-when, call-codes}
 use Rattle.rules.proofs.Laws.Soundness.{own-state-is-sound, move-is-sound, step-is-sound}
 use Rattle.rules.proofs.Laws.Inputs.{not-meant, input-number}
+use Rattle.rules.proofs.Laws.Forms.{alone-row}
 use Rattle.rules.proofs.Laws.Parameters.{lowest-bad-octet, passed-is-sound}
 use Rattle.rules.proofs.Laws.Records.{a-move-writes-at-most-two, an-input-writes-at-most-three, places-hold-all}
 
@@ -176,18 +178,19 @@ single-call-keeps-sound s octets safe = by (single-finds s octets)
 -- ---- the fresh state from parameters alone
 
 -- accepted parameters give a sound state, and so does a refusal
-pub fresh-call-is-sound : (octets : List ℕ) → ((i : ℕ) → octet octets i < 256) → sound (freshCall octets .state) ≡ true
-unfolding freshCall
-fresh-call-is-sound octets small = by (checkParameters octets) refl
+pub fresh-call-is-sound : (octets : List ℕ) → sound (freshCall octets .state) ≡ true
+unfolding freshCall checkAlone
+fresh-call-is-sound octets = by (checkAlone octets) refl
   where
-    by : (c : Check) → checkParameters octets ≡ c → sound (freshBy octets c .state) ≡ true
-    by Passed h = unfold freshBy in passed-is-sound octets small h
+    by : (c : Check) → checkAlone octets ≡ c → sound (freshBy octets c .state) ≡ true
+    by Passed h = unfold freshBy in passed-is-sound (formAlone octets) octets (alone-row octets) h
     by (Refused why place) h = unfold freshBy in own-state-is-sound
 
 pub fresh-refused-exactly-when : (octets : List ℕ) → FreshCodes octets (freshCall octets .code) (freshCall octets .place)
-unfolding freshCall freshBy
+unfolding freshCall freshBy checkAlone
 fresh-refused-exactly-when octets =
-    codes-of-a-check {Given = λ why p. FoundWhen octets (Refused why p)} (checkParameters octets) (record { refused = λ why p. lowest-bad-octet octets (Refused why p); passed = lowest-bad-octet octets Passed })
+    let f : Form = formAlone octets in
+    codes-of-a-check {Given = λ why p. FoundWhen f octets (Refused why p)} (checkParameters f octets) (record { refused = λ why p. lowest-bad-octet f octets (Refused why p); passed = lowest-bad-octet f octets Passed })
 
 -- "place 0", accepted or refused
 pub single-place-is-zero : (s : State) (octets : List ℕ) → singleCall s octets .place ≡ 0

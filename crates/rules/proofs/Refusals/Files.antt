@@ -1,8 +1,8 @@
 -- What a cue file is refused for, exactly; and what an accepted one says.
 use Prim.Native.Nat.{ℕ, suc, _+_, _*_, _≤_, _<_}
-use mathlib.Core.Bool.{Bool, true, false, _&&_}
+use mathlib.Core.Bool.{Bool, true, false, cond, _&&_}
 use mathlib.Core.List.{List, _∷_}
-use mathlib.Core.Logic.{_↔_}
+use mathlib.Core.Logic.{_↔_, inl, inr, ⊎-elim}
 use mathlib.Core.Option.{some}
 use mathlib.Core.Path.{_≡_, refl, sym, _∙_, ap}
 use native.Mathlib.Omega.{arith}
@@ -24,13 +24,16 @@ use Rattle.rules.specs.Inputs.{inputAt}
 use Rattle.octets.specs.Groups.{stampAt}
 use Rattle.rules.specs.Lists.{Cue, cue}
 use Rattle.rules.specs.Parameters.{checkParameters}
-use Rattle.rules.specs.Layout.{inputPlace}
+use Rattle.rules.specs.Layout.{parametersSize, inputsAt, inputPlace}
 use Rattle.rules.specs.Readings.{cues, bad, verdict, found, readInputs}
-use Rattle.rules.specs.Files.{version, actuators, parametersOffset, inputCount, inputsOffset, endTime, parametersIn, layoutRight, checkStart, stamped, cueAt, readFile}
-use Rattle.rules.specs.Refusals.{FoundWhen, GoodLayout, GoodHeader, GoodStart, StartWhen, GivenWhen, GoodFile}
-use Rattle.base.proofs.Tests.{no, both, cond-case}
+use Rattle.rules.specs.Forms.{isVersion, version, formIn}
+use Rattle.rules.specs.Files.{actuators, parametersOffset, inputCount, inputsOffset, endTime, parametersIn, layoutRight, checkStart, stamped, cueAt, readFile}
+use Rattle.rules.specs.Facts.{HasVersion}
+use Rattle.rules.specs.Refusals.{LongEnough, FoundWhen, GoodLayout, GoodHeader, GoodStart, StartWhen, GivenWhen, GoodFile}
+use Rattle.base.proofs.Tests.{no, both, cond-case, either-way}
 use Rattle.base.proofs.Codes.{then-decides}
 use Rattle.rules.proofs.Refusals.Readings.{verdict-after, bad-read, good-read, first-read, inputs-decide, list-is-the-inputs}
+use Rattle.rules.proofs.Laws.Forms.{has-version}
 use Rattle.rules.proofs.Laws.Parameters.{lowest-bad-octet}
 
 -- ---- the tests of the header
@@ -39,10 +42,10 @@ use Rattle.rules.proofs.Laws.Parameters.{lowest-bad-octet}
 pub layout-true : (file : List ℕ) → layoutRight file ≡ true → GoodLayout file
 unfolding layoutRight
 layout-true file h =
-    let e = both ((eqb (parametersOffset file) 20 && leb (inputCount file) 2048) && (eqb (inputsOffset file) 52 && leb (endTime file) lastStamp)) _ h in
+    let e = both ((eqb (parametersOffset file) 20 && leb (inputCount file) 2048) && (eqb (inputsOffset file) (inputsAt (formIn file)) && leb (endTime file) lastStamp)) _ h in
     let f = both (eqb (parametersOffset file) 20 && leb (inputCount file) 2048) _ (e .0) in
     let g = both (eqb (parametersOffset file) 20) _ (f .0) in
-    let k = both (eqb (inputsOffset file) 52) _ (f .1) in
+    let k = both (eqb (inputsOffset file) (inputsAt (formIn file))) _ (f .1) in
     record {
       parameters = eqb-true _ _ (g .0);
       few = leb-true _ _ (g .1);
@@ -57,9 +60,9 @@ layout-good file g =
     simp (
       eq-eqb (parametersOffset file) 20 (g .parameters),
       le-leb (inputCount file) 2048 (g .few),
-      eq-eqb (inputsOffset file) 52 (g .inputs),
+      eq-eqb (inputsOffset file) (inputsAt (formIn file)) (g .inputs),
       le-leb (endTime file) 864_000 (g .end),
-      eq-eqb (length file) (52 + 8 * inputCount file) (g .whole),
+      eq-eqb (length file) (inputPlace file (inputCount file)) (g .whole),
     )
 
 -- and fails exactly when it is not
@@ -76,22 +79,38 @@ module _ (file : List ℕ) where
   unfolding checkStart
   short-file short = simp (lt-leb 52 (length file) short)
 
-  pub other-version : 52 ≤ length file → (version file ≡ 1 → ⊥) → checkStart file ≡ Refused WrongVersion 0
-  unfolding checkStart
-  other-version long other = simp (le-leb 52 (length file) long, ne-eqb (version file) 1 other)
+  no-version : (HasVersion (version file) → ⊥) → isVersion (version file) ≡ false
+  no-version other = by (isVersion (version file)) refl
+    where
+      by : (b : Bool) → isVersion (version file) ≡ b → b ≡ false
+      by true e = absurd (other (has-version (version file) .0 e))
+      by false e = refl
 
-  pub other-actuators : 52 ≤ length file → version file ≡ 1 → (actuators file ≡ 1 → ⊥) → checkStart file ≡ Refused WrongActuators 0
+  pub other-version : 52 ≤ length file → (HasVersion (version file) → ⊥) → checkStart file ≡ Refused WrongVersion 0
   unfolding checkStart
-  other-actuators long one other = simp (le-leb 52 (length file) long, eq-eqb (version file) 1 one, ne-eqb (actuators file) 1 other)
+  other-version least other = simp (le-leb 52 (length file) least, no-version other)
 
-  pub other-layout : 52 ≤ length file → version file ≡ 1 → actuators file ≡ 1 → layoutRight file ≡ false → checkStart file ≡ Refused WrongLayout 0
+  -- a file of either version that is shorter than its own parameters
+  pub short-of-version : HasVersion (version file) → length file < inputsAt (formIn file) → checkStart file ≡ Refused WrongLength 0
   unfolding checkStart
-  other-layout long one single other = simp (le-leb 52 (length file) long, eq-eqb (version file) 1 one, eq-eqb (actuators file) 1 single, other)
+  short-of-version known short =
+      either-way (λ (c : Check). c ≡ Refused WrongLength 0) (leb 52 (length file)) _ (Refused WrongLength 0)
+      (simp (has-version (version file) .1 known, lt-leb (inputsAt (formIn file)) (length file) short))
+      refl
 
-  pub good-header : GoodHeader file → checkStart file ≡ checkParameters (parametersIn file)
+  -- from there on
+  past-length : LongEnough file → checkStart file ≡ cond (eqb (actuators file) 1) (cond (layoutRight file) (checkParameters (formIn file) (parametersIn file)) (Refused WrongLayout 0)) (Refused WrongActuators 0)
   unfolding checkStart
-  good-header h =
-      simp (le-leb 52 (length file) (h .long), eq-eqb (version file) 1 (h .version), eq-eqb (actuators file) 1 (h .actuators), layout-good file (h .layout))
+  past-length e = simp (le-leb 52 (length file) (e .least), has-version (version file) .1 (e .version), le-leb (inputsAt (formIn file)) (length file) (e .long))
+
+  pub other-actuators : LongEnough file → (actuators file ≡ 1 → ⊥) → checkStart file ≡ Refused WrongActuators 0
+  other-actuators enough other = past-length enough ∙ simp (ne-eqb (actuators file) 1 other)
+
+  pub other-layout : LongEnough file → actuators file ≡ 1 → layoutRight file ≡ false → checkStart file ≡ Refused WrongLayout 0
+  other-layout enough single other = past-length enough ∙ simp (eq-eqb (actuators file) 1 single, other)
+
+  pub good-header : GoodHeader file → checkStart file ≡ checkParameters (formIn file) (parametersIn file)
+  good-header h = past-length (h .enough) ∙ simp (eq-eqb (actuators file) 1 (h .actuators), layout-good file (h .layout))
 
   pub good-start-passes : GoodStart file → checkStart file ≡ Passed
   good-start-passes s = good-header (s .header) ∙ s .passed
@@ -108,10 +127,10 @@ module _ (file : List ℕ) where
   unfolding readFile
   file-stops why place e = rw e
 
--- 32 octets stand in a file that is long enough, so the parameters are never of a wrong length
-pub parameters-whole : (file : List ℕ) → 52 ≤ length file → length (parametersIn file) ≡ 32
+-- in a file that is long enough the parameters are never of a wrong length
+pub parameters-whole : (file : List ℕ) → inputsAt (formIn file) ≤ length file → length (parametersIn file) ≡ parametersSize (formIn file)
 unfolding parametersIn
-parameters-whole file long = length-take 32 (drop 20 file) ∙ omega (arith, length-drop 20 file)
+parameters-whole file long = length-take (parametersSize (formIn file)) (drop 20 file) ∙ omega (arith, length-drop 20 file)
 
 -- ---- what stands before the inputs
 
@@ -125,22 +144,28 @@ begins : (file : List ℕ) → Begins file (checkStart file)
 unfolding checkStart
 begins file =
     cond-case (Begins file) (leb 52 (length file)) _ (Refused WrongLength 0)
-    (λ long. cond-case (Begins file) (eqb (version file) 1) _ (Refused WrongVersion 0)
-    (λ one. cond-case (Begins file) (eqb (actuators file) 1) _ (Refused WrongActuators 0)
-    (λ single. cond-case (Begins file) (layoutRight file) _ (Refused WrongLayout 0)
-    (λ right. by (record { long = leb-true _ _ long; version = eqb-true _ _ one; actuators = eqb-true _ _ single; layout = layout-true file right }) (checkParameters (parametersIn file)) refl)
-    (λ other. (refl, leb-true _ _ long, eqb-true _ _ one, eqb-true _ _ single, λ good. no (sym other ∙ layout-good file good))))
-    (λ other. (refl, leb-true _ _ long, eqb-true _ _ one, eqb-false _ _ other)))
-    (λ other. (refl, leb-true _ _ long, eqb-false _ _ other)))
-    (λ short. (refl, leb-false _ _ short))
+    (λ least. cond-case (Begins file) (isVersion (version file)) _ (Refused WrongVersion 0)
+    (λ known. cond-case (Begins file) (leb (inputsAt (formIn file)) (length file)) _ (Refused WrongLength 0)
+    (λ long. from (record { least = leb-true _ _ least; version = has-version (version file) .0 known; long = leb-true _ _ long }))
+    (λ short. (refl, inr (has-version (version file) .0 known, leb-false _ _ short))))
+    (λ other. (refl, leb-true _ _ least, λ known. no (sym other ∙ has-version (version file) .1 known))))
+    (λ short. (refl, inl (leb-false _ _ short)))
   where
-    by : GoodHeader file → (c : Check) → checkParameters (parametersIn file) ≡ c → Begins file c
+    by : GoodHeader file → (c : Check) → checkParameters (formIn file) (parametersIn file) ≡ c → Begins file c
     by header Passed e = record { header = header; passed = e }
-    by header (Refused why place) e = refused why (lowest-bad-octet (parametersIn file) (Refused why place) .0 e)
+    by header (Refused why place) e = refused why (lowest-bad-octet (formIn file) (parametersIn file) (Refused why place) .0 e)
       where
-        refused : (why : Refusal) → FoundWhen (parametersIn file) (Refused why place) → StartWhen file why place
-        refused WrongLength g = absurd (g .1 (parameters-whole file (header .long)))
+        refused : (why : Refusal) → FoundWhen (formIn file) (parametersIn file) (Refused why place) → StartWhen file why place
+        refused WrongLength g = absurd (g .1 (parameters-whole file (header .enough .long)))
         refused BadParameter g = (header, g)
+
+    from : LongEnough file → Begins file (cond (eqb (actuators file) 1) (cond (layoutRight file) (checkParameters (formIn file) (parametersIn file)) (Refused WrongLayout 0)) (Refused WrongActuators 0))
+    from enough =
+        cond-case (Begins file) (eqb (actuators file) 1) _ (Refused WrongActuators 0)
+        (λ single. cond-case (Begins file) (layoutRight file) _ (Refused WrongLayout 0)
+        (λ right. by (record { enough = enough; actuators = eqb-true _ _ single; layout = layout-true file right }) (checkParameters (formIn file) (parametersIn file)) refl)
+        (λ other. (refl, enough, eqb-true _ _ single, λ good. no (sym other ∙ layout-good file good))))
+        (λ other. (refl, enough, eqb-false _ _ other))
 
 pub start-decides : (file : List ℕ) → Decides (StartWhen file) (GoodStart file) (checkStart file)
 start-decides file =
@@ -150,11 +175,11 @@ start-decides file =
     }
   where
     by : (why : Refusal) (p : ℕ) → StartWhen file why p → checkStart file ≡ Refused why p
-    by WrongLength p g = short-file file (g .1) ∙ rw (g .0)
+    by WrongLength p g = ⊎-elim (short-file file) (λ own. short-of-version file (own .0) (own .1)) (g .1) ∙ rw (g .0)
     by WrongVersion p g = other-version file (g .1) (g .2) ∙ rw (g .0)
-    by WrongActuators p g = other-actuators file (g .1) (g .2) (g .3) ∙ rw (g .0)
-    by WrongLayout p g = other-layout file (g .1) (g .2) (g .3) (layout-false file (g .4)) ∙ rw (g .0)
-    by BadParameter p g = good-header file (g .0) ∙ lowest-bad-octet (parametersIn file) (Refused BadParameter p) .1 (g .1)
+    by WrongActuators p g = other-actuators file (g .1) (g .2) ∙ rw (g .0)
+    by WrongLayout p g = other-layout file (g .1) (g .2) (layout-false file (g .3)) ∙ rw (g .0)
+    by BadParameter p g = good-header file (g .0) ∙ lowest-bad-octet (formIn file) (parametersIn file) (Refused BadParameter p) .1 (g .1)
 
 -- ---- the whole file
 
@@ -187,11 +212,11 @@ pub cues-are-the-octets : (file : List ℕ) (list : List Cue) → readFile file 
 cues-are-the-octets file list e = list-is-the-inputs (cueAt file) file list (sym (good-start file (good-file file list e .start)) ∙ e)
 
 -- what a cue of a file is made of
-pub cue-said : (file : List ℕ) (i : ℕ) (c : Cue) → cueAt file i ≡ some c → (x : Input) × (inputAt file (inputPlace i) ≡ Meant x) × (c ≡ cue (stampAt file (inputPlace i)) x)
+pub cue-said : (file : List ℕ) (i : ℕ) (c : Cue) → cueAt file i ≡ some c → (x : Input) × (inputAt file (inputPlace file i) ≡ Meant x) × (c ≡ cue (stampAt file (inputPlace file i)) x)
 unfolding cueAt
-cue-said file i c e = by (inputAt file (inputPlace i)) refl e
+cue-said file i c e = by (inputAt file (inputPlace file i)) refl e
   where
-    by : (d : Decoded) → inputAt file (inputPlace i) ≡ d → stamped (stampAt file (inputPlace i)) d ≡ some c → (x : Input) × (inputAt file (inputPlace i) ≡ Meant x) × (c ≡ cue (stampAt file (inputPlace i)) x)
+    by : (d : Decoded) → inputAt file (inputPlace file i) ≡ d → stamped (stampAt file (inputPlace file i)) d ≡ some c → (x : Input) × (inputAt file (inputPlace file i) ≡ Meant x) × (c ≡ cue (stampAt file (inputPlace file i)) x)
     by (Meant x) m e = (x, m, cc)
     by Wrong m e = absurd (let z : _≡_ {A = ℕ} 0 1 = cc in omega arith)
 
@@ -199,11 +224,11 @@ cue-said file i c e = by (inputAt file (inputPlace i)) refl e
 pub record FirstCue (file : List ℕ) (left i last end : ℕ) (list : List Cue) : Type 0 where
   pub input : Input
   pub later : List Cue
-  pub meant : inputAt file (inputPlace i) ≡ Meant input
-  pub risen : last ≤ stampAt file (inputPlace i)
-  pub timely : stampAt file (inputPlace i) ≤ end
-  pub starts : list ≡ cue (stampAt file (inputPlace i)) input ∷ later
-  pub reads : readInputs (cueAt file) file left (i + 1) (stampAt file (inputPlace i)) end ≡ cues later
+  pub meant : inputAt file (inputPlace file i) ≡ Meant input
+  pub risen : last ≤ stampAt file (inputPlace file i)
+  pub timely : stampAt file (inputPlace file i) ≤ end
+  pub starts : list ≡ cue (stampAt file (inputPlace file i)) input ∷ later
+  pub reads : readInputs (cueAt file) file left (i + 1) (stampAt file (inputPlace file i)) end ≡ cues later
 
 pub first-cue : (file : List ℕ) (left i last end : ℕ) (list : List Cue) → readInputs (cueAt file) file (suc left) i last end ≡ cues list → FirstCue file left i last end list
 first-cue file left i last end list e =
@@ -212,14 +237,6 @@ first-cue file left i last end list e =
     record { input = c .0; later = f .later; meant = c .1; risen = f .risen; timely = f .timely; starts = f .starts ∙ ap (λ (x : Cue). x ∷ f .later) (c .2); reads = f .reads }
 
 -- "offset of parameters (20)": they are the octets from there on
-pub parameters-stand-at-20 : (file : List ℕ) (j : ℕ) → j < 32 → octet (parametersIn file) j ≡ octet file (20 + j)
+pub parameters-stand-at-20 : (file : List ℕ) (j : ℕ) → j < parametersSize (formIn file) → octet (parametersIn file) j ≡ octet file (20 + j)
 unfolding parametersIn
-parameters-stand-at-20 file j within = getD-take 32 (drop 20 file) j 0 within ∙ getD-drop 20 file j 0
-
-pub parameters-small : (file : List ℕ) → ((i : ℕ) → octet file i < 256) → (i : ℕ) → octet (parametersIn file) i < 256
-unfolding parametersIn
-parameters-small file small i = by (leb 32 i) refl
-  where
-    by : (b : Bool) → leb 32 i ≡ b → octet (take 32 (drop 20 file)) i < 256
-    by true past = rw (List·getD-eq-default (take 32 (drop 20 file)) 0 {n = i} (omega (arith, length-take 32 (drop 20 file), leb-true 32 i past))) (omega arith)
-    by false within = rw (parameters-stand-at-20 file i (leb-false 32 i within)) (small (20 + i))
+parameters-stand-at-20 file j within = getD-take (parametersSize (formIn file)) (drop 20 file) j 0 within ∙ getD-drop 20 file j 0

@@ -58,7 +58,7 @@ not-in-range low stamp high (inl below) = simp (lt-leb low stamp below)
 not-in-range low stamp high (inr above) = simp (lt-leb stamp high above, and-false)
 
 -- the stamp before the next input is this one's
-next-stamp : (file : List ℕ) (i : ℕ) → stampBefore file (i + 1) ≡ stampAt file (inputPlace i)
+next-stamp : (file : List ℕ) (i : ℕ) → stampBefore file (i + 1) ≡ stampAt file (inputPlace file i)
 next-stamp file i = rw (add-one i)
 
 -- a list that is read after its first
@@ -71,22 +71,22 @@ pub record First {A : Type 0} (at : ℕ → Option A) (file : List ℕ) (left i 
   pub input : A
   pub later : List A
   pub means : at i ≡ some input
-  pub risen : last ≤ stampAt file (inputPlace i)
-  pub timely : stampAt file (inputPlace i) ≤ end
+  pub risen : last ≤ stampAt file (inputPlace file i)
+  pub timely : stampAt file (inputPlace file i) ≤ end
   pub starts : list ≡ input ∷ later
-  pub reads : readInputs at file left (i + 1) (stampAt file (inputPlace i)) end ≡ cues later
+  pub reads : readInputs at file left (i + 1) (stampAt file (inputPlace file i)) end ≡ cues later
 
 pub first-read : {A : Type 0} (at : ℕ → Option A) (file : List ℕ) (left i last end : ℕ) (list : List A) → readInputs at file (suc left) i last end ≡ cues list → First at file left i last end list
 unfolding readInputs
 first-read {A} at file left i last end list e = by (at i) refl e
   where
     later : Reading A
-    later = readInputs at file left (i + 1) (stampAt file (inputPlace i)) end
+    later = readInputs at file left (i + 1) (stampAt file (inputPlace file i)) end
 
-    timed : (x : A) (b : Bool) → at i ≡ some x → (leb last (stampAt file (inputPlace i)) && leb (stampAt file (inputPlace i)) end) ≡ b
+    timed : (x : A) (b : Bool) → at i ≡ some x → (leb last (stampAt file (inputPlace file i)) && leb (stampAt file (inputPlace file i)) end) ≡ b
         → cond b (before x later) (bad BadStamp i) ≡ cues list → First at file left i last end list
     timed x true m t r =
-        let order = both (leb last (stampAt file (inputPlace i))) (leb (stampAt file (inputPlace i)) end) t in
+        let order = both (leb last (stampAt file (inputPlace file i))) (leb (stampAt file (inputPlace file i)) end) t in
         let rest = after-first x later list r in
         record {
           input = x;
@@ -99,7 +99,7 @@ first-read {A} at file left i last end list e = by (at i) refl e
         }
     timed x false m t r = absurd (let z : _≡_ {A = ℕ} 0 1 = cc in omega arith)
 
-    by : (d : Option A) → at i ≡ d → readOne d (stampAt file (inputPlace i)) last end i later ≡ cues list → First at file left i last end list
+    by : (d : Option A) → at i ≡ d → readOne d (stampAt file (inputPlace file i)) last end i later ≡ cues list → First at file left i last end list
     by none m r = absurd (let z : _≡_ {A = ℕ} 0 1 = unfold readOne in cc in omega arith)
     by (some x) m r = unfold readOne in timed x _ m refl r
 
@@ -118,16 +118,16 @@ module _ {A : Type 0} (at : ℕ → Option A) (file : List ℕ) where
 
   -- one input, when those before it are good: it is refused, or good itself
   one-said : (i : ℕ) → i < inputCount file → ((j : ℕ) → j < i → GoodInput at file j) → (later : Reading A) → (GoodInput at file i → Said later) →
-      Said (readOne (at i) (stampAt file (inputPlace i)) (stampBefore file i) (endTime file) i later)
+      Said (readOne (at i) (stampAt file (inputPlace file i)) (stampBefore file i) (endTime file) i later)
   one-said i within good later next = by (at i) refl
     where
-      by : (d : Option A) → at i ≡ d → Said (readOne d (stampAt file (inputPlace i)) (stampBefore file i) (endTime file) i later)
+      by : (d : Option A) → at i ≡ d → Said (readOne d (stampAt file (inputPlace file i)) (stampBefore file i) (endTime file) i later)
       by none e = unfold readOne in record { within = within; wrong = e; good = good }
       by (some x) e =
           unfold readOne in
-          cond-case Said (leb (stampBefore file i) (stampAt file (inputPlace i)) && leb (stampAt file (inputPlace i)) (endTime file))
+          cond-case Said (leb (stampBefore file i) (stampAt file (inputPlace file i)) && leb (stampAt file (inputPlace file i)) (endTime file))
           (before x later) (bad BadStamp i)
-          (λ h. let t = both (leb (stampBefore file i) (stampAt file (inputPlace i))) _ h in
+          (λ h. let t = both (leb (stampBefore file i) (stampAt file (inputPlace file i))) _ h in
           before-said x later (next (record { input = x; means = e; risen = leb-true _ _ (t .0); timely = leb-true _ _ (t .1) })))
           (λ h. record { within = within; input = x; means = e; untimely = out-of-range _ _ _ h; good = good })
 
@@ -141,13 +141,13 @@ module _ {A : Type 0} (at : ℕ → Option A) (file : List ℕ) where
   -- ---- and what fits is the answer given
 
   -- a good input is put before what is read after it
-  one-read : (i : ℕ) (g : GoodInput at file i) (later : Reading A) → readOne (at i) (stampAt file (inputPlace i)) (stampBefore file i) (endTime file) i later ≡ before (g .input) later
+  one-read : (i : ℕ) (g : GoodInput at file i) (later : Reading A) → readOne (at i) (stampAt file (inputPlace file i)) (stampBefore file i) (endTime file) i later ≡ before (g .input) later
   unfolding readOne
-  one-read i g later = simp (g .means, le-leb (stampBefore file i) (stampAt file (inputPlace i)) (g .risen), le-leb (stampAt file (inputPlace i)) (endTime file) (g .timely))
+  one-read i g later = simp (g .means, le-leb (stampBefore file i) (stampAt file (inputPlace file i)) (g .risen), le-leb (stampAt file (inputPlace file i)) (endTime file) (g .timely))
 
   -- so the reading comes as far as the first input that is not good, and ends with it
   first-ends : (why : Refusal) (place left i : ℕ) → i ≤ place → place < i + left → ((j : ℕ) → j < place → GoodInput at file j) →
-      ((later : Reading A) → readOne (at place) (stampAt file (inputPlace place)) (stampBefore file place) (endTime file) place later ≡ bad why place) →
+      ((later : Reading A) → readOne (at place) (stampAt file (inputPlace file place)) (stampBefore file place) (endTime file) place later ≡ bad why place) →
       readInputs at file left i (stampBefore file i) (endTime file) ≡ bad why place
   unfolding readInputs
   first-ends why place zero i reached within good ends = absurd (omega arith)

@@ -15,13 +15,13 @@ use Rattle.rules.specs.declared.call.Ran.{Ran}
 use Rattle.base.specs.declared.refusal.Refusal.{Refusal}
 use Rattle.base.specs.declared.refusal.Refusal.the-variants.{WrongLength, WrongVersion, WrongActuators, WrongLayout, BadParameter, BadInput, BadStamp, ShortBuffer}
 use Rattle.base.specs.declared.refusal.Check.{Check}
-use Rattle.rules.specs.Parameters.{paramsOf, scenesOf}
 use Rattle.rules.specs.Steps.{fresh, step}
 use Rattle.rules.specs.Lists.{Cue, cue, plays, playsTo, playList}
 use Rattle.base.specs.Refusals.{codeOf, placeOf}
 use Rattle.rules.specs.Calls.{ownState}
 use Rattle.rules.specs.Readings.{Reading, cues, bad, verdict, ifLentEnough}
-use Rattle.rules.specs.Files.{inputCount, endTime, parametersIn, readFile, lentEnough, readCall}
+use Rattle.rules.specs.Forms.{formIn}
+use Rattle.rules.specs.Files.{inputCount, endTime, readFile, lentEnough, readCall, paramsIn, scenesIn}
 use Rattle.octets.specs.BigEndian.{octets32}
 use Rattle.rules.specs.Layout.{recordsRoom}
 use Rattle.rules.specs.Refusals.{StartWhen, InputsWhen, GivenWhen, RoomFor, RunCodes, TakenApart}
@@ -29,6 +29,7 @@ use Rattle.rules.specs.Runs.{recordOctets, recordsOctets, over, Whole, p
 use Rattle.rules.proofs.Laws.Records.{a-move-writes-at-most-two, an-input-writes-at-most-three}
 use Rattle.base.proofs.Tests.{both}
 use Rattle.base.proofs.Codes.{codes-of-a-check, one-test-decides, then-decides}
+use Rattle.rules.proofs.Laws.Forms.{few-octets}
 use Rattle.rules.proofs.Refusals.Readings.{verdict-if-lent}
 use Rattle.rules.proofs.Refusals.Files.{good-file, file-decides, refused-exactly-when, cues-are-the-octets}
 
@@ -124,13 +125,13 @@ unfolding playsTo
 plays-to-few end list s = rw length-append (omega (arith, plays-few list s, a-move-writes-at-most-two (plays list s .state) end))
 
 -- the start record, then those of the changes
-played-count : (file : List ℕ) (list : List Cue) → length (playFile file list .records) ≡ 1 + length (playsTo (endTime file) list (fresh (paramsOf (parametersIn file)) (scenesOf (parametersIn file))) .records)
+played-count : (file : List ℕ) (list : List Cue) → length (playFile file list .records) ≡ 1 + length (playsTo (endTime file) list (fresh (paramsIn file) (scenesIn file)) .records)
 unfolding playFile playList
 played-count file list = rw length-append
 
 played-answers : (file : List ℕ) (list : List Cue) → length (playFile file list .answers) ≡ length list
 unfolding playFile playList playsTo
-played-answers file list = rw (length-append, length-append) (omega (arith, plays-answers list (fresh (paramsOf (parametersIn file)) (scenesOf (parametersIn file)))))
+played-answers file list = rw (length-append, length-append) (omega (arith, plays-answers list (fresh (paramsIn file) (scenesIn file))))
 
 pub records-length : (k : List Record) → length (recordsOctets k) ≡ 8 * length k
 unfolding recordsOctets recordOctets octets32
@@ -141,12 +142,12 @@ records-length (r ∷ k) = rw length-append (omega (arith, records-length k))
 module _ (file records answers : List ℕ) (list : List Cue) (read : readFile file ≡ cues list) (room : lentEnough file records answers ≡ true) where
   -- one for the start, one for each change that playing shows, and never more than the buffer is asked to hold
   pub record-count-is-one-plus-changes :
-      (runCall file records answers .report .count ≡ 1 + length (playsTo (endTime file) list (fresh (paramsOf (parametersIn file)) (scenesOf (parametersIn file))) .records))
+      (runCall file records answers .report .count ≡ 1 + length (playsTo (endTime file) list (fresh (paramsIn file) (scenesIn file)) .records))
       × (runCall file records answers .report .count ≤ 3 * inputCount file + 3)
   unfolding accepted
   record-count-is-one-plus-changes =
       rw (a-good-file-is-played file records answers list read room)
-      (played-count file list, omega (arith, played-count file list, plays-to-few (endTime file) list (fresh (paramsOf (parametersIn file)) (scenesOf (parametersIn file))), cues-are-the-octets file list read .0))
+      (played-count file list, omega (arith, played-count file list, plays-to-few (endTime file) list (fresh (paramsIn file) (scenesIn file)), cues-are-the-octets file list read .0))
 
   -- an answer for each input; "Octets past what is written stay."
   pub answers-are-n : (length (playFile file list .answers) ≡ inputCount file) × (runCall file records answers .answers ≡ playFile file list .answers ++ drop (inputCount file) answers)
@@ -178,7 +179,7 @@ narrow-start file WrongLength p g = omega (arith, g .0)
 narrow-start file WrongVersion p g = omega (arith, g .0)
 narrow-start file WrongActuators p g = omega (arith, g .0)
 narrow-start file WrongLayout p g = omega (arith, g .0)
-narrow-start file BadParameter p g = omega (arith, g .1 .within)
+narrow-start file BadParameter p g = omega (arith, g .1 .within, few-octets (formIn file .scale) .1)
 
 pub narrow-input : {A : Type 0} (at : ℕ → Option A) (file : List ℕ) (why : Refusal) (p : ℕ) → InputsWhen at file why p → p < inputCount file
 narrow-input at file BadInput p g = g .within
