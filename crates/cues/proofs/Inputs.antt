@@ -45,16 +45,16 @@ pub checked-as-read : {A : Type 0} (at : ℕ → Option A) (known : ℕ → Bool
 unfolding checkInputs readInputs
 checked-as-read at known same file zero i last end = refl
 checked-as-read at known same file (suc left) i last end =
-    ap (λ (b : Bool). orElse (checkOne b (stampAt file (inputPlace i)) last end i) (checkInputs known file left (i + 1) (stampAt file (inputPlace i)) end)) (same i)
-    ∙ ap (orElse (checkOne (says (at i)) (stampAt file (inputPlace i)) last end i)) (checked-as-read at known same file left (i + 1) (stampAt file (inputPlace i)) end)
-    ∙ sym (one-decides (at i) (stampAt file (inputPlace i)) last end i (readInputs at file left (i + 1) (stampAt file (inputPlace i)) end))
+    ap (λ (b : Bool). orElse (checkOne b (stampAt file (inputPlace file i)) last end i) (checkInputs known file left (i + 1) (stampAt file (inputPlace file i)) end)) (same i)
+    ∙ ap (orElse (checkOne (says (at i)) (stampAt file (inputPlace file i)) last end i)) (checked-as-read at known same file left (i + 1) (stampAt file (inputPlace file i)) end)
+    ∙ sym (one-decides (at i) (stampAt file (inputPlace file i)) last end i (readInputs at file left (i + 1) (stampAt file (inputPlace file i)) end))
 
 -- a cue file takes no edges
 pub known-says : (file : List ℕ) (i : ℕ) → knownAt false file i ≡ says (cueAt file i)
 unfolding isKnown cueAt
-known-says file i = by (inputAt file (inputPlace i))
+known-says file i = by (inputAt file (inputPlace file i))
   where
-    by : (d : Decoded) → (isMeant d || (false && isEdge (signalAt file (inputPlace i)))) ≡ says (stamped (stampAt file (inputPlace i)) d)
+    by : (d : Decoded) → (isMeant d || (false && isEdge (signalAt file (inputPlace file i)))) ≡ says (stamped (stampAt file (inputPlace file i)) d)
     by (Meant x) = refl
     by Wrong = refl
 
@@ -65,12 +65,12 @@ unfolding checkInputs
 none-left known file n i last end h = let e : n - i ≡ 0 = omega arith in rw e
 
 module _ (known : ℕ → Bool) (file : List ℕ) (n i last end : ℕ) (more : i < n) where
-  one-left : checkInputs known file (n - i) i last end ≡ orElse (checkOne (known i) (stampAt file (inputPlace i)) last end i) (checkInputs known file (n - (i + 1)) (i + 1) (stampAt file (inputPlace i)) end)
+  one-left : checkInputs known file (n - i) i last end ≡ orElse (checkOne (known i) (stampAt file (inputPlace file i)) last end i) (checkInputs known file (n - (i + 1)) (i + 1) (stampAt file (inputPlace file i)) end)
   unfolding checkInputs
   one-left = let e : n - i ≡ suc (n - (i + 1)) = omega arith in rw e
 
-  pub good-goes-on : checkOne (known i) (stampAt file (inputPlace i)) last end i ≡ Passed → checkInputs known file (n - i) i last end ≡ checkInputs known file (n - (i + 1)) (i + 1) (stampAt file (inputPlace i)) end
+  pub good-goes-on : checkOne (known i) (stampAt file (inputPlace file i)) last end i ≡ Passed → checkInputs known file (n - i) i last end ≡ checkInputs known file (n - (i + 1)) (i + 1) (stampAt file (inputPlace file i)) end
   good-goes-on h = simp h at one-left
 
-  pub bad-ends : (why : Refusal) (place : ℕ) → checkOne (known i) (stampAt file (inputPlace i)) last end i ≡ Refused why place → checkInputs known file (n - i) i last end ≡ Refused why place
+  pub bad-ends : (why : Refusal) (place : ℕ) → checkOne (known i) (stampAt file (inputPlace file i)) last end i ≡ Refused why place → checkInputs known file (n - i) i last end ≡ Refused why place
   bad-ends why place h = simp h at one-left

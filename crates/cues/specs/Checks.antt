@@ -24,7 +24,7 @@ checkOne known stamp last end i = cond known (cond (leb last stamp && leb stamp 
 unfoldable pub checkInputs : (ℕ → Bool) → List ℕ → ℕ → ℕ → ℕ → ℕ → Check
 checkInputs known file zero i last end = Passed
 checkInputs known file (suc left) i last end =
-    orElse (checkOne (known i) (stampAt file (inputPlace i)) last end i) (checkInputs known file left (i + 1) (stampAt file (inputPlace i)) end)
+    orElse (checkOne (known i) (stampAt file (inputPlace file i)) last end i) (checkInputs known file left (i + 1) (stampAt file (inputPlace file i)) end)
 
 -- an edge of a push button
 abbrev pub isEdge : Signalled → Bool
@@ -38,4 +38,4 @@ unfoldable pub isKnown : Bool → List ℕ → ℕ → Bool
 isKnown edges file at = isMeant (inputAt file at) || (edges && isEdge (signalAt file at))
 
 abbrev pub knownAt : Bool → List ℕ → ℕ → Bool
-knownAt edges file i = isKnown edges file (inputPlace i)
+knownAt edges file i = isKnown edges file (inputPlace file i)

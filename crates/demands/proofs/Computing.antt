@@ -2,7 +2,8 @@
 use Rattle.octets.specs.BigEndian.{octets32}
 use Rattle.octets.specs.Groups.{stampAt}
 use Rattle.base.specs.Refusals.{stampInRange}
-use Rattle.rules.specs.Parameters.{delay, paramsOf, sceneAt, scenesOf, greatest, numberAbove, badNumber, badFlags, badOctet, lowestBad, checkParameters, timeInRange, paramsInRange}
+use Rattle.rules.specs.Forms.{formOf, isVersion, formIn}
+use Rattle.rules.specs.Parameters.{timeAt, delay, paramsOf, sceneAt, scenesOf, greatest, badTime, numberAbove, badNumber, badFlags, badOctet, lowestBad, checkParameters, timeInRange, timesInRange, modesInRange, paramsInRange}
 use Rattle.rules.specs.Inputs.{zeroOrOne, decoded, inputAt}
 use Rattle.rules.specs.Scenes.{entryInRange, absent, scenesInRange}
 use Rattle.rules.specs.Phases.{litAt, atDeadline, setOn}
@@ -32,14 +33,14 @@ unfolding playItems pairPlaysTo pairPlays pairStep pairMove pressed told tell he
 playingPairs = tt
 
 unfoldable pub readingWalls : Unit {0}
-unfolding readWallCall readWall checkWall checkActions fileIn actionsIn itemIn itemAt inputAt decoded zeroOrOne signalAt signalled signals.zeroOrOne stampAt lentEnough checkStart layoutRight parametersIn checkParameters lowestBad badOctet greatest badNumber badFlags numberAbove readInputs readOne
+unfolding readWallCall readWall checkWall checkActions fileIn actionsIn itemIn itemAt inputAt decoded zeroOrOne signalAt signalled signals.zeroOrOne stampAt lentEnough checkStart layoutRight formIn formOf isVersion parametersIn checkParameters lowestBad badOctet badTime delay timeAt greatest badNumber badFlags numberAbove readInputs readOne
 readingWalls = tt
 
 -- what a wall list holds, and its run
 unfoldable pub playingWalls : Unit {0}
-unfolding playingPairs playWall fileIn actionsIn parametersIn paramsOf scenesOf sceneAt delay
+unfolding playingPairs playWall fileIn actionsIn formIn formOf parametersIn paramsOf scenesOf sceneAt delay timeAt
 playingWalls = tt
 
 unfoldable pub callingPairs : Unit {0}
-unfolding playingPairs jointCall jointMeant jointDone jointRefused jointMoveCall jointMoveDone jointMoveRefused itemAt inputAt decoded zeroOrOne signalAt signalled signals.zeroOrOne stampAt telegramOctets octets32 places blank stampInRange pairSound soundSensor sound paramsInRange timeInRange scenesInRange absent entryInRange soon heldIsSteady forceDecides nightEnds powerDownIsClear consistent
+unfolding playingPairs jointCall jointMeant jointDone jointRefused jointMoveCall jointMoveDone jointMoveRefused itemAt inputAt decoded zeroOrOne signalAt signalled signals.zeroOrOne stampAt telegramOctets octets32 places blank stampInRange pairSound soundSensor sound paramsInRange timesInRange modesInRange timeInRange isVersion formOf scenesInRange absent entryInRange soon heldIsSteady forceDecides nightEnds powerDownIsClear consistent
 callingPairs = tt

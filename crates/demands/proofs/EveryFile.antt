@@ -5,6 +5,7 @@ use mathlib.Core.Path.{_≡_, sym, _∙_}
 use native.Mathlib.Omega.{arith}
 use Rattle.octets.specs.Groups.{stampAt}
 use Rattle.rules.specs.Lists.{Cue}
+use Rattle.rules.specs.Forms.{formIn}
 use Rattle.rules.specs.Layout.{inputPlace}
 use Rattle.rules.specs.Readings.{cues, readInputs}
 use Rattle.rules.specs.Files.{inputCount, endTime, parametersIn, cueAt, readFile, paramsIn, scenesIn}
@@ -19,14 +20,14 @@ inputs-rise : (file : List ℕ) (left i last end : ℕ) (list : List Cue) → la
 inputs-rise file zero i last end list early read = let none : list ≡ [] = unfold readInputs in cc in rw none early
 inputs-rise file (suc left) i last end list early read =
     let f = first-cue file left i last end list read in
-    rw (f .starts) (f .risen, inputs-rise file left (i + 1) (stampAt file (inputPlace i)) end (f .later) (f .timely) (f .reads))
+    rw (f .starts) (f .risen, inputs-rise file left (i + 1) (stampAt file (inputPlace file i)) end (f .later) (f .timely) (f .reads))
 
 module _ (file : List ℕ) (list : List Cue) (read : readFile file ≡ cues list) where
   pub list-rises : Rises 0 list (endTime file)
   list-rises = inputs-rise file (inputCount file) 0 0 (endTime file) list (omega arith) (sym (good-start file (good-file file list read .start)) ∙ read)
 
   pub has-some-time : 1 ≤ paramsIn file .timedon
-  has-some-time = passed-has-some-time (parametersIn file) (good-file file list read .start .passed)
+  has-some-time = passed-has-some-time (formIn file) (parametersIn file) (good-file file list read .start .passed)
 
   pub dark-of-every-accepted-file : DarkPromise (paramsIn file) (scenesIn file) list (endTime file)
   dark-of-every-accepted-file = dark _ _ list (endTime file) list-rises

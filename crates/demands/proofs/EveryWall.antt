@@ -1,15 +1,13 @@
 -- What holds of every octet string that is accepted as a wall list: its stamps rise, its run is the actuator's over the cues and telegrams and the
 -- sensor's over the records and edges, and so the promises of the actuator are the pair's.
-use Prim.Native.Nat.{ℕ, zero, suc, _+_, _-_, _≤_, _<_}
-use mathlib.Core.Bool.{Bool, true, false}
+use Prim.Native.Nat.{ℕ, zero, suc, _+_, _-_, _≤_}
+use mathlib.Core.Bool.{true}
 use mathlib.Core.List.{List, [], _∷_, _++_}
-use mathlib.Core.Path.{_≡_, refl, sym, _∙_}
+use mathlib.Core.Path.{_≡_, sym, _∙_}
 use native.Mathlib.Omega.{arith}
-use lib.Dec.{leb}
-use lib.ListN.{length, List·getD-eq-default}
-use borrow.Author.Tests.{leb-true, leb-false}
 use Rattle.octets.specs.BigEndian.{octet}
 use Rattle.octets.specs.Groups.{stampAt}
+use Rattle.rules.specs.Forms.{formIn}
 use Rattle.rules.specs.Layout.{inputPlace}
 use Rattle.rules.specs.Steps.{fresh}
 use Rattle.rules.specs.Lists.{Cue, start, playList}
@@ -17,9 +15,10 @@ use Rattle.rules.specs.Readings.{cues, readInputs}
 use Rattle.rules.specs.Runs.{playFile}
 use Rattle.rules.specs.Files.{inputCount, endTime, parametersIn, readFile}
 use Rattle.rules.specs.Promises.{Rises, DarkPromise, LightPromise, StrongLightPromise}
+use Rattle.rules.proofs.Laws.Forms.{file-row}
 use Rattle.rules.proofs.Laws.Parameters.{passed-has-some-time, passed-is-in-range}
 use Rattle.rules.proofs.Refusals.Readings.{first-read}
-use Rattle.rules.proofs.Refusals.Files.{good-file, good-start, parameters-small}
+use Rattle.rules.proofs.Refusals.Files.{good-file, good-start}
 use Rattle.rules.proofs.Promises.Dark.{dark}
 use Rattle.rules.proofs.Promises.Light.{strong-light, light}
 use Rattle.sensor.specs.Sensors.{freshSensor}
@@ -38,7 +37,7 @@ use Rattle.pairs.proofs.Ties.{item-clock}
 use Rattle.pairs.proofs.Soundness.{SceneFits, pair-move-keeps-sound, pair-step-keeps-sound, pair-start-is-sound}
 use Rattle.pairs.proofs.Items.{item-fits}
 use Rattle.pairs.proofs.Reading.{item-said, reads-plain, a-plain-list-is-the-actuators}
-use Rattle.pairs.proofs.Refusals.Walls.{file-length, file-octet, good-wall, a-good-start-is-read, good-wall-is-read}
+use Rattle.pairs.proofs.Refusals.Walls.{file-length, good-wall, a-good-start-is-read, good-wall-is-read}
 
 -- ---- items that are read without fault
 
@@ -52,8 +51,8 @@ read-in-order file zero j last end items early read = let none : items ≡ [] = 
 read-in-order file (suc left) j last end items early read =
     let f = first-read (itemIn file) file left j last end items read in
     let x = item-said file j (f .input) (f .means) in
-    let rest = read-in-order file left (j + 1) (stampAt file (inputPlace j)) end (f .later) (f .timely) (f .reads) in
-    rw (f .starts, x .2) ((f .risen, rest .0), (item-fits file (inputPlace j) (x .0) (x .1), rest .1))
+    let rest = read-in-order file left (j + 1) (stampAt file (inputPlace file j)) end (f .later) (f .timely) (f .reads) in
+    rw (f .starts, x .2) ((f .risen, rest .0), (item-fits file (inputPlace file j) (x .0) (x .1), rest .1))
 
 -- ---- soundness over a list
 
@@ -72,13 +71,6 @@ plays-keep-sound (listed t i ∷ later) p last end safe early rise fit whole =
 
 -- ---- every accepted wall list
 
-file-small : (wall : List ℕ) → ((j : ℕ) → octet wall j < 256) → (j : ℕ) → octet (fileIn wall) j < 256
-file-small wall small j = by (leb (length wall - 4) j) refl
-  where
-    by : (b : Bool) → leb (length wall - 4) j ≡ b → octet (fileIn wall) j < 256
-    by true past = rw (List·getD-eq-default (fileIn wall) 0 {n = j} (omega (arith, file-length wall, leb-true (length wall - 4) j past))) (omega arith)
-    by false within = rw (file-octet wall j (leb-false (length wall - 4) j within)) (small j)
-
 module _ (wall : List ℕ) (items : List Listed) (read : readWall wall ≡ cues items) where
   abbrev file : List ℕ
   file = fileIn wall
@@ -96,7 +88,7 @@ module _ (wall : List ℕ) (items : List Listed) (read : readWall wall ≡ cues 
   cues-given-rise = cues-rise 0 (wallEnd wall) items (begun wall) items-rise
 
   pub a-wall-has-some-time : 1 ≤ wallParams wall .timedon
-  a-wall-has-some-time = passed-has-some-time (parametersIn file) (good .start .passed)
+  a-wall-has-some-time = passed-has-some-time (formIn file) (parametersIn file) (good .start .passed)
 
   -- demand 2 over the pair: state, records and answers are the actuator's, over what it is given
   pub a-wall-run-is-the-actuators : ActuatorHalf items (begun wall) (playWall wall items) (playList (wallParams wall) (wallScenes wall) (cuesGiven wall items) (wallEnd wall))
@@ -113,16 +105,15 @@ module _ (wall : List ℕ) (items : List Listed) (read : readWall wall ≡ cues 
   pub light-of-every-accepted-wall : LightPromise (wallParams wall) (wallScenes wall) (cuesGiven wall items) (wallEnd wall)
   light-of-every-accepted-wall = light _ _ (cuesGiven wall items) (wallEnd wall) cues-given-rise a-wall-has-some-time
 
-  -- a sound pair from the start to the end, where the octets are octets
-  module _ (small : (j : ℕ) → octet wall j < 256) where
-    pub a-wall-starts-sound : pairSound (begun wall) ≡ true
-    a-wall-starts-sound =
-        let ranges = passed-is-in-range (parametersIn file) (parameters-small file (file-small wall small)) (good .start .passed) in
-        pair-start-is-sound (wallParams wall) (wallScenes wall) (freshSensor (actionsIn wall)) (ranges .0) (ranges .1)
+  -- a sound pair from the start to the end
+  pub a-wall-starts-sound : pairSound (begun wall) ≡ true
+  a-wall-starts-sound =
+      let ranges = passed-is-in-range (formIn file) (parametersIn file) (file-row file) (good .start .passed) in
+      pair-start-is-sound (wallParams wall) (wallScenes wall) (freshSensor (actionsIn wall)) (ranges .0) (ranges .1)
 
-    pub a-wall-ends-sound : pairSound (playWall wall items .pair) ≡ true
-    unfolding playWall playItems
-    a-wall-ends-sound = plays-keep-sound items (begun wall) 0 (wallEnd wall) a-wall-starts-sound (unfold fresh in omega arith) items-rise (in-order .1) (good .start .header .layout .end)
+  pub a-wall-ends-sound : pairSound (playWall wall items .pair) ≡ true
+  unfolding playWall playItems
+  a-wall-ends-sound = plays-keep-sound items (begun wall) 0 (wallEnd wall) a-wall-starts-sound (unfold fresh in omega arith) items-rise (in-order .1) (good .start .header .layout .end)
 
 -- and the sensor's half of demand 2: what it sends and ends in is its own, over the records and the edges. The start record is heard first.
 pub a-wall-run-is-the-sensors : (wall : List ℕ) (items : List Listed) →
@@ -138,7 +129,7 @@ pub a-cue-file-is-a-wall-list : (wall : List ℕ) (list : List Cue) → GoodActi
 a-cue-file-is-a-wall-list wall list actions read =
     let file : List ℕ = fileIn wall in
     let start = good-file file list read .start in
-    a-good-start-is-read wall (omega (arith, file-length wall, start .header .long)) start actions
+    a-good-start-is-read wall (omega (arith, file-length wall, start .header .enough .least)) start actions
     ∙ reads-plain file (inputCount file) 0 0 (endTime file) list (sym (good-start file start) ∙ read)
 
 pub its-run-is-the-files : (wall : List ℕ) (list : List Cue) → actuatorPart (playWall wall (plainItems list)) ≡ playFile (fileIn wall) list

@@ -57,7 +57,7 @@ dark-used =
 -- On 0, night 100, bus return 300 with BusReturnMode On: it meets the bus up and does nothing, so it has no mode, and it is off at
 -- 820 all the same
 abbrev returning : Params
-returning = record { ondelay = 20; offdelay = 50; timedon = 600; prewarning = 100; locking = 0; unlocking = 3; busfailure = 0; busreturn = 2; powerreturn = 0; learning = false }
+returning = record { version = 1; ondelay = 20; offdelay = 50; timedon = 600; prewarning = 100; locking = 0; unlocking = 3; busfailure = 0; busreturn = 2; powerreturn = 0; learning = false }
 
 pub dark-used-past-an-idle-bus-event : output (stateAt 820 (on-at 0 ∷ night-at 100 ∷ cue 300 (Bus Return) ∷ []) (fresh returning noScenes) .phase) ≡ false
 unfolding playing

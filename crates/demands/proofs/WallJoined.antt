@@ -1,10 +1,9 @@
 -- The run over a wall list is the public calls by value, joined in order.
-use Prim.Native.Nat.{ℕ, zero, suc, _+_, _≤_, _<_}
+use Prim.Native.Nat.{ℕ, zero, suc, _+_, _≤_}
 use mathlib.Core.Bool.{true}
 use mathlib.Core.List.{List, [], _∷_}
 use mathlib.Core.Path.{_≡_, refl, sym, ap, _∙_}
 use native.Mathlib.Omega.{arith}
-use Rattle.octets.specs.BigEndian.{octet}
 use Rattle.octets.specs.Groups.{stampAt}
 use Rattle.base.specs.Time.{lastStamp}
 use Rattle.base.specs.Refusals.{Timely}
@@ -15,7 +14,7 @@ use Rattle.rules.specs.Status.{value, recordOf, byItself}
 use Rattle.rules.specs.Steps.{fresh}
 use Rattle.rules.specs.Layout.{inputPlace}
 use Rattle.rules.specs.Readings.{cues, readInputs}
-use Rattle.rules.specs.Files.{inputCount, endTime, parametersIn, lentEnough}
+use Rattle.rules.specs.Files.{inputCount, endTime, lentEnough}
 use Rattle.rules.proofs.Laws.Records.{used-places}
 use Rattle.rules.proofs.Refusals.Readings.{first-read}
 use Rattle.sensor.specs.Reactions.{hear}
@@ -49,20 +48,20 @@ use Rattle.demands.proofs.EveryWall.{a-wall-starts-sound}
 -- ---- one call
 
 -- the eight octets say what the list says at their place
-same-signal : (file : List ℕ) (i : ℕ) → signalAt (inputIn file i) 0 ≡ signalAt file (inputPlace i)
+same-signal : (file : List ℕ) (i : ℕ) → signalAt (inputIn file i) 0 ≡ signalAt file (inputPlace file i)
 unfolding signalAt
 same-signal file i =
     rw (input-octet file i 4 (omega arith), input-octet file i 5 (omega arith), input-octet file i 6 (omega arith), input-octet file i 7 (omega arith))
 
-same-item : (file : List ℕ) (i : ℕ) → itemAt (inputIn file i) 0 ≡ itemAt file (inputPlace i)
+same-item : (file : List ℕ) (i : ℕ) → itemAt (inputIn file i) 0 ≡ itemAt file (inputPlace file i)
 unfolding itemAt
 same-item file i = rw (same-input file i, same-signal file i)
 
 -- an item that is read without fault is a joined input that is not refused
-an-item-is-a-call : (file : List ℕ) (i : ℕ) (p : Pair) (x : Item) → pairSound p ≡ true → itemAt file (inputPlace i) ≡ Known x → Timely (p .actuator .clock) (stampAt file (inputPlace i)) →
-    jointCall p (inputIn file i) ≡ jointDone (stampAt file (inputPlace i)) (pairStep p x (stampAt file (inputPlace i)))
+an-item-is-a-call : (file : List ℕ) (i : ℕ) (p : Pair) (x : Item) → pairSound p ≡ true → itemAt file (inputPlace file i) ≡ Known x → Timely (p .actuator .clock) (stampAt file (inputPlace file i)) →
+    jointCall p (inputIn file i) ≡ jointDone (stampAt file (inputPlace file i)) (pairStep p x (stampAt file (inputPlace file i)))
 an-item-is-a-call file i p x safe known timely =
-    a-good-item-is-played p (inputIn file i) x safe (same-item file i ∙ known) (rw (same-stamp file i) (timely-exactly-when (p .actuator .clock) (stampAt file (inputPlace i)) .1 timely)) ∙ rw (same-stamp file i)
+    a-good-item-is-played p (inputIn file i) x safe (same-item file i ∙ known) (rw (same-stamp file i) (timely-exactly-when (p .actuator .clock) (stampAt file (inputPlace file i)) .1 timely)) ∙ rw (same-stamp file i)
 
 -- what it gives by value is what the step gives
 item-played : (p : Pair) (x : Item) (t : ℕ) → jointPlayed (jointDone t (pairStep p x t)) ≡ pairStepped (pairStep p x t)
@@ -92,11 +91,11 @@ wall-joins file zero i p items timely safe early read =
 wall-joins file (suc left) i p items timely safe early read =
     let f = first-read (itemIn file) file left i (p .actuator .clock) (endTime file) items read in
     let x = item-said file i (f .input) (f .means) in
-    let t : ℕ = stampAt file (inputPlace i) in
+    let t : ℕ = stampAt file (inputPlace file i) in
     let d = pairStep p (x .0) t in
     let call = an-item-is-a-call file i p (x .0) safe (x .1) (f .risen, omega (arith, f .timely, timely)) in
     let clock = item-clock p (x .0) t in
-    let safely = pair-step-keeps-sound p (x .0) t safe (f .risen) (omega (arith, f .timely, timely)) (item-fits file (inputPlace i) (x .0) (x .1)) in
+    let safely = pair-step-keeps-sound p (x .0) t safe (f .risen) (omega (arith, f .timely, timely)) (item-fits file (inputPlace file i) (x .0) (x .1)) in
     let rest = wall-joins file left (i + 1) (d .pair) (f .later) timely safely (rw clock (f .timely)) (rw clock (f .reads)) in
     let same : jointPlayed (jointCall p (inputIn file i)) ≡ pairStepped d = ap jointPlayed call ∙ item-played p (x .0) t in (
       ap (λ l. pairPlaysTo (endTime file) l p) (f .starts ∙ ap (λ (y : Listed). y ∷ f .later) (x .2))
@@ -117,19 +116,18 @@ fresh-sensor-made : (octets : List ℕ) → GoodActions octets → freshSensorCa
 unfolding freshSensorCall freshSensorBy
 fresh-sensor-made octets g = rw (good-is-passed octets g)
 
--- for any wall list of octets, which are below 256
-pub wall-is-the-calls-joined : (wall : List ℕ) (items : List Listed) → ((j : ℕ) → octet wall j < 256) → readWall wall ≡ cues items → WallJoined wall items
+pub wall-is-the-calls-joined : (wall : List ℕ) (items : List Listed) → readWall wall ≡ cues items → WallJoined wall items
 unfolding wallCallsOf wallInputsIn playWall playItems
-wall-is-the-calls-joined wall items small read =
+wall-is-the-calls-joined wall items read =
     let good = good-wall wall items read in
     let file : List ℕ = fileIn wall in
     let made = fresh-sensor-made (actionsIn wall) (good .actions) in
-    let state = start-is-fresh file (good .start .passed) in
+    let state = start-is-fresh file (good .start) in
     let known = the-start-record-is-known (wallParams wall) (wallScenes wall) (actionsIn wall) in
     let first : wallStartOf wall ≡ begun wall = unfold wallStartOf in rw (state, made, known) refl in
-    let all = wall-joins file (inputCount file) 0 (begun wall) items (good .start .header .layout .end) (a-wall-starts-sound wall items read small) (unfold fresh in omega arith) (unfold fresh in sym (good-wall-is-read wall good) ∙ read) in
+    let all = wall-joins file (inputCount file) 0 (begun wall) items (good .start .header .layout .end) (a-wall-starts-sound wall items read) (unfold fresh in omega arith) (unfold fresh in sym (good-wall-is-read wall good) ∙ read) in
     record {
-      fresh = rw (fresh-played (parametersIn file) (good .start .passed));
+      fresh = rw (fresh-played file (good .start));
       fresh-sensor = rw made;
       accepted = rw first (all .1);
       joined =
@@ -138,7 +136,7 @@ wall-is-the-calls-joined wall items small read =
     }
 
 -- the accepted run, whole: report and both buffers are those of the calls
-pub wall-run-is-the-calls-joined : (wall records answers : List ℕ) (items : List Listed) → ((j : ℕ) → octet wall j < 256) → readWall wall ≡ cues items → lentEnough (fileIn wall) records answers ≡ true →
+pub wall-run-is-the-calls-joined : (wall records answers : List ℕ) (items : List Listed) → readWall wall ≡ cues items → lentEnough (fileIn wall) records answers ≡ true →
     wallCall wall records answers ≡ wallAccepted (wallCallsOf wall) records answers
-wall-run-is-the-calls-joined wall records answers items small read room =
-    a-good-wall-is-played wall records answers items read room ∙ ap (λ (p : PairPlayed). wallAccepted p records answers) (wall-is-the-calls-joined wall items small read .joined)
+wall-run-is-the-calls-joined wall records answers items read room =
+    a-good-wall-is-played wall records answers items read room ∙ ap (λ (p : PairPlayed). wallAccepted p records answers) (wall-is-the-calls-joined wall items read .joined)

@@ -14,7 +14,8 @@ use Rattle.rules.specs.declared.parameters.Scene.{Scene}
 use Rattle.rules.specs.declared.input.Input.the-variants.{SwitchOnOff}
 use Rattle.rules.specs.declared.state.State.{State}
 use Rattle.rules.specs.declared.record.Record.{Record}
-use Rattle.rules.specs.Parameters.{delay, paramsOf, sceneAt, scenesOf, greatest, numberAbove, badNumber, badFlags, badOctet, lowestBad, checkParameters}
+use Rattle.rules.specs.Forms.{formOf, isVersion, formIn}
+use Rattle.rules.specs.Parameters.{timeAt, delay, paramsOf, sceneAt, scenesOf, greatest, badTime, numberAbove, badNumber, badFlags, badOctet, lowestBad, checkParameters}
 use Rattle.rules.specs.Inputs.{zeroOrOne, decoded, inputAt}
 use Rattle.octets.specs.Groups.{stampAt}
 use Rattle.rules.specs.Phases.{output, litAt, atDeadline}
@@ -68,11 +69,11 @@ room = replicate 72 0
 
 -- they all have the least parameters, no scenes and one end
 least-params : (n : ℕ) (inputs : List ℕ) → paramsIn (fileOf n inputs) ≡ leastParams
-unfolding fileOf parametersIn paramsOf delay leastParams
+unfolding fileOf formIn formOf parametersIn paramsOf delay timeAt leastParams
 least-params n inputs = refl
 
 no-scenes : (n : ℕ) (inputs : List ℕ) → scenesIn (fileOf n inputs) ≡ noScenes
-unfolding fileOf parametersIn scenesOf sceneAt noScenes unused
+unfolding fileOf formIn formOf parametersIn scenesOf sceneAt noScenes unused
 no-scenes n inputs = refl
 
 ends-at-20 : (n : ℕ) (inputs : List ℕ) → endTime (fileOf n inputs) ≡ 20
@@ -81,7 +82,7 @@ ends-at-20 n inputs = refl
 
 -- what is opened to read them
 reading : Unit {0}
-unfolding fileOf readCall lentEnough readFile checkStart cueAt layoutRight parametersIn checkParameters lowestBad badOctet greatest badNumber badFlags numberAbove readInputs readOne inputAt stampAt decoded zeroOrOne
+unfolding fileOf formIn formOf isVersion readCall lentEnough readFile checkStart cueAt layoutRight parametersIn checkParameters lowestBad badOctet badTime delay timeAt greatest badNumber badFlags numberAbove readInputs readOne inputAt stampAt decoded zeroOrOne
 reading = tt
 
 no-inputs : readCall (fileOf 0 []) room room ≡ cues []
@@ -284,7 +285,7 @@ one-record-too-many-breaks-demand-2 = an-invented-record-count-breaks-demand-2 s
 
 -- OnDelay 2 seconds, OffDelay 0
 abbrev slowOn : Params
-slowOn = record { ondelay = 20; offdelay = 0; timedon = 10; prewarning = 0; locking = 0; unlocking = 0; busfailure = 0; busreturn = 0; powerreturn = 0; learning = false }
+slowOn = record { version = 1; ondelay = 20; offdelay = 0; timedon = 10; prewarning = 0; locking = 0; unlocking = 0; busfailure = 0; busreturn = 0; powerreturn = 0; learning = false }
 
 -- each record from a on is dark
 abbrev DarkFrom : ℕ → List Record → Type 0

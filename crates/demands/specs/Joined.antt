@@ -16,7 +16,7 @@ use Rattle.rules.specs.Runs.{playFile}
 
 -- the eight octets of an input
 unfoldable pub inputIn : List ℕ → ℕ → List ℕ
-inputIn file i = take 8 (drop (inputPlace i) file)
+inputIn file i = take 8 (drop (inputPlace file i) file)
 
 -- these many inputs from index i on
 unfoldable pub inputsIn : List ℕ → ℕ → ℕ → List (List ℕ)

@@ -23,6 +23,7 @@ use Rattle.pairs.specs.Lists.{Listed, listed, PairPlayed, playItems}
 abbrev pub timesAndBus : ℕ → ℕ → ℕ → ℕ → ℕ → Params
 timesAndBus on off timed warn busfailure =
     record {
+      version = 1;
       ondelay = tenths on;
       offdelay = tenths off;
       timedon = tenths timed;

@@ -31,11 +31,11 @@ use Rattle.pairs.proofs.Halves.{actuatorPart, plainItems, plain-items}
 -- ---- one item
 
 -- what an item of a list is made of
-pub item-said : (file : List ℕ) (j : ℕ) (x : Listed) → itemIn file j ≡ some x → (i : Item) × (itemAt file (inputPlace j) ≡ Known i) × (x ≡ listed (stampAt file (inputPlace j)) i)
+pub item-said : (file : List ℕ) (j : ℕ) (x : Listed) → itemIn file j ≡ some x → (i : Item) × (itemAt file (inputPlace file j) ≡ Known i) × (x ≡ listed (stampAt file (inputPlace file j)) i)
 unfolding itemIn
-item-said file j x e = by (itemAt file (inputPlace j)) refl e
+item-said file j x e = by (itemAt file (inputPlace file j)) refl e
   where
-    by : (r : Read) → itemAt file (inputPlace j) ≡ r → stampedItem (stampAt file (inputPlace j)) r ≡ some x → (i : Item) × (itemAt file (inputPlace j) ≡ Known i) × (x ≡ listed (stampAt file (inputPlace j)) i)
+    by : (r : Read) → itemAt file (inputPlace file j) ≡ r → stampedItem (stampAt file (inputPlace file j)) r ≡ some x → (i : Item) × (itemAt file (inputPlace file j) ≡ Known i) × (x ≡ listed (stampAt file (inputPlace file j)) i)
     by (Known i) m e = (i, m, cc)
     by Unknown m e = absurd (let z : _≡_ {A = ℕ} 0 1 = cc in omega arith)
 
@@ -43,11 +43,11 @@ item-said file j x e = by (itemAt file (inputPlace j)) refl e
 pub record FirstItem (file : List ℕ) (left i last end : ℕ) (items : List Listed) : Type 0 where
   pub item : Item
   pub later : List Listed
-  pub meant : itemAt file (inputPlace i) ≡ Known item
-  pub risen : last ≤ stampAt file (inputPlace i)
-  pub timely : stampAt file (inputPlace i) ≤ end
-  pub starts : items ≡ listed (stampAt file (inputPlace i)) item ∷ later
-  pub reads : readInputs (itemIn file) file left (i + 1) (stampAt file (inputPlace i)) end ≡ cues later
+  pub meant : itemAt file (inputPlace file i) ≡ Known item
+  pub risen : last ≤ stampAt file (inputPlace file i)
+  pub timely : stampAt file (inputPlace file i) ≤ end
+  pub starts : items ≡ listed (stampAt file (inputPlace file i)) item ∷ later
+  pub reads : readInputs (itemIn file) file left (i + 1) (stampAt file (inputPlace file i)) end ≡ cues later
 
 pub first-item : (file : List ℕ) (left i last end : ℕ) (items : List Listed) → readInputs (itemIn file) file (suc left) i last end ≡ cues items → FirstItem file left i last end items
 first-item file left i last end items e =
@@ -57,12 +57,12 @@ first-item file left i last end items e =
 
 -- ---- a list without edges
 
-one-more : (file : List ℕ) (left j last end : ℕ) (i : Input) (later : List Cue) → inputAt file (inputPlace j) ≡ Meant i → last ≤ stampAt file (inputPlace j) → stampAt file (inputPlace j) ≤ end →
-    readInputs (itemIn file) file left (j + 1) (stampAt file (inputPlace j)) end ≡ cues (plainItems later) →
-    readInputs (itemIn file) file (suc left) j last end ≡ cues (listed (stampAt file (inputPlace j)) (Plain i) ∷ plainItems later)
+one-more : (file : List ℕ) (left j last end : ℕ) (i : Input) (later : List Cue) → inputAt file (inputPlace file j) ≡ Meant i → last ≤ stampAt file (inputPlace file j) → stampAt file (inputPlace file j) ≤ end →
+    readInputs (itemIn file) file left (j + 1) (stampAt file (inputPlace file j)) end ≡ cues (plainItems later) →
+    readInputs (itemIn file) file (suc left) j last end ≡ cues (listed (stampAt file (inputPlace file j)) (Plain i) ∷ plainItems later)
 unfolding readInputs readOne itemIn
 one-more file left j last end i later meant risen timely rest =
-    rw (plain-exactly-when file (inputPlace j) i .1 meant, le-leb last (stampAt file (inputPlace j)) risen, le-leb (stampAt file (inputPlace j)) end timely, rest) refl
+    rw (plain-exactly-when file (inputPlace file j) i .1 meant, le-leb last (stampAt file (inputPlace file j)) risen, le-leb (stampAt file (inputPlace file j)) end timely, rest) refl
 
 -- what the actuator reads without fault is read the same here
 pub reads-plain : (file : List ℕ) (left j last end : ℕ) (list : List Cue) → readInputs (cueAt file) file left j last end ≡ cues list → readInputs (itemIn file) file left j last end ≡ cues (plainItems list)
@@ -70,7 +70,7 @@ unfolding plainItems
 reads-plain file zero j last end list read = let none : list ≡ [] = unfold readInputs in cc in rw none (unfold readInputs in refl)
 reads-plain file (suc left) j last end list read =
     let f = first-cue file left j last end list read in
-    let rest = reads-plain file left (j + 1) (stampAt file (inputPlace j)) end (f .later) (f .reads) in
+    let rest = reads-plain file left (j + 1) (stampAt file (inputPlace file j)) end (f .later) (f .reads) in
     rw (f .starts) (one-more file left j last end (f .input) (f .later) (f .meant) (f .risen) (f .timely) rest)
 
 -- and is played the same, whatever sensor stands beside it

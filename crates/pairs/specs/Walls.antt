@@ -13,7 +13,7 @@ use Rattle.base.specs.declared.refusal.Check.{Check}
 use Rattle.base.specs.declared.refusal.Check.the-variants.{Refused}
 use Rattle.base.specs.Refusals.{number, orElse}
 use Rattle.rules.specs.declared.call.Ran.{Ran}
-use Rattle.rules.specs.Layout.{inputsAt, inputPlace}
+use Rattle.rules.specs.Layout.{leastFile, inputPlace}
 use Rattle.rules.specs.Calls.{ownState}
 use Rattle.rules.specs.Readings.{Reading, cues, bad, readInputs, afterCheck, ifLentEnough}
 use Rattle.rules.specs.Files.{inputCount, endTime, checkStart, lentEnough, paramsIn, scenesIn}
@@ -38,9 +38,9 @@ fileIn wall = take (length wall - actionsSize) wall
 unfoldable pub actionsIn : List ℕ → List ℕ
 actionsIn wall = drop (length wall - actionsSize) wall
 
--- the least length: a file without inputs, and the actions
+-- the least length: the shortest file, and the actions
 abbrev pub leastWall : ℕ
-leastWall = inputsAt + actionsSize
+leastWall = leastFile + actionsSize
 
 -- "Order 1, 2, 3, 4, 5"; "11 .. where 5 stands for the sensor's parameters": after 5
 unfoldable pub checkWall : List ℕ → Check
@@ -52,7 +52,7 @@ stampedItem stamp (Known i) = some (listed stamp i)
 stampedItem stamp Unknown = none
 
 unfoldable pub itemIn : List ℕ → ℕ → Option Listed
-itemIn file i = stampedItem (stampAt file (inputPlace i)) (itemAt file (inputPlace i))
+itemIn file i = stampedItem (stampAt file (inputPlace file i)) (itemAt file (inputPlace file i))
 
 -- "then the first bad input, 6 before 7": those of a file, edges among them or not
 abbrev pub itemsRead : List ℕ → Reading Listed

@@ -104,13 +104,13 @@ module _ (file : List ℕ) (n : ℕ) (start : Pair) (r₀ a₀ : List ℕ) (read
     next-item h = let left : n - i ≡ suc (n - (i + 1)) = omega arith in first-item file _ i _ _ _ (rw left at (g .reads))
 
     -- it is played: its records come after those that were written, its answer after those that were given
-    going-step : (h : i < n) → 8 ≤ length r₀ → n ≤ length a₀ → let d = pairStep p (next-item h .item) (stampAt file (inputPlace i)) in
+    going-step : (h : i < n) → 8 ≤ length r₀ → n ≤ length a₀ → let d = pairStep p (next-item h .item) (stampAt file (inputPlace file i)) in
         (answer : ℕ) → answer ≡ d .answer → (q : Pair) → q ≡ d .pair → (count : ℕ) → count ≡ k + length (d .records)
         → (r₁ : List ℕ) → r₁ ≡ splice r (8 * k) (recordsOctets (d .records)) → length r₁ ≡ length r
         → Going file n start r₀ a₀ r₁ (set a i answer) q count (i + 1)
     going-step h front enough answer answers q leads count counts r₁ writes long =
         let f = next-item h in
-        let t : ℕ = stampAt file (inputPlace i) in
+        let t : ℕ = stampAt file (inputPlace file i) in
         let d : PairStepped = pairStep p (f .item) t in
         rw (answers, leads, counts)
         (record {
@@ -121,7 +121,7 @@ module _ (file : List ℕ) (n : ℕ) (start : Pair) (r₀ a₀ : List ℕ) (read
           later = f .later;
           played = g .played ∙ one-played (record { pair = p; answers = g .said; records = g .wrote; telegrams = g .sent }) (g .later) (f .later) t (f .item) (f .starts);
           reads = rw (item-clock p (f .item) t) (f .reads);
-          safe = pair-step-keeps-sound p (f .item) t (g .safe) (f .risen) (omega (arith, f .timely, ready .timely)) (item-fits file (inputPlace i) (f .item) (f .meant));
+          safe = pair-step-keeps-sound p (f .item) t (g .safe) (f .risen) (omega (arith, f .timely, ready .timely)) (item-fits file (inputPlace file i) (f .item) (f .meant));
           stands = standing-more r₀ a₀ r a (g .wrote) (d .records) (g .said) (d .answer) k i (g .stands) (an-item-writes-at-most-three p (f .item) t) front (omega arith) r₁ writes long;
         })
 
@@ -236,10 +236,10 @@ module _ (p : Params) (table : List Scene) (l : Lamp) (z : Sensor) (heard t befo
 
 module _ (file : List ℕ) (n : ℕ) (start : Pair) (r₀ a₀ : List ℕ) (ready : Ready file n start) (p : Params) (table : List Scene) (l : Lamp) (z : Sensor) (heard : ℕ) (r a : List ℕ) (k i : ℕ)
     (g : Going file n start r₀ a₀ r a (pairOf (stateOf p table l) (listened r k z heard)) k i) (behind : heard ≤ k) (h : i < n) (front : 8 ≤ length r₀) (enough : n ≤ length a₀) (room : 8 * k ≤ length r)
-    (m : Moment) (r₁ : List ℕ) (moves : Advanced p l (stampAt file (inputPlace i)) k r m r₁) (long : length r₁ ≡ length r) (room₁ : 8 * m .count ≤ length r₁)
-    (u : Turn) (took : (j : Item) → itemAt file (inputPlace i) ≡ Known j → Turned j (stampAt file (inputPlace i)) r₁ (m .count) z heard u) where
+    (m : Moment) (r₁ : List ℕ) (moves : Advanced p l (stampAt file (inputPlace file i)) k r m r₁) (long : length r₁ ≡ length r) (room₁ : 8 * m .count ≤ length r₁)
+    (u : Turn) (took : (j : Item) → itemAt file (inputPlace file i) ≡ Known j → Turned j (stampAt file (inputPlace file i)) r₁ (m .count) z heard u) where
   abbrev t : ℕ
-  t = stampAt file (inputPlace i)
+  t = stampAt file (inputPlace file i)
 
   abbrev item : Item
   item = next-item file n start r₀ a₀ ready r a (pairOf (stateOf p table l) (listened r k z heard)) k i g h .item

@@ -49,7 +49,7 @@ pub record Fit (file : List ℕ) (n end : ℕ) : Type 0 where
 -- n items can be played from this pair on
 pub record Ready (file : List ℕ) (n : ℕ) (p : Pair) : Type 0 where
   pub few : n ≤ mostInputs
-  pub whole : inputPlace n ≤ length file
+  pub whole : inputPlace file n ≤ length file
   pub timely : endTime file ≤ lastStamp
   pub reads : readInputs (itemIn file) file n 0 (p .actuator .clock) (endTime file) ≡ cues (itemsIn file)
   pub sound : pairSound p ≡ true

@@ -33,9 +33,9 @@ use Rattle.walls.specs.Lists.{checkParts}
 -- a list that takes edges
 pub items-say : (file : List ℕ) (i : ℕ) → knownAt true file i ≡ says (itemIn file i)
 unfolding isKnown itemIn itemAt
-items-say file i = by (inputAt file (inputPlace i)) (signalAt file (inputPlace i))
+items-say file i = by (inputAt file (inputPlace file i)) (signalAt file (inputPlace file i))
   where
-    by : (d : Decoded) (s : Signalled) → (isMeant d || (true && isEdge s)) ≡ says (stampedItem (stampAt file (inputPlace i)) (itemOf d s))
+    by : (d : Decoded) (s : Signalled) → (isMeant d || (true && isEdge s)) ≡ says (stampedItem (stampAt file (inputPlace file i)) (itemOf d s))
     by (input.Meant x) s = refl
     by input.Wrong (signalled.Meant (signal.Button1 edge)) = refl
     by input.Wrong (signalled.Meant (signal.Button2 edge)) = refl

@@ -1,13 +1,13 @@
 -- The rows of the versions: which there are, their numbers, and by what parameters alone are told.
 use Prim.Native.Nat.{ℕ, _≤_}
-use mathlib.Core.Bool.{Bool, true, false}
+use mathlib.Core.Bool.{true}
 use mathlib.Core.List.{List}
 use mathlib.Core.Logic.{_↔_, _⊎_, inl, inr}
-use mathlib.Core.Path.{_≡_, refl, sym, _∙_}
+use mathlib.Core.Path.{_≡_, refl, sym}
 use native.Mathlib.Omega.{arith}
 use lib.ListN.{length}
 use lib.Dec.{eqb}
-use borrow.Author.Tests.{eqb-true, eq-eqb}
+use borrow.Author.Tests.{eqb-true}
 use Rattle.rules.specs.declared.form.Scale.{Scale}
 use Rattle.rules.specs.declared.form.Scale.the-variants.{Seconds, Tenths}
 use Rattle.rules.specs.declared.form.Form.{Form}

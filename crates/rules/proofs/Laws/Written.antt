@@ -1,7 +1,7 @@
 -- Parameters and headers are read as they are written: what is written is accepted and read back, and accepted parameters are written in
 -- no other way.
 use Prim.Native.Nat.{ℕ, zero, suc, _+_, _-_, _*_, _/_, _%_, _≤_, _<_}
-use mathlib.Core.Bool.{Bool, true, false, cond, and-false}
+use mathlib.Core.Bool.{Bool, true, false, cond}
 use mathlib.Core.List.{List, [], _∷_, _++_, append-nil}
 use mathlib.Core.Logic.{inl, inr, ⊎-elim}
 use mathlib.Core.Path.{_≡_, refl, sym, _∙_, ap}
@@ -9,7 +9,7 @@ use native.Mathlib.Omega.{arith}
 use lib.ListN.{length, getD, drop, length-append}
 use lib.Seq.{drop-length, drop-cons, getD-append-add}
 use lib.Dec.{eqb, ltb}
-use borrow.Author.Tests.{ltb-true, ltb-false, eqb-true, eqb-false, le-leb, le-ltb, ne-eqb, not-false}
+use borrow.Author.Tests.{ltb-false, eqb-true, eqb-false, le-leb, le-ltb, ne-eqb, not-false}
 use Rattle.octets.specs.BigEndian.{octet, octets32}
 use Rattle.rules.specs.declared.form.Scale.{Scale}
 use Rattle.rules.specs.declared.form.Scale.the-variants.{Seconds, Tenths}

@@ -1,5 +1,5 @@
 -- The public calls: from a sound state they return a sound one, they refuse exactly when the table says, and a refusal changes nothing.
-use Prim.Native.Nat.{ℕ, _-_, _<_}
+use Prim.Native.Nat.{ℕ, _-_}
 use mathlib.Core.Bool.{Bool, true, false, cond}
 use mathlib.Core.List.{List, [], _++_}
 use mathlib.Core.Logic.{_↔_}

@@ -1,12 +1,12 @@
 -- What a cue file is refused for, exactly; and what an accepted one says.
-use Prim.Native.Nat.{ℕ, suc, _+_, _*_, _≤_, _<_}
+use Prim.Native.Nat.{ℕ, suc, _+_, _≤_, _<_}
 use mathlib.Core.Bool.{Bool, true, false, cond, _&&_}
 use mathlib.Core.List.{List, _∷_}
 use mathlib.Core.Logic.{_↔_, inl, inr, ⊎-elim}
 use mathlib.Core.Option.{some}
 use mathlib.Core.Path.{_≡_, refl, sym, _∙_, ap}
 use native.Mathlib.Omega.{arith}
-use lib.ListN.{length, take, drop, getElem?, length-take, length-drop, List·getD-eq-default}
+use lib.ListN.{length, drop, getElem?, length-take, length-drop}
 use lib.Seq.{getD-take, getD-drop}
 use Rattle.octets.specs.BigEndian.{octet}
 use lib.Dec.{eqb, leb}
@@ -24,7 +24,7 @@ use Rattle.rules.specs.Inputs.{inputAt}
 use Rattle.octets.specs.Groups.{stampAt}
 use Rattle.rules.specs.Lists.{Cue, cue}
 use Rattle.rules.specs.Parameters.{checkParameters}
-use Rattle.rules.specs.Layout.{parametersSize, inputsAt, inputPlace}
+use Rattle.rules.specs.Layout.{parametersSize, formAlone, inputsAt, inputPlace}
 use Rattle.rules.specs.Readings.{cues, bad, verdict, found, readInputs}
 use Rattle.rules.specs.Forms.{isVersion, version, formIn}
 use Rattle.rules.specs.Files.{actuators, parametersOffset, inputCount, inputsOffset, endTime, parametersIn, layoutRight, checkStart, stamped, cueAt, readFile}
@@ -33,7 +33,7 @@ use Rattle.rules.specs.Refusals.{LongEnough, FoundWhen, GoodLayout, Good
 use Rattle.base.proofs.Tests.{no, both, cond-case, either-way}
 use Rattle.base.proofs.Codes.{then-decides}
 use Rattle.rules.proofs.Refusals.Readings.{verdict-after, bad-read, good-read, first-read, inputs-decide, list-is-the-inputs}
-use Rattle.rules.proofs.Laws.Forms.{has-version}
+use Rattle.rules.proofs.Laws.Forms.{has-version, told-by-size}
 use Rattle.rules.proofs.Laws.Parameters.{lowest-bad-octet}
 
 -- ---- the tests of the header
@@ -131,6 +131,10 @@ module _ (file : List ℕ) where
 pub parameters-whole : (file : List ℕ) → inputsAt (formIn file) ≤ length file → length (parametersIn file) ≡ parametersSize (formIn file)
 unfolding parametersIn
 parameters-whole file long = length-take (parametersSize (formIn file)) (drop 20 file) ∙ omega (arith, length-drop 20 file)
+
+-- and told by their octets alone they have the file's own row
+pub told-in-a-file : (file : List ℕ) → inputsAt (formIn file) ≤ length file → formAlone (parametersIn file) ≡ formIn file
+told-in-a-file file long = unfold formIn in told-by-size (version file) (parametersIn file) (parameters-whole file long)
 
 -- ---- what stands before the inputs
 
