@@ -7,21 +7,27 @@ use native.Mathlib.Omega.{arith}
 use lib.ListN.{getD}
 use lib.Dec.{eqb, leb, ltb}
 use borrow.Author.Tests.{ne-eqb, lt-ltb, le-ltb, leb-true, not-false}
-use Rattle.octets.specs.BigEndian.{octet, be16}
+use Rattle.octets.specs.BigEndian.{octet}
+use Rattle.rules.specs.declared.form.Scale.{Scale}
+use Rattle.rules.specs.declared.form.Scale.the-variants.{Seconds, Tenths}
+use Rattle.rules.specs.declared.form.Form.{Form}
+use Rattle.rules.specs.Forms.{width}
+use Rattle.rules.specs.Layout.{timePlace, modesAt, scenePlace, flagsPlace}
 use Rattle.base.specs.declared.refusal.Refusal.the-variants.{BadParameter}
 use Rattle.base.specs.declared.refusal.Check.the-variants.{Passed, Refused}
-use Rattle.rules.specs.Parameters.{greatest, numberAbove, badNumber, badFlags, badOctet, lowestBad}
-use Rattle.rules.proofs.Laws.Parameters.{number-octet, flags-octet}
+use Rattle.rules.specs.Parameters.{greatest, badTime, numberAbove, badNumber, badFlags, badOctet, lowestBad}
+use Rattle.rules.proofs.Laws.Forms.{few-octets}
+use Rattle.rules.proofs.Laws.Parameters.{time-octet, within-time, mode-octet, number-octet, flags-octet}
 
 -- from the last of the first entries up
-pub above-step : (octets : List ℕ) (number left : ℕ) → 0 < left → numberAbove octets number left ≡ (eqb (octet octets (16 + 2 * (left - 1))) number || numberAbove octets number (left - 1))
+pub above-step : (f : Form) (octets : List ℕ) (number left : ℕ) → 0 < left → numberAbove f octets number left ≡ (eqb (octet octets (scenePlace f (left - 1))) number || numberAbove f octets number (left - 1))
 unfolding numberAbove
-above-step octets number zero some = absurd (omega arith)
-above-step octets number (suc n) some = let one : suc n - 1 ≡ n = omega arith in rw one
+above-step f octets number zero some = absurd (omega arith)
+above-step f octets number (suc n) some = let one : suc n - 1 ≡ n = omega arith in rw one
 
-pub above-none : (octets : List ℕ) (number left : ℕ) → left ≡ 0 → numberAbove octets number left ≡ false
+pub above-none : (f : Form) (octets : List ℕ) (number left : ℕ) → left ≡ 0 → numberAbove f octets number left ≡ false
 unfolding numberAbove
-above-none octets number left none = rw none
+above-none f octets number left none = rw none
 
 -- ---- the flags of an entry whose number is in range
 
@@ -36,37 +42,68 @@ flags-of number flags above h = go (leb number 63) refl
     go true used = simp (used, ne-eqb number 255 (λ e. omega (arith, leb-true number 63 used)))
     go false other = simp (other, not-false (eqb number 255) (rw other at h), above-zero flags)
 
-pub flags-known : (octets : List ℕ) (entry : ℕ) → badNumber octets entry ≡ false → ltb (cond (leb (octet octets (16 + 2 * entry)) 63) 3 0) (octet octets (17 + 2 * entry)) ≡ badFlags octets entry
+pub flags-known : (f : Form) (octets : List ℕ) (entry : ℕ) → badNumber f octets entry ≡ false → ltb (cond (leb (octet octets (scenePlace f entry)) 63) 3 0) (octet octets (flagsPlace f entry)) ≡ badFlags f octets entry
 unfolding badNumber badFlags
-flags-known octets entry right = flags-of (octet octets (16 + 2 * entry)) (octet octets (17 + 2 * entry)) _ right
+flags-known f octets entry right = flags-of (octet octets (scenePlace f entry)) (octet octets (flagsPlace f entry)) _ right
 
 -- ---- from the lowest octet up
 
--- of the delays only TimedOn can be bad
-pub timed-on-decides : (octets : List ℕ) → lowestBad octets 32 0 ≡ cond (eqb (be16 octets 4) 0) (Refused BadParameter 4) (lowestBad octets 24 8)
-unfolding lowestBad badOctet
-timed-on-decides octets = refl
+-- octets that are not bad are passed over
+pass-over : (f : Form) (octets : List ℕ) (k left at : ℕ) → ((j : ℕ) → j < k → badOctet f octets (at + j) ≡ false) → lowestBad f octets (k + left) at ≡ lowestBad f octets left (at + k)
+unfolding lowestBad
+pass-over f octets zero left at good =
+    let none : 0 + left ≡ left = omega arith in
+    let here : at + 0 ≡ at = omega arith in
+    rw (none, here)
+pass-over f octets (suc k) left at good =
+    let more : suc k + left ≡ suc (k + left) = omega arith in
+    let here : at + 0 ≡ at = omega arith in
+    let past : at + 1 + k ≡ at + suc k = omega arith in
+    rw (more, rw here at (good 0 (omega arith)))
+    (pass-over f octets k left (at + 1) (λ j within. let next : at + 1 + j ≡ at + (j + 1) = omega arith in rw next (good (j + 1) (omega arith))) ∙ rw past)
+
+-- a time is bad at its first octet or not at all
+pub time-step : (f : Form) (octets : List ℕ) (n left : ℕ) → n < 4 → lowestBad f octets (width (f .scale) + left) (timePlace f n) ≡ cond (badTime f octets n) (Refused BadParameter (timePlace f n)) (lowestBad f octets left (timePlace f (n + 1)))
+unfolding lowestBad
+time-step f octets n left within =
+    let some = few-octets (f .scale) in
+    let first : width (f .scale) + left ≡ suc (width (f .scale) - 1 + left) = omega arith in
+    let behind : timePlace f n + 1 + (width (f .scale) - 1) ≡ timePlace f n + width (f .scale) = omega arith in
+    rw (first, time-octet f octets n within, pass-over f octets (width (f .scale) - 1) left (timePlace f n + 1) inner, behind, next (f .scale))
+  where
+    next : (s : Scale) → width s * n + width s ≡ width s * (n + 1)
+    next Seconds = omega arith
+    next Tenths = omega arith
+
+    inner : (j : ℕ) → j < width (f .scale) - 1 → badOctet f octets (timePlace f n + 1 + j) ≡ false
+    inner j less =
+        let place : timePlace f n + 1 + j ≡ timePlace f n + (j + 1) = omega arith in
+        rw place (within-time f octets n (j + 1) within (omega arith) (omega arith))
+
+-- all four, then the modes
+pub times-end : (f : Form) (octets : List ℕ) (n : ℕ) → 4 ≤ n → n ≤ 4 → lowestBad f octets (width (f .scale) * (4 - n) + 24) (timePlace f n) ≡ lowestBad f octets 24 (modesAt f)
+times-end f octets n past within =
+    let all : n ≡ 4 = omega arith in
+    let none : width (f .scale) * (4 - 4) + 24 ≡ 24 = omega arith in
+    rw (all, none)
 
 -- a mode against the table
-mode-octet : (octets : List ℕ) (at : ℕ) → 8 ≤ at → at < 16 → badOctet octets at ≡ ltb (getD greatest (at - 8) 0) (octet octets at)
-unfolding badOctet
-mode-octet octets at from to = simp (le-ltb at 8 from, lt-ltb at 16 to)
-
-pub mode-step : (octets : List ℕ) (at : ℕ) → 8 ≤ at → at < 16 → lowestBad octets (32 - at) at ≡ cond (ltb (getD greatest (at - 8) 0) (octet octets at)) (Refused BadParameter at) (lowestBad octets (32 - (at + 1)) (at + 1))
+pub mode-step : (f : Form) (octets : List ℕ) (m : ℕ) → m < 8 → lowestBad f octets (24 - m) (modesAt f + m) ≡ cond (ltb (getD greatest m 0) (octet octets (modesAt f + m))) (Refused BadParameter (modesAt f + m)) (lowestBad f octets (24 - (m + 1)) (modesAt f + (m + 1)))
 unfolding lowestBad
-mode-step octets at from to =
-    let left : 32 - at ≡ suc (32 - (at + 1)) = omega arith in
-    rw (left, mode-octet octets at from to)
+mode-step f octets m within =
+    let left : 24 - m ≡ suc (24 - (m + 1)) = omega arith in
+    let next : modesAt f + m + 1 ≡ modesAt f + (m + 1) = omega arith in
+    rw (left, mode-octet f octets m within, next)
 
 -- a scene entry: its number, then its flags
-pub entry-step : (octets : List ℕ) (entry : ℕ) → entry < 8 → lowestBad octets (16 - 2 * entry) (16 + 2 * entry) ≡ cond (badNumber octets entry) (Refused BadParameter (16 + 2 * entry)) (cond (badFlags octets entry) (Refused BadParameter (17 + 2 * entry)) (lowestBad octets (16 - 2 * (entry + 1)) (16 + 2 * (entry + 1))))
+pub entry-step : (f : Form) (octets : List ℕ) (entry : ℕ) → entry < 8 → lowestBad f octets (16 - 2 * entry) (scenePlace f entry) ≡ cond (badNumber f octets entry) (Refused BadParameter (scenePlace f entry)) (cond (badFlags f octets entry) (Refused BadParameter (flagsPlace f entry)) (lowestBad f octets (16 - 2 * (entry + 1)) (scenePlace f (entry + 1))))
 unfolding lowestBad
-entry-step octets entry within =
+entry-step f octets entry within =
     let left : 16 - 2 * entry ≡ suc (suc (16 - 2 * (entry + 1))) = omega arith in
-    let flags : 16 + 2 * entry + 1 ≡ 17 + 2 * entry = omega arith in
-    let next : 17 + 2 * entry + 1 ≡ 16 + 2 * (entry + 1) = omega arith in
-    rw (left, number-octet octets entry, flags, flags-octet octets entry, next)
+    let flags : scenePlace f entry + 1 ≡ flagsPlace f entry = omega arith in
+    let next : flagsPlace f entry + 1 ≡ scenePlace f (entry + 1) = omega arith in
+    rw (left, number-octet f octets entry, flags, flags-octet f octets entry, next)
 
-pub entries-end : (octets : List ℕ) (entry : ℕ) → 8 ≤ entry → lowestBad octets (16 - 2 * entry) (16 + 2 * entry) ≡ Passed
+pub entries-end : (f : Form) (octets : List ℕ) (entry : ℕ) → 8 ≤ entry → lowestBad f octets (16 - 2 * entry) (scenePlace f entry) ≡ Passed
 unfolding lowestBad
-entries-end octets entry past = let left : 16 - 2 * entry ≡ 0 = omega arith in rw left
+entries-end f octets entry past = let left : 16 - 2 * entry ≡ 0 = omega arith in rw left

@@ -7,16 +7,21 @@ ghost use lib.ListN.{length, getD};
 ghost use Rattle.base.specs.declared.refusal.Refusal.the-variants.{BadParameter};
 ghost use Rattle.base.specs.declared.refusal.Check.the-variants.{Refused};
 ghost use Rattle.rules.specs.Layout.{parametersSize, modesAt, scenesAt};
-ghost use Rattle.rules.specs.Parameters.{greatest, numberAbove, badNumber, badFlags, lowestBad};
+ghost use Rattle.rules.specs.Parameters.{greatest, badTime, numberAbove, badNumber, badFlags, lowestBad};
+use crate::read::delay_of;
+use base::logic::both;
+use base::logic::either;
 use base::logic::negated;
+use base::moment::LONGEST_DELAY;
 use base::refusal::Check;
 use base::refusal::Refusal;
-use layout::FLAGS_AT;
-use layout::MODES_AT;
-use layout::SCENES_AT;
-use octets::read16;
+use layout::flags_place;
+use layout::modes_at;
+use layout::scene_place;
+use layout::time_place;
+use rules::form::Form;
 
-// The greatest value of each of the octets 8 to 15: five modes, the learning mode, two octets that are zero.
+// The greatest value of each of the eight octets behind the times: five modes, the learning mode, two octets that are zero.
 const GREATEST: [u8; 8] = [2, 3, 2, 2, 2, 1, 0, 0];
 
 // The table is read here alone.
@@ -28,14 +33,15 @@ fn greatest_at(n: usize) -> u8
 }
 
 // Whether one of the first entries has a scene number, from the last of them up.
-fn number_above(octets: &[u8], number: u8, entries: usize) -> bool
-    requires { ⌜ (length (now octets) ≡ parametersSize) × (entries ≤ 8) ⌝ }
-    ensures { λ r. ⌜ r ≡ numberAbove (now (octets .entry)) number entries ⌝ }
+fn number_above(octets: &[u8], form: Form, number: u8, entries: usize) -> bool
+    requires { ⌜ (length (now octets) ≡ parametersSize form) × (entries ≤ 8) ⌝ }
+    ensures { λ r. ⌜ r ≡ numberAbove form (now (octets .entry)) number entries ⌝ }
 {
     let mut entry = entries;
     while 0 < entry {
         entry -= 1;
-        if octets[SCENES_AT + 2 * entry] == number {
+        let at = scene_place(form, entry);
+        if octets[at] == number {
             return true;
         }
     }
@@ -43,13 +49,13 @@ fn number_above(octets: &[u8], number: u8, entries: usize) -> bool
 }
 
 // A scene number that is too large, or that an earlier entry has: so a repeated number is bad at the later entry.
-fn bad_number(octets: &[u8], entry: usize) -> bool
-    requires { ⌜ (length (now octets) ≡ parametersSize) × (entry < 8) ⌝ }
-    ensures { λ r. ⌜ r ≡ badNumber (now (octets .entry)) entry ⌝ }
+fn bad_number(octets: &[u8], form: Form, entry: usize) -> bool
+    requires { ⌜ (length (now octets) ≡ parametersSize form) × (entry < 8) ⌝ }
+    ensures { λ r. ⌜ r ≡ badNumber form (now (octets .entry)) entry ⌝ }
 {
-    let number = octets[SCENES_AT + 2 * entry];
+    let number = octets[scene_place(form, entry)];
     if number <= 63 {
-        number_above(octets, number, entry)
+        number_above(octets, form, number, entry)
     } else {
         let unused = number == 255;
         negated(unused)
@@ -64,16 +70,17 @@ fn greatest_flags(number: u8) -> u8
 }
 
 // The flags of an entry whose number is in range, so that a number beyond 63 is unused.
-fn bad_flags(octets: &[u8], entry: usize) -> bool
-    requires { ⌜ (length (now octets) ≡ parametersSize) × (entry < 8) × (badNumber (now octets) entry ≡ false) ⌝ }
-    ensures { λ r. ⌜ r ≡ badFlags (now (octets .entry)) entry ⌝ }
+fn bad_flags(octets: &[u8], form: Form, entry: usize) -> bool
+    requires { ⌜ (length (now octets) ≡ parametersSize form) × (entry < 8) × (badNumber form (now octets) entry ≡ false) ⌝ }
+    ensures { λ r. ⌜ r ≡ badFlags form (now (octets .entry)) entry ⌝ }
 {
-    greatest_flags(octets[SCENES_AT + 2 * entry]) < octets[FLAGS_AT + 2 * entry]
+    let greatest = greatest_flags(octets[scene_place(form, entry)]);
+    greatest < octets[flags_place(form, entry)]
 }
 
 // The refusal of the octet at a place.
 fn bad_at(at: usize) -> Check
-    requires { ⌜ at < parametersSize ⌝ }
+    requires { ⌜ at < 40 ⌝ }
     ensures { λ r. ⌜ r ≡ Refused BadParameter at ⌝ }
 {
     Check::Refused {
@@ -83,17 +90,17 @@ fn bad_at(at: usize) -> Check
 }
 
 // The eight scene entries, each its number and then its flags.
-fn lowest_bad_from_scenes(octets: &[u8]) -> Check
-    requires { ⌜ length (now octets) ≡ parametersSize ⌝ }
-    ensures { λ r. ⌜ r ≡ lowestBad (now (octets .entry)) (parametersSize - scenesAt) scenesAt ⌝ }
+fn lowest_bad_from_scenes(octets: &[u8], form: Form) -> Check
+    requires { ⌜ length (now octets) ≡ parametersSize form ⌝ }
+    ensures { λ r. ⌜ r ≡ lowestBad form (now (octets .entry)) 16 (scenesAt form) ⌝ }
 {
     let mut entry: usize = 0;
     while entry < 8 {
-        if bad_number(octets, entry) {
-            return bad_at(SCENES_AT + 2 * entry);
+        if bad_number(octets, form, entry) {
+            return bad_at(scene_place(form, entry));
         }
-        if bad_flags(octets, entry) {
-            return bad_at(FLAGS_AT + 2 * entry);
+        if bad_flags(octets, form, entry) {
+            return bad_at(flags_place(form, entry));
         }
         entry += 1;
     }
@@ -101,28 +108,44 @@ fn lowest_bad_from_scenes(octets: &[u8]) -> Check
 }
 
 // The modes against the table, then the scenes.
-fn lowest_bad_from_modes(octets: &[u8]) -> Check
-    requires { ⌜ length (now octets) ≡ parametersSize ⌝ }
-    ensures { λ r. ⌜ r ≡ lowestBad (now (octets .entry)) (parametersSize - modesAt) modesAt ⌝ }
+fn lowest_bad_from_modes(octets: &[u8], form: Form) -> Check
+    requires { ⌜ length (now octets) ≡ parametersSize form ⌝ }
+    ensures { λ r. ⌜ r ≡ lowestBad form (now (octets .entry)) 24 (modesAt form) ⌝ }
 {
-    let mut at: usize = MODES_AT;
-    while at < SCENES_AT {
-        if greatest_at(at - MODES_AT) < octets[at] {
+    let mut mode: usize = 0;
+    while mode < 8 {
+        let at = modes_at(form) + mode;
+        if greatest_at(mode) < octets[at] {
             return bad_at(at);
         }
-        at += 1;
+        mode += 1;
     }
-    lowest_bad_from_scenes(octets)
+    lowest_bad_from_scenes(octets, form)
 }
 
-// The lowest octet that is out of range. Of the four delays only TimedOn must not be 0; it is then bad at its first octet.
-pub(crate) fn lowest_bad(octets: &[u8]) -> Check
-    requires { ⌜ length (now octets) ≡ parametersSize ⌝ }
-    ensures { λ r. ⌜ r ≡ lowestBad (now (octets .entry)) parametersSize 0 ⌝ }
+// Time n is too long, or it is TimedOn, the third of them, and 0.
+fn bad_time(octets: &[u8], form: Form, n: usize) -> bool
+    requires { ⌜ (length (now octets) ≡ parametersSize form) × (n < 4) ⌝ }
+    ensures { λ r. ⌜ r ≡ badTime form (now (octets .entry)) n ⌝ }
 {
-    if read16(octets, 4) == 0 {
-        bad_at(4)
-    } else {
-        lowest_bad_from_modes(octets)
+    let t = delay_of(octets, form, n);
+    let long = LONGEST_DELAY < t;
+    let timedon = n == 2;
+    let none = t == 0;
+    either(long, both(timedon, none))
+}
+
+// The lowest octet that is out of range. A time is bad at its first octet.
+pub(crate) fn lowest_bad(octets: &[u8], form: Form) -> Check
+    requires { ⌜ length (now octets) ≡ parametersSize form ⌝ }
+    ensures { λ r. ⌜ r ≡ lowestBad form (now (octets .entry)) (parametersSize form) 0 ⌝ }
+{
+    let mut n: usize = 0;
+    while n < 4 {
+        if bad_time(octets, form, n) {
+            return bad_at(time_place(form, n));
+        }
+        n += 1;
     }
+    lowest_bad_from_modes(octets, form)
 }

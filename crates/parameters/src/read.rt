@@ -7,19 +7,23 @@ ghost use Rattle.rules.specs.Parameters.{delay, paramsOf, sceneAt, scenesOf, ch
 use crate::range::lowest_bad;
 use base::refusal::Check;
 use base::refusal::Refusal;
-use layout::MODES_AT;
-use layout::PARAMETERS_SIZE;
-use layout::SCENES_AT;
+use layout::flags_place;
+use layout::modes_at;
+use layout::parameters_size;
+use layout::scene_place;
 use octets::read16;
+use octets::read32;
+use rules::form::Form;
+use rules::form::Scale;
 use rules::parameters::Params;
 use rules::parameters::Scene;
 
-// Whether octets offered as parameters are accepted: first their length, then the lowest octet that is out of range.
-pub fn check_parameters(octets: &[u8]) -> Check
-    ensures { λ r. ⌜ r ≡ checkParameters (now (octets .entry)) ⌝ }
+// Whether octets are accepted as parameters of this row: first their length, then the lowest octet that is out of range.
+pub fn check_parameters(octets: &[u8], form: Form) -> Check
+    ensures { λ r. ⌜ r ≡ checkParameters form (now (octets .entry)) ⌝ }
 {
-    if octets.len() == PARAMETERS_SIZE {
-        lowest_bad(octets)
+    if octets.len() == parameters_size(form) {
+        lowest_bad(octets, form)
     } else {
         Check::Refused {
             why: Refusal::WrongLength,
@@ -28,60 +32,65 @@ pub fn check_parameters(octets: &[u8]) -> Check
     }
 }
 
-// A delay: here, and nowhere else, seconds become tenths.
-fn delay_at(octets: &[u8], at: usize) -> u32
-    requires { ⌜ at + 2 ≤ length (now octets) ⌝ }
-    ensures { λ r. ⌜ r ≡ delay (now (octets .entry)) at ⌝ }
+// Time n, in tenths of a second: here, and nowhere else, seconds become tenths.
+pub(crate) fn delay_of(octets: &[u8], form: Form, n: usize) -> u32
+    requires { ⌜ (length (now octets) ≡ parametersSize form) × (n < 4) ⌝ }
+    ensures { λ r. ⌜ r ≡ delay form (now (octets .entry)) n ⌝ }
 {
-    10 * read16(octets, at)
+    let scale = form.scale;
+    match scale {
+        Scale::Seconds => 10 * read16(octets, 2 * n),
+        Scale::Tenths => read32(octets, 4 * n),
+    }
 }
 
 // The parameters that octets say, accepted or not.
-pub fn params_of(octets: &[u8]) -> Params
-    requires { ⌜ length (now octets) ≡ parametersSize ⌝ }
-    ensures { λ r. ⌜ r ≡ paramsOf (now (octets .entry)) ⌝ }
+pub fn params_of(octets: &[u8], form: Form) -> Params
+    requires { ⌜ length (now octets) ≡ parametersSize form ⌝ }
+    ensures { λ r. ⌜ r ≡ paramsOf form (now (octets .entry)) ⌝ }
 {
+    let modes = modes_at(form);
     Params {
-        ondelay: delay_at(octets, 0),
-        offdelay: delay_at(octets, 2),
-        timedon: delay_at(octets, 4),
-        prewarning: delay_at(octets, 6),
-        locking: octets[MODES_AT],
-        unlocking: octets[MODES_AT + 1],
-        busfailure: octets[MODES_AT + 2],
-        busreturn: octets[MODES_AT + 3],
-        powerreturn: octets[MODES_AT + 4],
-        learning: octets[MODES_AT + 5] == 1,
+        version: form.version,
+        ondelay: delay_of(octets, form, 0),
+        offdelay: delay_of(octets, form, 1),
+        timedon: delay_of(octets, form, 2),
+        prewarning: delay_of(octets, form, 3),
+        locking: octets[modes],
+        unlocking: octets[modes + 1],
+        busfailure: octets[modes + 2],
+        busreturn: octets[modes + 3],
+        powerreturn: octets[modes + 4],
+        learning: octets[modes + 5] == 1,
     }
 }
 
 // Scene entry n: its number, then its flags, of which bit 0 is the value and bit 1 says that it was taught in.
-fn scene_at(octets: &[u8], n: usize) -> Scene
-    requires { ⌜ (length (now octets) ≡ parametersSize) × (n < 8) ⌝ }
-    ensures { λ r. ⌜ r ≡ sceneAt (now (octets .entry)) (scenePlace n) ⌝ }
+fn scene_at(octets: &[u8], form: Form, n: usize) -> Scene
+    requires { ⌜ (length (now octets) ≡ parametersSize form) × (n < 8) ⌝ }
+    ensures { λ r. ⌜ r ≡ sceneAt (now (octets .entry)) (scenePlace form n) ⌝ }
 {
-    let at = SCENES_AT + 2 * n;
-    let flags = octets[at + 1];
+    let flags = octets[flags_place(form, n)];
     Scene {
-        number: octets[at],
+        number: octets[scene_place(form, n)],
         value: flags % 2 == 1,
         taught: flags / 2 % 2 == 1,
     }
 }
 
 // The eight scene entries that octets say, accepted or not.
-pub fn scenes_of(octets: &[u8]) -> [Scene; 8]
-    requires { ⌜ length (now octets) ≡ parametersSize ⌝ }
-    ensures { λ r. ⌜ r ≡ scenesOf (now (octets .entry)) ⌝ }
+pub fn scenes_of(octets: &[u8], form: Form) -> [Scene; 8]
+    requires { ⌜ length (now octets) ≡ parametersSize form ⌝ }
+    ensures { λ r. ⌜ r ≡ scenesOf form (now (octets .entry)) ⌝ }
 {
     [
-        scene_at(octets, 0),
-        scene_at(octets, 1),
-        scene_at(octets, 2),
-        scene_at(octets, 3),
-        scene_at(octets, 4),
-        scene_at(octets, 5),
-        scene_at(octets, 6),
-        scene_at(octets, 7),
+        scene_at(octets, form, 0),
+        scene_at(octets, form, 1),
+        scene_at(octets, form, 2),
+        scene_at(octets, form, 3),
+        scene_at(octets, form, 4),
+        scene_at(octets, form, 5),
+        scene_at(octets, form, 6),
+        scene_at(octets, form, 7),
     ]
 }
