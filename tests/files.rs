@@ -26,15 +26,53 @@ impl Rng {
     }
 }
 
-/// The parts of a cue file, in the order in which they are written.
+/// How a version of the cue file is written, and which times its shows have.
+pub struct Layout {
+    pub version: u16,
+    /// How many tenths of a second a unit of its times lasts, and how many octets one of them has.
+    pub unit: u32,
+    time: usize,
+    /// A time in tenths.
+    random_time: fn(&mut Rng) -> u32,
+}
+
+pub static LAYOUTS: [Layout; 2] = [
+    // the times in seconds
+    Layout { version: 1, unit: 10, time: 2, random_time: seconds },
+    // the times in tenths
+    Layout { version: 2, unit: 1, time: 4, random_time: tenths },
+];
+
+impl Layout {
+    /// One of them, each as often as any other.
+    pub fn random(rng: &mut Rng) -> &'static Layout {
+        &LAYOUTS[rng.below(LAYOUTS.len() as u64) as usize]
+    }
+
+    /// Where the inputs start: after the header, four times, modes and scenes.
+    pub fn inputs_at(&self) -> usize {
+        20 + 4 * self.time + REST
+    }
+}
+
+/// Modes, learning, two zeros and eight scenes, which are the same octets in every version.
+const REST: usize = 24;
+
+/// The longest time, in tenths.
+const LONGEST: u32 = 655_350;
+
+/// The parts of a cue file, in the order in which they are written; the times in tenths, whatever the version.
+#[derive(Clone)]
 pub struct CueFile {
+    pub layout: &'static Layout,
     pub version: u16,
     pub actuators: u16,
     pub parameters_offset: u32,
     pub count: u32,
     pub inputs_offset: u32,
     pub end: u32,
-    pub parameters: [u8; 32],
+    pub times: [u32; 4],
+    pub rest: [u8; REST],
     pub inputs: Vec<[u8; 8]>,
 }
 
@@ -53,37 +91,45 @@ pub fn noise(rng: &mut Rng) -> Vec<u8> {
     (0..len).map(|_| rng.next() as u8).collect()
 }
 
-fn small_delay(rng: &mut Rng) -> u16 {
-    match rng.below(8) {
+/// Whole seconds: often none, mostly few.
+fn seconds(rng: &mut Rng) -> u32 {
+    10 * match rng.below(8) {
         0..=2 => 0,
-        3..=5 => 1 + rng.below(4) as u16,
-        6 => rng.below(100) as u16,
-        _ => rng.next() as u16,
+        3..=5 => 1 + rng.below(4) as u32,
+        6 => rng.below(100) as u32,
+        _ => u32::from(rng.next() as u16),
     }
 }
 
-fn parameters(rng: &mut Rng) -> [u8; 32] {
-    let mut p = [0; 32];
-    p[0..2].copy_from_slice(&small_delay(rng).to_be_bytes());
-    p[2..4].copy_from_slice(&small_delay(rng).to_be_bytes());
-    p[4..6].copy_from_slice(&small_delay(rng).max(1).to_be_bytes());
-    p[6..8].copy_from_slice(&small_delay(rng).to_be_bytes());
-    for (at, greatest) in [(8, 2), (9, 3), (10, 2), (11, 2), (12, 2), (13, 1)] {
-        p[at] = rng.below(greatest + 1) as u8;
+/// Tenths, which seldom are whole seconds: often none, mostly few, sometimes the most that there can be.
+fn tenths(rng: &mut Rng) -> u32 {
+    match rng.below(16) {
+        0..=4 => 0,
+        5..=10 => 1 + rng.below(40) as u32,
+        11..=12 => rng.below(1000) as u32,
+        13..=14 => rng.below(u64::from(LONGEST) + 1) as u32,
+        _ => LONGEST,
+    }
+}
+
+/// Modes, learning and scenes.
+fn rest(rng: &mut Rng) -> [u8; REST] {
+    let mut rest = [0; REST];
+    for (octet, greatest) in [2, 3, 2, 2, 2, 1].into_iter().enumerate() {
+        rest[octet] = rng.below(greatest + 1) as u8;
     }
     // Distinct numbers, from a small range so that inputs hit them, and some unused entries.
     let mut next = rng.below(3) as u8;
-    for entry in 0..8 {
-        let at = 16 + 2 * entry;
+    for entry in rest[8..].chunks_exact_mut(2) {
         if rng.chance(60) {
-            p[at] = next;
+            entry[0] = next;
             next += 1 + rng.below(3) as u8;
-            p[at + 1] = rng.below(4) as u8;
+            entry[1] = rng.below(4) as u8;
         } else {
-            p[at] = 255;
+            entry[0] = 255;
         }
     }
-    p
+    rest
 }
 
 /// An input whose kind is met about as often as any other; locks, forces and cuts end again soon.
@@ -101,8 +147,14 @@ fn kind_and_value(rng: &mut Rng) -> (u8, u8) {
 }
 
 impl CueFile {
-    /// A show of n inputs that is in order.
+    /// A show of n inputs that is in order, of any version.
     pub fn random(rng: &mut Rng, n: usize) -> CueFile {
+        let layout = Layout::random(rng);
+        CueFile::random_in(layout, rng, n)
+    }
+
+    /// The same, of this version.
+    pub fn random_in(layout: &'static Layout, rng: &mut Rng, n: usize) -> CueFile {
         let mut stamp: u64 = 0;
         let widest = [1, 5, 30, 200, 2000][rng.below(5) as usize];
         let mut inputs = Vec::with_capacity(n);
@@ -119,53 +171,72 @@ impl CueFile {
             inputs.push(octets);
         }
         let end = (stamp + rng.below(widest * 3 + 1)).min(864_000) as u32;
+        let mut times = [0; 4].map(|_: u32| (layout.random_time)(rng));
+        times[TIMED_ON] = times[TIMED_ON].max(layout.unit);
         CueFile {
-            version: 1,
+            layout,
+            version: layout.version,
             actuators: 1,
             parameters_offset: 20,
             count: n as u32,
-            inputs_offset: 52,
+            inputs_offset: layout.inputs_at() as u32,
             end,
-            parameters: parameters(rng),
+            times,
+            rest: rest(rng),
             inputs,
         }
     }
 
+    /// The same show in a version that can write its times.
+    pub fn in_version(self, layout: &'static Layout) -> CueFile {
+        CueFile { layout, version: layout.version, inputs_offset: layout.inputs_at() as u32, ..self }
+    }
+
     /// One thing is put out of order.
     pub fn spoil(&mut self, rng: &mut Rng) {
-        let which = rng.below(12);
+        let which = rng.below(14);
         let n = self.inputs.len();
         match which {
-            0 => self.version = rng.below(4) as u16,
+            0 => self.version = rng.below(5) as u16,
             1 => self.actuators = rng.below(4) as u16,
             2 => self.parameters_offset = rng.below(40) as u32,
             3 => self.count = self.count.wrapping_add(1),
-            4 => self.inputs_offset = rng.below(100) as u32,
+            4 => self.inputs_offset = if rng.chance(50) { rng.below(100) as u32 } else { 52 + 8 * rng.below(2) as u32 },
             5 => self.end = 864_000 + rng.below(3) as u32,
-            6 => self.parameters[rng.below(32) as usize] = rng.next() as u8,
-            7 => self.parameters[4..6].copy_from_slice(&[0, 0]),
-            8 if n > 0 => self.inputs[rng.below(n as u64) as usize][4 + rng.below(4) as usize] = rng.next() as u8,
-            9 if n > 1 => {
+            6..=7 => self.rest[rng.below(REST as u64) as usize] = rng.next() as u8,
+            8 => self.times[TIMED_ON] = 0,
+            // what a version cannot write, it writes as another time
+            9 => self.times[rng.below(4) as usize] = LONGEST + 1 + rng.below(3) as u32,
+            10 => self.times[rng.below(4) as usize] = rng.next() as u32,
+            11 if n > 0 => self.inputs[rng.below(n as u64) as usize][4 + rng.below(4) as usize] = rng.next() as u8,
+            12 if n > 1 => {
                 let at = rng.below(n as u64 - 1) as usize;
                 self.inputs.swap(at, at + 1);
             }
-            10 if n > 0 => self.inputs[rng.below(n as u64) as usize][rng.below(4) as usize] = rng.next() as u8,
+            13 if n > 0 => self.inputs[rng.below(n as u64) as usize][rng.below(4) as usize] = rng.next() as u8,
             _ => self.end = self.end / 2,
         }
     }
 
     pub fn octets(&self) -> Vec<u8> {
-        let mut file = Vec::with_capacity(52 + 8 * self.inputs.len());
+        let mut file = Vec::with_capacity(self.layout.inputs_at() + 8 * self.inputs.len());
         file.extend_from_slice(&self.version.to_be_bytes());
         file.extend_from_slice(&self.actuators.to_be_bytes());
         file.extend_from_slice(&self.parameters_offset.to_be_bytes());
         file.extend_from_slice(&self.count.to_be_bytes());
         file.extend_from_slice(&self.inputs_offset.to_be_bytes());
         file.extend_from_slice(&self.end.to_be_bytes());
-        file.extend_from_slice(&self.parameters);
+        for time in self.times {
+            let octets = (time / self.layout.unit).to_be_bytes();
+            file.extend_from_slice(&octets[4 - self.layout.time..]);
+        }
+        file.extend_from_slice(&self.rest);
         for input in &self.inputs {
             file.extend_from_slice(input);
         }
         file
     }
 }
+
+/// Which of the four times is TimedOn.
+const TIMED_ON: usize = 2;

@@ -1,8 +1,9 @@
-//! The house-light actuator of document 01, as an independent model.
+//! The house-light actuator of document 01, as an independent model, with the tenths in the delays of
+//! document 02, request 2.
 //!
-//! Written from documents 00 and 01 alone, to be read beside document 01: the sections come in its
-//! order and each rule stands under the sentence it renders. Times inside the model are tenths of
-//! a second; only the parameters keep their seconds.
+//! Written from documents 00, 01 and 02 alone, to be read beside document 01: the sections come in
+//! its order and each rule stands under the sentence it renders. All times inside the model are
+//! tenths of a second, whatever the file holds.
 #![allow(dead_code)]
 
 use std::cmp::min;
@@ -15,24 +16,59 @@ use std::fmt::Write;
 /// "A stamp is in tenths of a second, 0 to 864,000."
 pub const LAST_STAMP: u32 = 864_000;
 
-/// "a deadline lies 1 to 655,350 after the clock": the longest U16 delay, in tenths.
+/// "a deadline lies 1 to 655,350 after the clock"; and a time of the parameters has "0 to 655,350"
+/// tenths: the longest U16 delay of version 1.
 pub const LONGEST_DELAY: u32 = 655_350;
 
 /// "8-11 count n of inputs (0 to 2,048)"
 pub const MOST_INPUTS: u32 = 2_048;
 
-/// "20 octets of counts and offsets"; "Parameters, 32 octets"; "Input, 8 octets"; and "A record is
-/// 8 octets".
+/// "20 octets of counts and offsets"; "Input, 8 octets"; and "A record is 8 octets".
 pub(crate) const HEADER: usize = 20;
-pub(crate) const PARAMETERS: usize = 32;
 pub(crate) const INPUT: usize = 8;
 pub(crate) const RECORD: usize = 8;
 
-/// "Delays are U16 seconds; a delay of s lasts 10*s tenths."
-///
-/// `after(t, on_delay)` reads "t+OnDelay".
-fn after(t: u32, delay: u16) -> u32 {
-    t + 10 * u32::from(delay)
+/// "version is tested on files of at least 52 octets" (document 02)
+pub(crate) const LEAST_FILE: usize = 52;
+
+/// What differs between the versions of the cue file, and of the states that come of them.
+pub(crate) struct Version {
+    /// "0-1 version"
+    number: u8,
+    /// How many octets each of the four times has, how many tenths one of its units lasts, and the
+    /// four in units.
+    time: usize,
+    unit: u32,
+    times: fn(&[u8]) -> [u32; 4],
+    /// How many octets the parameters have.
+    parameters: usize,
+}
+
+/// A row for each version; it is chosen once, by the version that a file or a state has, or by the
+/// length of parameters alone.
+static VERSIONS: [Version; 2] = [
+    // "Delays are U16 seconds; a delay of s lasts 10*s tenths."; "Parameters, 32 octets"
+    Version { number: 1, time: 2, unit: 10, times: four_u16, parameters: 32 },
+    // "Version 2 files hold the four times as U32 tenths ... in parameter octets 0-15; the rest
+    // follows, 40 octets in all" (document 02)
+    Version { number: 2, time: 4, unit: 1, times: four_u32, parameters: 40 },
+];
+
+impl Version {
+    /// The version of a file or of a state; "2 now means neither version" (document 02).
+    fn of(number: u16) -> Option<&'static Version> {
+        VERSIONS.iter().find(|version| u16::from(version.number) == number)
+    }
+
+    /// "parameters alone are told by 32 or 40 octets" (document 02)
+    fn of_parameters(length: usize) -> Option<&'static Version> {
+        VERSIONS.iter().find(|version| version.parameters == length)
+    }
+
+    /// "offset of inputs", which is also the "least length" of a file.
+    fn inputs_at(&self) -> usize {
+        HEADER + self.parameters
+    }
 }
 
 /// "Numbers are most significant octet first."
@@ -44,18 +80,28 @@ pub(crate) fn u32_at(octets: &[u8], at: usize) -> u32 {
     u32::from_be_bytes([octets[at], octets[at + 1], octets[at + 2], octets[at + 3]])
 }
 
+fn four_u16(octets: &[u8]) -> [u32; 4] {
+    [0, 2, 4, 6].map(|at| u16_at(octets, at).into())
+}
+
+fn four_u32(octets: &[u8]) -> [u32; 4] {
+    [0, 4, 8, 12].map(|at| u32_at(octets, at))
+}
+
 /// "0-1 OnDelay; 2-3 OffDelay; 4-5 TimedOnDuration, 1 or more; 6-7 PrewarningDuration;
 /// 8 BehaviourAtLocking (0 keep, 1 off, 2 on); 9 BehaviourAtUnlocking (0 to 2 alike, 3 as before
 /// locking); 10 BusFailureMode, 11 BusReturnMode (0 keep, 1 off, 2 on); 12 PowerReturnMode (0 as
 /// before the failure, 1 off, 2 on); 13 SceneLearningModeEnable (0, 1)"
 ///
-/// The fields can hold values out of range, since a state handed in is judged for that.
+/// The version goes with them, and the times are in tenths in either version. The fields can hold
+/// values out of range, since a state handed in is judged for that.
 #[derive(Clone, Copy, Debug, PartialEq, Eq)]
 pub struct Params {
-    pub on_delay: u16,
-    pub off_delay: u16,
-    pub timed_on: u16,
-    pub prewarning: u16,
+    pub version: u8,
+    pub on_delay: u32,
+    pub off_delay: u32,
+    pub timed_on: u32,
+    pub prewarning: u32,
     pub behaviour_at_locking: u8,
     pub behaviour_at_unlocking: u8,
     pub bus_failure_mode: u8,
@@ -93,90 +139,115 @@ impl Scene {
     }
 }
 
-/// The 32 parameter octets as they stand in a file, from a state's parameters and scene table.
-/// "14-15 zero".
-pub fn parameter_octets(params: &Params, scenes: &[Scene; 8]) -> [u8; 32] {
-    let mut octets = [0; PARAMETERS];
-    octets[0..2].copy_from_slice(&params.on_delay.to_be_bytes());
-    octets[2..4].copy_from_slice(&params.off_delay.to_be_bytes());
-    octets[4..6].copy_from_slice(&params.timed_on.to_be_bytes());
-    octets[6..8].copy_from_slice(&params.prewarning.to_be_bytes());
-    octets[8] = params.behaviour_at_locking;
-    octets[9] = params.behaviour_at_unlocking;
-    octets[10] = params.bus_failure_mode;
-    octets[11] = params.bus_return_mode;
-    octets[12] = params.power_return_mode;
-    octets[13] = params.scene_learning_mode_enable;
-    for (entry, scene) in scenes.iter().enumerate() {
-        octets[16 + 2 * entry] = scene.number;
-        octets[17 + 2 * entry] = scene.flags;
-    }
-    octets
+/// "the rest follows" (document 02): after the times, modes, learning, zeros and scenes, the same
+/// octets in every version.
+const REST: usize = 24;
+
+/// Where the scene entries start in the rest: after five modes, learning and two zeros.
+const SCENES_AT: usize = 8;
+
+/// The four times in tenths, and the rest. Here, and nowhere else, seconds become tenths.
+fn times_and_rest<'a>(version: &Version, octets: &'a [u8]) -> ([u32; 4], &'a [u8; REST]) {
+    let (times, rest) = octets.split_at(4 * version.time);
+    let tenths = (version.times)(times).map(|time| version.unit * time);
+    (tenths, rest[..REST].try_into().expect("parameters have their rest"))
 }
 
-/// The parameters and the scene table that 32 parameter octets spell.
-fn decode_parameters(octets: &[u8]) -> (Params, [Scene; 8]) {
+/// The rest of the parameters as it stands in a file, from a state's parameters and scene table.
+fn rest_of(p: &Params, scenes: &[Scene; 8]) -> [u8; REST] {
+    let mut rest = [0; REST];
+    rest[0] = p.behaviour_at_locking;
+    rest[1] = p.behaviour_at_unlocking;
+    rest[2] = p.bus_failure_mode;
+    rest[3] = p.bus_return_mode;
+    rest[4] = p.power_return_mode;
+    rest[5] = p.scene_learning_mode_enable;
+    for (entry, scene) in rest[SCENES_AT..].chunks_exact_mut(2).zip(scenes) {
+        entry.copy_from_slice(&[scene.number, scene.flags]);
+    }
+    rest
+}
+
+/// The parameters and the scene table that four times and the rest spell.
+fn decode_parameters(
+    version: &Version,
+    times: [u32; 4],
+    rest: &[u8; REST],
+) -> (Params, [Scene; 8]) {
+    let [on_delay, off_delay, timed_on, prewarning] = times;
     let params = Params {
-        on_delay: u16_at(octets, 0),
-        off_delay: u16_at(octets, 2),
-        timed_on: u16_at(octets, 4),
-        prewarning: u16_at(octets, 6),
-        behaviour_at_locking: octets[8],
-        behaviour_at_unlocking: octets[9],
-        bus_failure_mode: octets[10],
-        bus_return_mode: octets[11],
-        power_return_mode: octets[12],
-        scene_learning_mode_enable: octets[13],
+        version: version.number,
+        on_delay,
+        off_delay,
+        timed_on,
+        prewarning,
+        behaviour_at_locking: rest[0],
+        behaviour_at_unlocking: rest[1],
+        bus_failure_mode: rest[2],
+        bus_return_mode: rest[3],
+        power_return_mode: rest[4],
+        scene_learning_mode_enable: rest[5],
     };
     let mut scenes = [Scene { number: UNUSED, flags: 0 }; 8];
-    for (entry, scene) in scenes.iter_mut().enumerate() {
-        scene.number = octets[16 + 2 * entry];
-        scene.flags = octets[17 + 2 * entry];
+    for (scene, entry) in scenes.iter_mut().zip(rest[SCENES_AT..].chunks_exact(2)) {
+        *scene = Scene { number: entry[0], flags: entry[1] };
     }
     (params, scenes)
 }
 
 /// "parameter out of range | lowest bad octet in 0-31 (TimedOn 0: 4; a repeated scene: the later
-/// entry's number)"
+/// entry's number)"; "5 use[s] the version's sizes and places" (document 02)
 ///
 /// The octets are judged in order, so the first found is the lowest.
-fn lowest_bad_octet(octets: &[u8]) -> Option<u16> {
-    // "4-5 TimedOnDuration, 1 or more" (the other three durations take any U16)
-    if u16_at(octets, 4) == 0 {
-        return Some(4);
+fn lowest_bad_octet(version: &Version, times: &[u32; 4], rest: &[u8; REST]) -> Option<usize> {
+    match bad_time(version, times) {
+        // "a bad time: its first octet" (document 02)
+        Some(which) => Some(version.time * which),
+        None => bad_rest(rest).map(|octet| 4 * version.time + octet),
     }
+}
+
+/// "the four times as U32 tenths, 0 to 655,350, timed-on at least 1" (document 02). In version 1
+/// they are seconds, and so no other tenths are in range.
+fn bad_time(version: &Version, times: &[u32; 4]) -> Option<usize> {
+    let bad = |time: u32| time > LONGEST_DELAY || time % version.unit != 0;
+    let timed_on = 2;
+    (0..4).find(|which| bad(times[*which]) || (*which == timed_on && times[timed_on] == 0))
+}
+
+fn bad_rest(rest: &[u8; REST]) -> Option<usize> {
     // octet by octet, the highest value it may have
     let highest = [
-        (8, 2),  // "8 BehaviourAtLocking (0 keep, 1 off, 2 on)"
-        (9, 3),  // "9 BehaviourAtUnlocking (0 to 2 alike, 3 as before locking)"
-        (10, 2), // "10 BusFailureMode ... (0 keep, 1 off, 2 on)"
-        (11, 2), // "11 BusReturnMode (0 keep, 1 off, 2 on)"
-        (12, 2), // "12 PowerReturnMode (0 as before the failure, 1 off, 2 on)"
-        (13, 1), // "13 SceneLearningModeEnable (0, 1)"
-        (14, 0), // "14-15 zero"
-        (15, 0),
+        2, // "8 BehaviourAtLocking (0 keep, 1 off, 2 on)"
+        3, // "9 BehaviourAtUnlocking (0 to 2 alike, 3 as before locking)"
+        2, // "10 BusFailureMode ... (0 keep, 1 off, 2 on)"
+        2, // "11 BusReturnMode (0 keep, 1 off, 2 on)"
+        2, // "12 PowerReturnMode (0 as before the failure, 1 off, 2 on)"
+        1, // "13 SceneLearningModeEnable (0, 1)"
+        0, // "14-15 zero"
+        0,
     ];
-    for (octet, most) in highest {
-        if octets[octet] > most {
-            return Some(octet as u16);
+    for (octet, most) in highest.iter().enumerate() {
+        if rest[octet] > *most {
+            return Some(octet);
         }
     }
     for entry in 0..8 {
-        let at = 16 + 2 * entry;
-        let (number, flags) = (octets[at], octets[at + 1]);
+        let at = SCENES_AT + 2 * entry;
+        let (number, flags) = (rest[at], rest[at + 1]);
         let used = number != UNUSED;
         // "number (0 to 63, or 255 for unused)"
         if used && number > 63 {
-            return Some(at as u16);
+            return Some(at);
         }
         // "Used numbers are distinct."
-        let repeated = (0..entry).any(|earlier| octets[16 + 2 * earlier] == number);
+        let repeated = (0..entry).any(|earlier| rest[SCENES_AT + 2 * earlier] == number);
         if used && repeated {
-            return Some(at as u16);
+            return Some(at);
         }
         // "flags (bit 0 value, bit 1 taught in, others zero). Unused entries have flags 0."
         if flags > 3 || (!used && flags != 0) {
-            return Some(at as u16 + 1);
+            return Some(at + 1);
         }
     }
     None
@@ -333,7 +404,7 @@ fn at_deadline(state: &State, d: u32) -> Phase {
         // "At its deadline d: Timed until d+TimedOn if it is timed or night is then on, else Lit."
         Phase::Starting { timed, .. } => {
             if timed || state.night {
-                Phase::Timed { deadline: after(d, p.timed_on) }
+                Phase::Timed { deadline: d + p.timed_on }
             } else {
                 Phase::Lit
             }
@@ -343,7 +414,7 @@ fn at_deadline(state: &State, d: u32) -> Phase {
             if p.prewarning == 0 {
                 Phase::Dark
             } else {
-                Phase::Warning { deadline: after(d, p.prewarning) }
+                Phase::Warning { deadline: d + p.prewarning }
             }
         }
         // "Warning and Ending (on). At d: Dark."
@@ -365,7 +436,7 @@ fn set_off(state: &mut State) {
 /// An order changes its own flags first and calls this last.
 fn set_on(state: &mut State, t: u32) {
     state.phase = if state.night && !state.lock && state.force == Force::None {
-        Phase::Timed { deadline: after(t, state.params.timed_on) }
+        Phase::Timed { deadline: t + state.params.timed_on }
     } else {
         Phase::Lit
     };
@@ -445,15 +516,27 @@ pub(crate) fn take_input(
     if let Some(answer) = stopped(state, kind) {
         return answer;
     }
-    // the clock already reads t, so any difference below is "anything but the clock"
     let before = *state;
     act(state, input, t);
     write_change(status(&before), state, t, kind, tape);
-    if *state != before {
+    if changed(&before, state) {
         0
     } else {
         1
     }
+}
+
+/// "anything but the clock changed": all fields but the clock, and the parameters, which no input
+/// changes.
+fn changed(before: &State, now: &State) -> bool {
+    before.phase != now.phase
+        || before.night != now.night
+        || before.lock != now.lock
+        || before.force != now.force
+        || before.link != now.link
+        || before.output_at_locking != now.output_at_locking
+        || before.output_at_power_failure != now.output_at_power_failure
+        || before.scenes != now.scenes
 }
 
 // ================================================================================================
@@ -489,9 +572,9 @@ fn on(state: &mut State, t: u32) {
         // Starting, steady, until t+OnDelay."
         Phase::Dark => {
             state.phase = if p.on_delay != 0 {
-                Phase::Starting { timed: false, deadline: after(t, p.on_delay) }
+                Phase::Starting { timed: false, deadline: t + p.on_delay }
             } else if state.night {
-                Phase::Timed { deadline: after(t, p.timed_on) }
+                Phase::Timed { deadline: t + p.timed_on }
             } else {
                 Phase::Lit
             }
@@ -513,22 +596,22 @@ fn timed_start(state: &mut State, t: u32) {
         // "Timed start: the same from Dark and Starting but timed"
         Phase::Dark => {
             if p.on_delay != 0 {
-                Phase::Starting { timed: true, deadline: after(t, p.on_delay) }
+                Phase::Starting { timed: true, deadline: t + p.on_delay }
             } else {
-                Phase::Timed { deadline: after(t, p.timed_on) }
+                Phase::Timed { deadline: t + p.timed_on }
             }
         }
         Phase::Starting { deadline, .. } => Phase::Starting { timed: true, deadline },
         // "every lit phase becomes Timed until t+TimedOn."
         Phase::Lit | Phase::Timed { .. } | Phase::Warning { .. } | Phase::Ending { .. } => {
-            Phase::Timed { deadline: after(t, p.timed_on) }
+            Phase::Timed { deadline: t + p.timed_on }
         }
     };
 }
 
 fn off(state: &mut State, t: u32) {
     let p = state.params;
-    let t_plus_off_delay = after(t, p.off_delay);
+    let t_plus_off_delay = t + p.off_delay;
     state.phase = match state.phase {
         // "Off: Dark stays; Starting becomes Dark."
         Phase::Dark => Phase::Dark,
@@ -539,7 +622,7 @@ fn off(state: &mut State, t: u32) {
         Phase::Lit => Phase::Ending { deadline: t_plus_off_delay },
         // "Timed with deadline d: Ending until the earlier of t+OffDelay and d+Prewarning."
         Phase::Timed { deadline: d } => {
-            Phase::Ending { deadline: min(t_plus_off_delay, after(d, p.prewarning)) }
+            Phase::Ending { deadline: min(t_plus_off_delay, d + p.prewarning) }
         }
         // "Warning or Ending: Ending until the earlier of t+OffDelay and d."
         Phase::Warning { deadline: d } | Phase::Ending { deadline: d } => {
@@ -593,10 +676,10 @@ fn night_1(state: &mut State, t: u32) {
     state.night = true;
     state.phase = match state.phase {
         // "Lit becomes Timed until t+TimedOn;"
-        Phase::Lit => Phase::Timed { deadline: after(t, p.timed_on) },
+        Phase::Lit => Phase::Timed { deadline: t + p.timed_on },
         // "Ending until the earlier of d and t+TimedOn+Prewarning."
         Phase::Ending { deadline: d } => {
-            Phase::Ending { deadline: min(d, after(after(t, p.timed_on), p.prewarning)) }
+            Phase::Ending { deadline: min(d, t + p.timed_on + p.prewarning) }
         }
         other => other,
     };
@@ -976,16 +1059,15 @@ pub fn clock_move(state: &State, stamp: u32) -> Move {
 
 /// "Parameters alone give the fresh state." With it code and place.
 pub fn fresh(parameters: &[u8]) -> (State, u8, u16) {
-    // "1 | ... parameters offered alone not 32 | 0"
-    if parameters.len() != PARAMETERS {
-        return (state_of_a_refusal(), 1, 0);
+    // "1 | ... parameters offered alone not 32 | 0", nor 40
+    let accepted = match Version::of_parameters(parameters.len()) {
+        Some(version) => accept_parameters(version, parameters),
+        None => refuse(1, 0),
+    };
+    match accepted {
+        Err(refusal) => (state_of_a_refusal(), refusal.code, refusal.place),
+        Ok(state) => (state, 0, 0),
     }
-    // "5 | parameter out of range | lowest bad octet in 0-31"
-    if let Some(octet) = lowest_bad_octet(parameters) {
-        return (state_of_a_refusal(), 5, octet);
-    }
-    let (params, scenes) = decode_parameters(parameters);
-    (fresh_state(params, scenes), 0, 0)
 }
 
 /// "The print program reads a file on standard input." Its buffers are never too short.
@@ -1049,12 +1131,17 @@ fn accept(file: &[u8], records_len: usize, answers_len: usize) -> Result<Cues<'_
 /// Refusals 1 to 5; the inputs are not looked at.
 pub(crate) fn accept_header_and_parameters(file: &[u8]) -> Result<Cues<'_>, Refusal> {
     // "1 | file under 52 octets"
-    if file.len() < HEADER + PARAMETERS {
+    if file.len() < LEAST_FILE {
         return refuse(1, 0);
     }
-    // "2 | version not 1": "0-1 version (1)"
-    if u16_at(file, 0) != 1 {
-        return refuse(2, 0);
+    // "2 now means neither version" (document 02): "0-1 version"
+    let version = match Version::of(u16_at(file, 0)) {
+        Some(version) => version,
+        None => return refuse(2, 0),
+    };
+    // "a version 2 file under 60 then gets 1" (document 02)
+    if file.len() < version.inputs_at() {
+        return refuse(1, 0);
     }
     // "3 | actuator count not 1": "2-3 count of actuators (1)"
     if u16_at(file, 2) != 1 {
@@ -1062,26 +1149,30 @@ pub(crate) fn accept_header_and_parameters(file: &[u8]) -> Result<Cues<'_>, Refu
     }
     // "4 | an offset, n, the length or the end time is not as above": "4-7 offset of parameters
     // (20); 8-11 count n of inputs (0 to 2,048); 12-15 offset of inputs (52); 16-19 end time (at
-    // most 864,000). The file is exactly 52+8n octets."
-    let offset_of_parameters = u32_at(file, 4);
-    let n = u32_at(file, 8);
-    let offset_of_inputs = u32_at(file, 12);
-    let end_time = u32_at(file, 16);
-    if offset_of_parameters != 20
+    // most 864,000). The file is exactly 52+8n octets."; "1, 4 and 5 use the version's sizes"
+    // (document 02)
+    let (parameters_at, n) = (u32_at(file, 4), u32_at(file, 8));
+    let (inputs_at, end_time) = (u32_at(file, 12), u32_at(file, 16));
+    if parameters_at as usize != HEADER
         || n > MOST_INPUTS
-        || offset_of_inputs != 52
+        || inputs_at as usize != version.inputs_at()
         || end_time > LAST_STAMP
-        || file.len() != 52 + 8 * n as usize
+        || file.len() != version.inputs_at() + INPUT * n as usize
     {
         return refuse(4, 0);
     }
-    let (parameters, inputs) = file[HEADER..].split_at(PARAMETERS);
-    // "5 | parameter out of range | lowest bad octet in 0-31"
-    if let Some(octet) = lowest_bad_octet(parameters) {
-        return refuse(5, octet);
+    let (parameters, inputs) = file[HEADER..].split_at(version.parameters);
+    Ok(Cues { fresh: accept_parameters(version, parameters)?, inputs, end_time })
+}
+
+/// "5 | parameter out of range"; otherwise the fresh state.
+fn accept_parameters(version: &Version, octets: &[u8]) -> Result<State, Refusal> {
+    let (times, rest) = times_and_rest(version, octets);
+    if let Some(octet) = lowest_bad_octet(version, &times, rest) {
+        return refuse(5, octet as u16);
     }
-    let (params, scenes) = decode_parameters(parameters);
-    Ok(Cues { fresh: fresh_state(params, scenes), inputs, end_time })
+    let (params, scenes) = decode_parameters(version, times, rest);
+    Ok(fresh_state(params, scenes))
 }
 
 /// "then the first bad input, 6 before 7"
@@ -1122,12 +1213,13 @@ pub(crate) fn stamp_refused(stamp: u32, lowest: u32, highest: u32) -> bool {
 }
 
 /// "Where no state was handed in, a refusal's state is the fresh one with TimedOn 1 second, other
-/// times and modes 0, no scenes."
+/// times and modes 0, no scenes."; "(1 in a refusal's own state)" is its version (document 02).
 pub fn state_of_a_refusal() -> State {
     let params = Params {
+        version: 1,
         on_delay: 0,
         off_delay: 0,
-        timed_on: 1,
+        timed_on: 10,
         prewarning: 0,
         behaviour_at_locking: 0,
         behaviour_at_unlocking: 0,
@@ -1143,8 +1235,12 @@ pub fn state_of_a_refusal() -> State {
 pub fn sound(state: &State) -> bool {
     let lock_or_force = state.lock || state.force != Force::None;
 
-    // "its parameters and scenes are in range,"
-    let in_range = lowest_bad_octet(&parameter_octets(&state.params, &state.scenes)).is_none();
+    // "its parameters and scenes are in range," by the version that it keeps, and of no other
+    let p = &state.params;
+    let times = [p.on_delay, p.off_delay, p.timed_on, p.prewarning];
+    let rest = rest_of(p, &state.scenes);
+    let in_range = Version::of(p.version.into())
+        .map_or(false, |version| lowest_bad_octet(version, &times, &rest).is_none());
 
     // "the clock is at most 864,000,"
     let clock_good = state.clock <= LAST_STAMP;

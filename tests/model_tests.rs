@@ -1,4 +1,5 @@
-//! Tests of the independent model, each group under the section of document 01 it follows.
+//! Tests of the independent model, each group under the section of document 01 it follows, and those
+//! of document 02, request 2, under that request.
 //!
 //!     rustc --edition 2021 --test -O model_tests.rs -o t && ./t
 #[path = "model.rs"]
@@ -63,8 +64,7 @@ fn printout_of_a_refused_file() {
 fn a() {
     let f = file(&worked(), 1000, &[(0, ON_OFF, 1)]);
     expect(&f, &[(20, 255, 1, 0)], &[0]);
-    let (fresh, _, _) = fresh(&f[20..52]);
-    let state = single(&fresh, &input((0, ON_OFF, 1))).state;
+    let state = single(&actuator(&worked()), &input((0, ON_OFF, 1))).state;
     let at_19 = clock_move(&state, 19).state;
     let at_20 = clock_move(&at_19, 20).state;
     assert!(!output(&at_19) && output(&at_20));
@@ -128,7 +128,7 @@ fn j() {
 
 #[test]
 fn run_only_night_shortens_a_long_off_delay() {
-    let params = Params { off_delay: 600, ..worked() };
+    let params = Params { off_delay: 6_000, ..worked() };
     let f = file(&params, 10_000, &[(0, ON_OFF, 1), (100, ON_OFF, 0), (200, NIGHT, 1)]);
     expect(&f, &[(20, 255, 1, 0), (200, 255, 9, 6), (900, 0, 9, 0)], &[0, 0, 0]);
 }
@@ -187,8 +187,7 @@ fn ties_run_in_list_order_after_due_timers() {
 
 #[test]
 fn a_stopped_input_still_moves_the_clock() {
-    let base = fresh(&parameter_octets(&worked(), &no_scenes())).0;
-    let state = single(&base, &input((0, TIMED, 1))).state;
+    let state = single(&actuator(&worked()), &input((0, TIMED, 1))).state;
     let state = single(&state, &input((0, BUS, 0))).state;
     let stopped = single(&state, &input((800, ON_OFF, 1)));
     assert_eq!(stopped.answer, 4);
@@ -200,12 +199,10 @@ fn a_stopped_input_still_moves_the_clock() {
 // What each order does, phase by phase
 // ================================================================================================
 
-/// OnDelay 20, OffDelay 30, TimedOn 40, Prewarning 50: with t = 1100 below, t+OnDelay is 1300,
+/// OnDelay 20, OffDelay 30, TimedOn 40, Prewarning 50 seconds: with t = 1100 below, t+OnDelay is 1300,
 /// t+OffDelay 1400, t+TimedOn 1500, t+TimedOn+Prewarning 2000.
 fn table() -> State {
-    let mut state = fresh(&parameter_octets(&delays(20, 30, 40, 50), &no_scenes())).0;
-    state.clock = 1000;
-    state
+    State { clock: 1000, ..actuator(&delays(20, 30, 40, 50)) }
 }
 
 fn steady(deadline: u32) -> Phase {
@@ -330,7 +327,7 @@ fn order_off() {
     ];
     phases(&table(), ON_OFF, 0, &far);
     let mut state = table();
-    state.params.prewarning = 10;
+    state.params.prewarning = 100;
     phases(&state, ON_OFF, 0, &[(timed(1150), ending(1250)), (timed(1350), ending(1400))]);
     state.params.prewarning = 0;
     phases(&state, ON_OFF, 0, &[(timed(1150), ending(1150)), (timed(1450), ending(1400))]);
@@ -705,14 +702,9 @@ fn refused(file: &[u8], code: u8, place: u16) {
     assert_eq!(print(file), format!("NO {} {}\n", code, place));
 }
 
-fn with(file: &[u8], octet: usize, value: u8) -> Vec<u8> {
-    let mut file = file.to_vec();
-    file[octet] = value;
-    file
-}
-
-fn good() -> Vec<u8> {
-    file(&worked(), 1000, &[(10, ON_OFF, 1), (20, ON_OFF, 0), (20, NIGHT, 1)])
+fn good(version: u8) -> Vec<u8> {
+    let cues = [(10, ON_OFF, 1), (20, ON_OFF, 0), (20, NIGHT, 1)];
+    file(&in_version(version, &worked()), 1000, &cues)
 }
 
 #[test]
@@ -729,150 +721,178 @@ fn the_state_of_a_refusal() {
 
 #[test]
 fn refusal_1() {
-    let good = good();
-    for length in 0..52 {
-        refused(&good[..length], 1, 0);
+    for version in VERSIONS {
+        let good = good(version);
+        for length in 0..52 {
+            refused(&good[..length], 1, 0);
+        }
     }
     refused(&[0xFF; 51], 1, 0);
-    for length in [0, 1, 31, 33, 64] {
+    for length in [0, 1, 31, 33, 39, 41, 64] {
         assert_eq!(fresh(&vec![0; length]), (state_of_a_refusal(), 1, 0));
     }
 }
 
 #[test]
 fn refusals_2_and_3() {
-    let good = good();
-    refused(&with(&good, 1, 0), 2, 0);
-    refused(&with(&good, 1, 2), 2, 0);
-    refused(&with(&good, 0, 1), 2, 0);
-    refused(&with(&good, 3, 0), 3, 0);
-    refused(&with(&good, 3, 2), 3, 0);
-    refused(&with(&good, 2, 1), 3, 0);
-    refused(&with(&with(&good, 3, 2), 1, 2), 2, 0);
-    refused(&with(&with(&good, 3, 2), 7, 21), 3, 0);
+    for version in VERSIONS {
+        let good = good(version);
+        for other in [0, 3, 255] {
+            refused(&with(&good, 1, other), 2, 0);
+        }
+        refused(&with(&good, 0, 1), 2, 0);
+        for count in [0, 2, 255] {
+            refused(&with(&good, 3, count), 3, 0);
+        }
+        refused(&with(&good, 2, 1), 3, 0);
+        refused(&with(&with(&good, 3, 2), 1, 3), 2, 0);
+        refused(&with(&with(&good, 3, 2), 7, 21), 3, 0);
+    }
 }
 
 #[test]
 fn refusal_4() {
-    let good = good();
-    for octet in 4..16 {
-        refused(&with(&good, octet, good[octet] ^ 1), 4, 0);
-        refused(&with(&good, octet, good[octet] ^ 0x80), 4, 0);
+    for version in VERSIONS {
+        let good = good(version);
+        for octet in 4..16 {
+            refused(&with(&good, octet, good[octet] ^ 1), 4, 0);
+            refused(&with(&good, octet, good[octet] ^ 0x80), 4, 0);
+        }
+        refused(&with(&good, 16, 1), 4, 0);
+        refused(&good[..good.len() - 1], 4, 0);
+        refused(&good[..inputs_at(&good)], 4, 0);
+        refused(&resized(&good, good.len() + 1), 4, 0);
+        let worked = in_version(version, &worked());
+        refused(&file(&worked, 864_001, &[]), 4, 0);
+        assert_eq!(run_all(&file(&worked, 864_000, &[])).code, 0);
+        assert_eq!(run_all(&file(&worked, 10, &[(1, ON_OFF, 1); 2048])).code, 0);
+        refused(&file(&worked, 10, &[(1, ON_OFF, 1); 2049]), 4, 0);
+        // before 5
+        refused(&with(&with(&good, 7, 21), inputs_at(&good) - 1, 9), 4, 0);
     }
-    refused(&with(&good, 16, 1), 4, 0);
-    refused(&good[..good.len() - 1], 4, 0);
-    refused(&good[..52], 4, 0);
-    let mut longer = good.clone();
-    longer.push(0);
-    refused(&longer, 4, 0);
-    refused(&file(&worked(), 864_001, &[]), 4, 0);
-    assert_eq!(run_all(&file(&worked(), 864_000, &[])).code, 0);
-    assert_eq!(run_all(&file(&worked(), 10, &[(1, ON_OFF, 1); 2048])).code, 0);
-    refused(&file(&worked(), 10, &[(1, ON_OFF, 1); 2049]), 4, 0);
-    // before 5
-    refused(&with(&with(&good, 7, 21), 28, 9), 4, 0);
 }
 
-fn bad_parameters(octets: &[u8; 32], place: u16) {
+fn bad_parameters(version: u8, octets: &[u8], place: usize) {
+    let place = place as u16;
     assert_eq!(fresh(octets), (state_of_a_refusal(), 5, place));
-    refused(&file_of(octets, 1000, &[]), 5, place);
+    refused(&file_of(version, octets, 1000, &[]), 5, place);
     // before 6 and 7
-    refused(&file_of(octets, 1000, &[(2000, 9, 9)]), 5, place);
+    refused(&file_of(version, octets, 1000, &[(2000, 9, 9)]), 5, place);
+}
+
+/// The parameters of the worked cases, and the octet at which their modes start.
+fn worked_octets(version: u8) -> (Vec<u8>, usize) {
+    (
+        parameter_octets(&in_version(version, &worked()), &no_scenes()),
+        [8, 16][usize::from(version) - 1],
+    )
 }
 
 #[test]
-fn refusal_5() {
-    let good = parameter_octets(&worked(), &no_scenes());
-    let changed = |octet: usize, value: u8| {
-        let mut octets = good;
-        octets[octet] = value;
-        octets
-    };
-    // the four durations
+fn refusal_5_the_times_of_version_1_are_any_but_timed_on_0() {
+    let (good, _) = worked_octets(1);
     for octet in 0..8 {
-        assert_eq!(fresh(&changed(octet, 255)).1, 0);
+        assert_eq!(fresh(&with(&good, octet, 255)).1, 0);
     }
-    bad_parameters(&changed(5, 0), 4);
-    let mut second = changed(5, 0);
-    second[4] = 1;
-    assert_eq!(fresh(&second).1, 0);
-    // the modes and the zero octets
-    for (octet, most) in [(8, 2), (9, 3), (10, 2), (11, 2), (12, 2), (13, 1), (14, 0), (15, 0)] {
-        assert_eq!(fresh(&changed(octet, most)).1, 0);
-        bad_parameters(&changed(octet, most + 1), octet as u16);
-        bad_parameters(&changed(octet, 255), octet as u16);
+    bad_parameters(1, &with(&good, 5, 0), 4);
+    assert_eq!(fresh(&with(&with(&good, 5, 0), 4, 1)).1, 0);
+}
+
+#[test]
+fn refusal_5_the_modes_and_the_zero_octets() {
+    for version in VERSIONS {
+        let (good, modes) = worked_octets(version);
+        for (mode, most) in [2, 3, 2, 2, 2, 1, 0, 0].into_iter().enumerate() {
+            let octet = modes + mode;
+            assert_eq!(fresh(&with(&good, octet, most)).1, 0);
+            bad_parameters(version, &with(&good, octet, most + 1), octet);
+            bad_parameters(version, &with(&good, octet, 255), octet);
+        }
     }
-    // each scene entry: number and flags
-    for entry in 0..8 {
-        let at = 16 + 2 * entry;
-        for number in [0, 63] {
-            let mut octets = changed(at, number);
-            for flags in 0..=3 {
-                octets[at + 1] = flags;
-                assert_eq!(fresh(&octets).1, 0);
+}
+
+#[test]
+fn refusal_5_scenes() {
+    for version in VERSIONS {
+        let (good, modes) = worked_octets(version);
+        for entry in 0..8 {
+            let at = modes + 8 + 2 * entry;
+            for number in [0, 63] {
+                let used = with(&good, at, number);
+                for flags in 0..=3 {
+                    assert_eq!(fresh(&with(&used, at + 1, flags)).1, 0);
+                }
+                for flags in [4, 8, 128, 255] {
+                    bad_parameters(version, &with(&used, at + 1, flags), at + 1);
+                }
             }
-            for flags in [4, 8, 128, 255] {
-                octets[at + 1] = flags;
-                bad_parameters(&octets, at as u16 + 1);
+            for number in [64, 128, 254] {
+                bad_parameters(version, &with(&good, at, number), at);
+            }
+            // an unused entry with flags
+            for flags in [1, 2, 3, 4, 255] {
+                bad_parameters(version, &with(&good, at + 1, flags), at + 1);
+            }
+            // a repeated scene: the later entry's number
+            for earlier in (modes + 8..at).step_by(2) {
+                let twice = with(&with(&good, at, 9), earlier, 9);
+                bad_parameters(version, &twice, at);
+                bad_parameters(version, &with(&twice, at + 1, 3), at);
+                bad_parameters(version, &with(&twice, earlier + 1, 4), earlier + 1);
             }
         }
-        for number in [64, 128, 254] {
-            bad_parameters(&changed(at, number), at as u16);
-        }
-        // an unused entry with flags
-        for flags in [1, 2, 3, 4, 255] {
-            bad_parameters(&changed(at + 1, flags), at as u16 + 1);
-        }
-        // a repeated scene: the later entry's number
-        for earlier in 0..entry {
-            let mut octets = changed(at, 9);
-            octets[16 + 2 * earlier] = 9;
-            bad_parameters(&octets, at as u16);
-            octets[at + 1] = 3;
-            bad_parameters(&octets, at as u16);
-            octets[17 + 2 * earlier] = 4;
-            bad_parameters(&octets, 17 + 2 * earlier as u16);
-        }
     }
-    // the lowest of several
-    let mut octets = changed(5, 0);
-    octets[8] = 3;
-    octets[31] = 1;
-    bad_parameters(&octets, 4);
-    octets[5] = 1;
-    bad_parameters(&octets, 8);
-    octets[8] = 0;
-    bad_parameters(&octets, 31);
+}
+
+#[test]
+fn refusal_5_the_lowest_of_several() {
+    for version in VERSIONS {
+        let (good, modes) = worked_octets(version);
+        let last = good.len() - 1;
+        let scene = with(&good, last, 1);
+        bad_parameters(version, &scene, last);
+        let locking = with(&scene, modes, 3);
+        bad_parameters(version, &locking, modes);
+        // TimedOn 0
+        let mut times = locking;
+        times[modes / 2..3 * modes / 4].fill(0);
+        bad_parameters(version, &times, modes / 2);
+    }
 }
 
 #[test]
 fn refusal_6_every_kind_and_value() {
-    let base = fresh(&parameter_octets(&worked(), &no_scenes())).0;
-    for kind in 0..=255 {
-        for value in 0..=255 {
-            let good = match kind {
-                1 | 2 | 5 | 6 | 7 | 8 => value <= 1,
-                3 => value & 0x40 == 0,
-                4 => value <= 3,
-                _ => false,
-            };
-            let code = if good { 0 } else { 6 };
-            let got = single(&base, &input((0, kind, value)));
-            assert_eq!((got.code, got.place), (code, 0));
-            let f = file(&worked(), 1000, &[(0, 1, 1), (0, kind, value)]);
-            let got = run_all(&f);
-            assert_eq!((got.code, got.place), (code, u16::from(!good)));
+    for params in VERSIONS.map(|version| in_version(version, &worked())) {
+        for kind in 0..=255 {
+            for value in 0..=255 {
+                let good = match kind {
+                    1 | 2 | 5 | 6 | 7 | 8 => value <= 1,
+                    3 => value & 0x40 == 0,
+                    4 => value <= 3,
+                    _ => false,
+                };
+                let code = if good { 0 } else { 6 };
+                let got = single(&actuator(&params), &input((0, kind, value)));
+                assert_eq!((got.code, got.place), (code, 0));
+                let got = run_all(&file(&params, 1000, &[(0, 1, 1), (0, kind, value)]));
+                assert_eq!((got.code, got.place), (code, u16::from(!good)));
+            }
         }
     }
-    let good = good();
-    for index in 0..3 {
+}
+
+#[test]
+fn refusal_6_the_zero_octets() {
+    for version in VERSIONS {
+        let (good, state) = (good(version), actuator(&in_version(version, &worked())));
         for octet in [6, 7] {
             for value in [1, 128] {
-                let at = 52 + 8 * index + octet;
-                refused(&with(&good, at, value), 6, index as u16);
-                let mut octets = input((0, 1, 1));
-                octets[octet] = value;
-                assert_eq!(single(&base, &octets).code, 6);
+                for index in 0..3 {
+                    let at = inputs_at(&good) + 8 * index + octet;
+                    refused(&with(&good, at, value), 6, index as u16);
+                }
+                let octets = with(&input((0, 1, 1)), octet, value).try_into().unwrap();
+                assert_eq!(single(&state, &octets).code, 6);
             }
         }
     }
@@ -1104,13 +1124,17 @@ impl Dice {
     }
 }
 
+/// Times below so many seconds, in whole ones or in tenths, by the version.
 fn any_params(dice: &mut Dice) -> Params {
-    let most = [3, 8, 60][dice.below(3) as usize];
+    let version = VERSIONS[dice.below(2) as usize];
+    let unit = [10, 1][usize::from(version) - 1];
+    let most = [3, 8, 60][dice.below(3) as usize] * 10 / unit;
     Params {
-        on_delay: dice.below(most) as u16,
-        off_delay: dice.below(2 * most) as u16,
-        timed_on: 1 + dice.below(most) as u16,
-        prewarning: dice.below(most) as u16,
+        version,
+        on_delay: unit * dice.below(most),
+        off_delay: unit * dice.below(2 * most),
+        timed_on: unit * (1 + dice.below(most)),
+        prewarning: unit * dice.below(most),
         behaviour_at_locking: dice.below(3) as u8,
         behaviour_at_unlocking: dice.below(4) as u8,
         bus_failure_mode: dice.below(3) as u8,
@@ -1155,14 +1179,14 @@ fn any_cues(dice: &mut Dice) -> Vec<Cue> {
     cues
 }
 
-/// A good file, with its parameters' octets.
+/// A good file of either version, with what it is made of.
 fn any_file(dice: &mut Dice) -> (Params, Vec<Cue>, u32, Vec<u8>) {
     let params = any_params(dice);
     let scenes = any_scenes(dice);
     let cues = any_cues(dice);
     let last = cues.last().map_or(0, |cue| cue.0);
     let end = last + if dice.chance(4) { 0 } else { dice.below(3000) };
-    let file = file_of(&parameter_octets(&params, &scenes), end, &cues);
+    let file = file_of(params.version, &parameter_octets(&params, &scenes), end, &cues);
     (params, cues, end, file)
 }
 
@@ -1220,7 +1244,7 @@ fn run_into_equals_run() {
         assert_eq!(records, wanted_records);
         assert_eq!(answers, wanted_answers);
         if run.code == 0 {
-            assert_eq!(run.answers.len(), (file.len() - 52) / 8);
+            assert_eq!(run.answers.len(), (file.len() - inputs_at(&file)) / 8);
             assert!(run.records.len() <= 3 * run.answers.len() + 3);
         }
     }
@@ -1236,7 +1260,7 @@ fn run_equals_single_inputs_and_a_clock_move() {
         let (_, cues, end, file) = any_file(&mut dice);
         let run = run_all(&file);
         assert_eq!(run.code, 0);
-        let (mut state, code, _) = fresh(&file[20..52]);
+        let (mut state, code, _) = fresh(parameters_in(&file));
         assert_eq!(code, 0);
         let mut records = vec![record((0, 0, 1, 0))];
         for (index, cue) in cues.iter().enumerate() {
@@ -1306,7 +1330,7 @@ struct Trace {
 }
 
 fn trace(file: &[u8], cues: &[Cue]) -> Trace {
-    let (fresh, _, _) = fresh(&file[20..52]);
+    let (fresh, _, _) = fresh(parameters_in(file));
     let mut state = fresh;
     let mut after_input = Vec::new();
     for cue in cues {
@@ -1348,7 +1372,7 @@ fn demand_3_light() {
             if asks(&trace, index, *cue) != Some(true) || run.answers[index] > 1 {
                 continue;
             }
-            let until = cue.0 + 10 * u32::from(params.on_delay);
+            let until = cue.0 + params.on_delay;
             let disturbed = (index + 1..cues.len()).any(|later| {
                 let other = cues[later];
                 other.0 < until
@@ -1378,10 +1402,7 @@ fn demand_3_dark() {
         let (params, cues, end, file) = any_file(&mut dice);
         let trace = trace(&file, &cues);
         let run = run_all(&file);
-        let l = 10
-            * (u32::from(params.on_delay)
-                + u32::from(params.timed_on)
-                + u32::from(params.prewarning));
+        let l = params.on_delay + params.timed_on + params.prewarning;
         // every stamp where the window can have just opened, and its neighbours
         let mut moments: Vec<u32> = cues.iter().flat_map(|c| [c.0, c.0 + l, c.0 + l + 1]).collect();
         moments.push(end);
@@ -1415,4 +1436,300 @@ fn demand_3_dark() {
         }
     }
     assert!(met > 1_000, "{}", met);
+}
+
+// ================================================================================================
+// Document 02, request 2: tenths in the delays
+// ================================================================================================
+
+/// A time in the octets of version 2.
+fn with_time(octets: &[u8], first: usize, tenths: u32) -> Vec<u8> {
+    let mut octets = octets.to_vec();
+    octets[first..first + 4].copy_from_slice(&tenths.to_be_bytes());
+    octets
+}
+
+/// The code and place of each length from 51 to 61 octets of a file without inputs, by cutting it or
+/// by zeros behind it.
+fn codes_by_length(file: &[u8]) -> Vec<(u8, u16)> {
+    let run = |length| run_all(&resized(file, length));
+    (51..=61).map(run).map(|run| (run.code, run.place)).collect()
+}
+
+#[test]
+fn a_prewarning_of_2_5_seconds_is_not_rounded() {
+    let cues = [(0, TIMED, 1)];
+    let f = file(&tenths(0, 0, 600, 25), 1000, &cues);
+    expect(&f, &[(0, 255, 17, 2), (625, 0, 1, 0)], &[0]);
+    let at = |end| run_all(&file(&tenths(0, 0, 600, 25), end, &cues)).end.phase;
+    assert_eq!(
+        [at(599), at(600), at(624), at(625)],
+        [timed(600), warning(625), warning(625), DARK]
+    );
+    // whole seconds would round it
+    for (seconds, dark) in [(2, 620), (3, 630)] {
+        let f = file(&delays(0, 0, 60, seconds), 1000, &cues);
+        expect(&f, &[(0, 255, 17, 2), (dark, 0, 1, 0)], &[0]);
+    }
+}
+
+#[test]
+fn every_time_counts_in_tenths() {
+    // OnDelay 7, OffDelay 13, TimedOn 61, Prewarning 25
+    let p = tenths(7, 13, 61, 25);
+    expect(&file(&p, 500, &[(0, ON_OFF, 1)]), &[(7, 255, 1, 0)], &[0]);
+    expect(&file(&p, 500, &[(0, ON_OFF, 1), (6, ON_OFF, 0)]), &[], &[0, 0]);
+    let f = file(&p, 500, &[(0, ON_OFF, 1), (7, ON_OFF, 0), (15, ON_OFF, 0)]);
+    expect(&f, &[(7, 255, 1, 0), (20, 0, 1, 0)], &[0, 0, 1]);
+    let f = file(&p, 500, &[(0, TIMED, 1)]);
+    expect(&f, &[(7, 255, 17, 0), (93, 0, 1, 0)], &[0]);
+    // the earlier of t+OffDelay and the lamp's own end, by a tenth
+    for (off, dark) in [(78, 91), (79, 92), (80, 93), (81, 93)] {
+        let f = file(&p, 500, &[(0, TIMED, 1), (off, ON_OFF, 0)]);
+        expect(&f, &[(7, 255, 17, 0), (off, 255, 1, 1), (dark, 0, 1, 0)], &[0, 0]);
+    }
+    // night: Lit until t+TimedOn and its prewarning
+    let f = file(&p, 500, &[(0, ON_OFF, 1), (100, NIGHT, 1)]);
+    expect(&f, &[(7, 255, 1, 0), (100, 255, 25, 6), (186, 0, 9, 0)], &[0, 0]);
+    // the shortest: one tenth
+    let f = file(&tenths(1, 1, 1, 1), 500, &[(0, TIMED, 1), (10, ON_OFF, 1), (12, ON_OFF, 0)]);
+    expect(&f, &[(1, 255, 17, 0), (3, 0, 1, 0), (11, 255, 1, 0), (13, 0, 1, 0)], &[0, 0, 0]);
+}
+
+#[test]
+fn reading_2_1_the_rest_follows_the_times() {
+    let mut octets = vec![0, 0, 1, 2, 0, 0, 3, 4, 0, 0, 5, 6, 0, 0, 7, 8];
+    octets.extend([2, 3, 1, 2, 1, 1, 0, 0]);
+    octets.extend([10, 0, 11, 1, 12, 2, 13, 3, 14, 0, 15, 1, 16, 2, 255, 0]);
+    let (state, code, _) = fresh(&octets);
+    let wanted = Params {
+        version: 2,
+        on_delay: 0x0102,
+        off_delay: 0x0304,
+        timed_on: 0x0506,
+        prewarning: 0x0708,
+        behaviour_at_locking: 2,
+        behaviour_at_unlocking: 3,
+        bus_failure_mode: 1,
+        bus_return_mode: 2,
+        power_return_mode: 1,
+        scene_learning_mode_enable: 1,
+    };
+    assert_eq!((code, state.params), (0, wanted));
+    assert_eq!(state.scenes[0], Scene { number: 10, flags: 0 });
+    assert_eq!(state.scenes[6], Scene { number: 16, flags: 2 });
+    assert_eq!(state.scenes[7], Scene { number: 255, flags: 0 });
+    // BehaviourAtLocking 3
+    bad_parameters(2, &with(&octets, 16, 3), 16);
+}
+
+#[test]
+fn reading_2_2_version_2_under_60_comes_before_the_count_of_actuators() {
+    let two_actuators = with(&file(&tenths(0, 0, 1, 0), 10, &[]), 3, 2);
+    refused(&two_actuators[..55], 1, 0);
+    refused(&two_actuators, 3, 0);
+    // and after another version
+    refused(&with(&two_actuators, 1, 3)[..55], 2, 0);
+    refused(&two_actuators[..51], 1, 0);
+}
+
+#[test]
+fn reading_2_3_lengths_51_to_61_of_each_version() {
+    let empty = |version| file(&in_version(version, &worked()), 10, &[]);
+    let codes = |codes: [u8; 11]| codes.map(|code| (code, 0)).to_vec();
+    assert_eq!(codes_by_length(&empty(1)), codes([1, 0, 4, 4, 4, 4, 4, 4, 4, 4, 4]));
+    assert_eq!(codes_by_length(&empty(2)), codes([1, 1, 1, 1, 1, 1, 1, 1, 1, 0, 4]));
+    for version in [0, 3, 255] {
+        assert_eq!(codes_by_length(&empty(version)), codes([1, 2, 2, 2, 2, 2, 2, 2, 2, 2, 2]));
+    }
+    // one input more in the header: 60 octets of version 1 hold it
+    let one = |version| file(&in_version(version, &worked()), 10, &[(5, ON_OFF, 1)]);
+    assert_eq!(codes_by_length(&one(1)), codes([1, 4, 4, 4, 4, 4, 4, 4, 4, 0, 4]));
+    assert_eq!(codes_by_length(&one(2)), codes([1, 1, 1, 1, 1, 1, 1, 1, 1, 4, 4]));
+    // the version has two octets
+    let far = with(&empty(2), 0, 1);
+    assert_eq!(codes_by_length(&far), codes([1, 2, 2, 2, 2, 2, 2, 2, 2, 2, 2]));
+}
+
+#[test]
+fn reading_2_4_a_bad_time_is_at_its_first_octet() {
+    let good = parameter_octets(&tenths(1, 2, 3, 4), &no_scenes());
+    for first in [0, 4, 8, 12] {
+        for tenths in [655_351, 655_360, 0x0A_0000, 0x0100_0000, u32::MAX] {
+            bad_parameters(2, &with_time(&good, first, tenths), first);
+        }
+    }
+    bad_parameters(2, &with_time(&good, 8, 0), 8);
+    // the lowest of all bad
+    let off_delay = with_time(&with_time(&good, 8, 0), 4, 655_351);
+    bad_parameters(2, &off_delay, 4);
+    bad_parameters(2, &with_time(&off_delay, 0, u32::MAX), 0);
+    let prewarning = with_time(&with(&good, 16, 9), 12, 655_351);
+    bad_parameters(2, &prewarning, 12);
+}
+
+#[test]
+fn reading_2_5_sound_parameters_of_version_1_are_whole_seconds() {
+    let good = State { clock: 1000, ..actuator(&worked()) };
+    assert!(sound(&good));
+    for which in 0..4 {
+        let at = |tenths| with_state_time(&good, which, tenths);
+        for tenths in [10, 20, 650, 655_340, 655_350] {
+            assert!(sound(&at(tenths)));
+        }
+        for tenths in [1, 5, 9, 11, 15, 655_349, 655_351, 655_360, u32::MAX] {
+            unsound(at(tenths));
+        }
+        assert_eq!(sound(&at(0)), which != TIMED_ON);
+    }
+}
+
+#[test]
+fn reading_2_5_sound_parameters_of_version_2_are_any_tenths() {
+    let good = State { clock: 1000, ..actuator(&in_version(2, &worked())) };
+    assert!(sound(&good));
+    for which in 0..4 {
+        let at = |tenths| with_state_time(&good, which, tenths);
+        for tenths in [1, 5, 9, 10, 15, 655_349, 655_350] {
+            assert!(sound(&at(tenths)));
+        }
+        for tenths in [655_351, 655_360, u32::MAX] {
+            unsound(at(tenths));
+        }
+        assert_eq!(sound(&at(0)), which != TIMED_ON);
+    }
+    unsound(with_state_time(&good, TIMED_ON, 0));
+}
+
+#[test]
+fn reading_2_5_no_other_version_is_sound() {
+    let good = State { clock: 1000, ..actuator(&worked()) };
+    for version in 0..=255 {
+        let state = State { params: in_version(version, &good.params), ..good };
+        if VERSIONS.contains(&version) {
+            assert!(sound(&state));
+        } else {
+            unsound(state);
+        }
+    }
+}
+
+const TIMED_ON: usize = 2;
+
+/// A state with another OnDelay, OffDelay, TimedOn or Prewarning.
+fn with_state_time(state: &State, which: usize, tenths: u32) -> State {
+    let mut state = *state;
+    let p = &mut state.params;
+    let times = [&mut p.on_delay, &mut p.off_delay, &mut p.timed_on, &mut p.prewarning];
+    for (index, time) in times.into_iter().enumerate() {
+        if index == which {
+            *time = tenths;
+        }
+    }
+    state
+}
+
+#[test]
+fn reading_2_6_the_state_of_a_refusal_is_of_version_1() {
+    let (good, _) = worked_octets(2);
+    let (state, code, place) = fresh(&with(&good, 23, 1));
+    assert_eq!((state, code, place), (state_of_a_refusal(), 5, 23));
+    assert_eq!((state.params.version, state.params.timed_on), (1, 10));
+    let refused = run_all(&file(&tenths(0, 0, 1, 0), 10, &[(11, ON_OFF, 1)]));
+    assert_eq!((refused.code, refused.end), (7, state_of_a_refusal()));
+}
+
+#[test]
+fn reading_2_7_parameters_alone_have_32_or_40_octets() {
+    let (good, _) = worked_octets(2);
+    let (old, _) = worked_octets(1);
+    for length in [0, 31, 33, 39, 41, 64, 80] {
+        for octets in [&good, &old] {
+            let octets = resized(octets, length);
+            assert_eq!(fresh(&octets), (state_of_a_refusal(), 1, 0), "{}", length);
+        }
+    }
+    let (state, code, place) = fresh(&old);
+    assert_eq!((code, place, state.params), (0, 0, worked()));
+    let (state, code, place) = fresh(&good);
+    assert_eq!((code, place, state.params), (0, 0, in_version(2, &worked())));
+}
+
+#[test]
+fn reading_2_8_the_offset_of_inputs_is_the_versions_own() {
+    for (version, offset) in [(1, 60), (2, 52), (2, 61)] {
+        let empty = file(&in_version(version, &worked()), 10, &[]);
+        refused(&with(&empty, 15, offset), 4, 0);
+        // also where the file is as long as another version's
+        refused(&resized(&with(&empty, 15, offset), 60), 4, 0);
+    }
+}
+
+#[test]
+fn reading_2_9_single_inputs_and_clock_moves_keep_the_version() {
+    let mut dice = Dice(29);
+    for _ in 0..2_000 {
+        let (params, cues, end, file) = any_file(&mut dice);
+        let mut state = fresh(parameters_in(&file)).0;
+        for cue in &cues {
+            state = single(&state, &input(*cue)).state;
+            assert_eq!(state.params, params);
+        }
+        assert_eq!(clock_move(&state, end).state.params, params);
+        assert_eq!(run_all(&file).end.params, params);
+    }
+}
+
+#[test]
+fn reading_2_10_the_longest_file_of_version_2_has_16_444_octets() {
+    let longest = file(&tenths(0, 0, 1, 0), 10, &[(5, ON_OFF, 1); 2048]);
+    assert_eq!(longest.len(), 16_444);
+    assert!(print(&longest).starts_with("OK 2048\nR 0 0 1 0\n"));
+    refused(&resized(&longest, 16_445), 4, 0);
+    refused(&file(&tenths(0, 0, 1, 0), 10, &[(5, ON_OFF, 1); 2049]), 4, 0);
+}
+
+#[test]
+fn reading_2_11_a_time_reaches_655_350_tenths() {
+    let good = parameter_octets(&tenths(0, 0, 1, 0), &no_scenes());
+    for first in [0, 4, 8, 12] {
+        assert_eq!(fresh(&with_time(&good, first, 65_536)).1, 0);
+        assert_eq!(fresh(&with_time(&good, first, 655_350)).1, 0);
+    }
+    let longest = tenths(655_350, 655_350, 655_350, 655_350);
+    let run = run_all(&file(&longest, 864_000, &[(0, TIMED, 1), (864_000, ON_OFF, 0)]));
+    assert_eq!(run.records[1..], [record((655_350, 255, 17, 0)), record((864_000, 255, 1, 1))]);
+    assert_eq!(run.end.phase, ending(864_000 + 655_350));
+    assert!(sound(&run.end));
+}
+
+#[test]
+fn reading_2_12_room_and_printout_are_those_of_version_1() {
+    let cues = [(0, TIMED, 1), (700, ON_OFF, 1), (700, ON_OFF, 0)];
+    let f = file(&in_version(2, &delays(0, 0, 60, 10)), 1000, &cues);
+    assert_eq!(print(&f), print(&file(&delays(0, 0, 60, 10), 1000, &cues)));
+    assert_eq!(run(&f, 8 * 12, 3).code, 0);
+    assert_eq!(run(&f, 8 * 12 - 1, 3).code, 8);
+    assert_eq!(run(&f, 8 * 12, 2).code, 8);
+}
+
+#[test]
+fn the_same_times_give_the_same_in_either_version() {
+    let mut dice = Dice(212);
+    let mut met = 0;
+    for _ in 0..20_000 {
+        let (params, cues, end, file) = any_file(&mut dice);
+        if params.version != 1 {
+            continue;
+        }
+        let scenes = fresh(parameters_in(&file)).0.scenes;
+        let octets = parameter_octets(&in_version(2, &params), &scenes);
+        let (plain, new) = (run_all(&file), run_all(&file_of(2, &octets, end, &cues)));
+        assert_eq!(number(&plain), number(&new));
+        assert_eq!((&plain.records, &plain.answers), (&new.records, &new.answers));
+        assert_eq!(plain.records_before, new.records_before);
+        assert_eq!(State { params: in_version(2, &params), ..plain.end }, new.end);
+        met += 1;
+    }
+    assert!(met > 8_000, "{}", met);
 }

@@ -11,7 +11,7 @@ use crate::model::{
     accept_header_and_parameters, accept_inputs, accept_room, decode_input, line, most_records,
     move_clock, packed, print_records, record_of, refuse, sound, stamp_refused, state_of_a_refusal,
     take_input, u32_at, Cues, Input, LentTape, Record, Refusal, State, Tape, VecTape, CAUSE_START,
-    INPUT, LAST_STAMP,
+    INPUT, LAST_STAMP, LEAST_FILE,
 };
 
 // ================================================================================================
@@ -428,8 +428,9 @@ struct Wall<'a> {
 /// The refusals of the run over the list without its last four octets, and 11 "where 5 stands for
 /// the sensor's parameters": after 5 and before the inputs.
 fn accept_wall(wall: &[u8], records_len: usize, answers_len: usize) -> Result<Wall<'_>, Refusal> {
-    // document 01's "1 | file under 52 octets", and four more
-    if wall.len() < 52 + EDGES {
+    // document 01's "1 | file under 52 octets", and four more; that of a version which asks for more
+    // comes with the cue file's own refusals
+    if wall.len() < LEAST_FILE + EDGES {
         return refuse(1, 0);
     }
     let (file, actions) = wall.split_at(wall.len() - EDGES);

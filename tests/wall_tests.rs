@@ -1,5 +1,6 @@
 //! Tests of the independent model of the wall buttons: every reading of document 02, request 1, that
-//! a test can tell from the other way to read it; the refusals; and what holds of every wall list.
+//! a test can tell from the other way to read it; the refusals; the tenths of request 2; and what
+//! holds of every wall list.
 //!
 //!     rustc --edition 2021 --test -O wall_tests.rs -o t && ./t
 #[path = "model.rs"]
@@ -18,7 +19,7 @@ mod files;
 mod walls;
 
 use cases::*;
-use files::{CueFile, Rng};
+use files::{CueFile, Rng, LAYOUTS};
 use model::*;
 use wall::*;
 use walls::WallList;
@@ -81,10 +82,6 @@ fn expect(list: &[u8], records: &[(u32, u8, u8, u8)], sent: &[bool], answers: &[
 
 fn sensor(actions: &[u8; 4]) -> Sensor {
     fresh_sensor(actions).0
-}
-
-fn actuator(params: &Params) -> State {
-    fresh(&parameter_octets(params, &no_scenes())).0
 }
 
 // ================================================================================================
@@ -410,32 +407,33 @@ fn a_list_under_56_octets() {
 
 #[test]
 fn the_refusals_of_the_run_in_their_order() {
-    // what is wrong, worst last: each outranks those before it
-    let mut list = wall_list(&worked(), 10, &[press(3), press(2)], &TOGGLE);
-    let at_end = list.len() - 4;
-    refused(&list, 7, 1);
-    list[52 + 8 + 5] = 2;
-    refused(&list, 6, 1);
-    list[52 + 5] = 2;
-    refused(&list, 6, 0);
-    list[at_end + 3] = 4;
-    refused(&list, 11, 3);
-    list[at_end + 1] = 255;
-    refused(&list, 11, 1);
-    list[20 + 31] = 1;
-    refused(&list, 5, 31);
-    list[20 + 8] = 3;
-    refused(&list, 5, 8);
-    list[19] = 1;
-    list[18] = 0x2F;
-    list[17] = 0x0D;
-    refused(&list, 4, 0);
-    list[3] = 2;
-    refused(&list, 3, 0);
-    list[1] = 2;
-    refused(&list, 2, 0);
-    list.truncate(55);
-    refused(&list, 1, 0);
+    for version in VERSIONS {
+        // what is wrong, worst last: each outranks those before it
+        let params = in_version(version, &worked());
+        let mut list = wall_list(&params, 10, &[press(3), press(2)], &TOGGLE);
+        let (items, actions) = (inputs_at(&list), list.len() - 4);
+        refused(&list, 7, 1);
+        list[items + 8 + 5] = 2;
+        refused(&list, 6, 1);
+        list[items + 5] = 2;
+        refused(&list, 6, 0);
+        list[actions + 3] = 4;
+        refused(&list, 11, 3);
+        list[actions + 1] = 255;
+        refused(&list, 11, 1);
+        list[items - 1] = 1;
+        refused(&list, 5, items as u16 - 21);
+        list[items - 24] = 3;
+        refused(&list, 5, items as u16 - 44);
+        list[16..20].copy_from_slice(&(LAST_STAMP + 1).to_be_bytes());
+        refused(&list, 4, 0);
+        list[3] = 2;
+        refused(&list, 3, 0);
+        list[1] = 3;
+        refused(&list, 2, 0);
+        list.truncate(55);
+        refused(&list, 1, 0);
+    }
 }
 
 #[test]
@@ -458,28 +456,31 @@ fn the_length_is_56_and_8_for_each_item() {
 
 #[test]
 fn kinds_and_values_of_a_wall_list() {
-    for kind in 0..=255 {
-        for value in 0..=255 {
-            let good = match kind {
-                1 | 2 | 5 | 6 | 7 | 8 | 11 | 12 => value < 2,
-                3 => value & 0x40 == 0,
-                4 => value < 4,
-                _ => false,
-            };
-            let list = wall_list(&worked(), 10, &[(0, ON_OFF, 1), (5, kind, value)], &TOGGLE);
-            let run = wall_run(&list, 1000, 1000);
-            let wanted = if good { (0, 0) } else { (6, 1) };
-            assert_eq!((run.code, run.place), wanted, "kind {} value {}", kind, value);
+    for params in VERSIONS.map(|version| in_version(version, &worked())) {
+        for kind in 0..=255 {
+            for value in 0..=255 {
+                let good = match kind {
+                    1 | 2 | 5 | 6 | 7 | 8 | 11 | 12 => value < 2,
+                    3 => value & 0x40 == 0,
+                    4 => value < 4,
+                    _ => false,
+                };
+                let list = wall_list(&params, 10, &[(0, ON_OFF, 1), (5, kind, value)], &TOGGLE);
+                let run = wall_run(&list, 1000, 1000);
+                let wanted = if good { (0, 0) } else { (6, 1) };
+                assert_eq!((run.code, run.place), wanted, "kind {} value {}", kind, value);
+            }
         }
     }
 }
 
 #[test]
 fn zero_octets_of_a_wall_list() {
-    for at in [6, 7] {
-        let mut list = wall_list(&worked(), 10, &[(0, ON_OFF, 1), press(5)], &TOGGLE);
-        list[52 + 8 + at] = 1;
-        refused(&list, 6, 1);
+    for params in VERSIONS.map(|version| in_version(version, &worked())) {
+        let list = wall_list(&params, 10, &[(0, ON_OFF, 1), press(5)], &TOGGLE);
+        for octet in [6, 7] {
+            refused(&with(&list, inputs_at(&list) + 8 + octet, 1), 6, 1);
+        }
     }
 }
 
@@ -575,6 +576,100 @@ fn the_pair_refuses_9_then_6_then_7() {
 }
 
 // ================================================================================================
+// Tenths in the delays (request 2)
+// ================================================================================================
+
+#[test]
+fn lengths_55_to_65_of_each_version() {
+    let codes = |version: u8, items: &[Cue]| -> [u8; 11] {
+        let list = wall_list(&in_version(version, &worked()), 10, items, &TOGGLE);
+        [55, 56, 57, 58, 59, 60, 61, 62, 63, 64, 65].map(|length| {
+            let run = wall_run(&resized(&list, length), 1000, 1000);
+            assert_eq!(run.place, 0);
+            run.code
+        })
+    };
+    assert_eq!(codes(1, &[]), [1, 0, 4, 4, 4, 4, 4, 4, 4, 4, 4]);
+    assert_eq!(codes(1, &[press(5)]), [1, 4, 4, 4, 4, 4, 4, 4, 4, 0, 4]);
+    assert_eq!(codes(2, &[]), [1, 1, 1, 1, 1, 1, 1, 1, 1, 0, 4]);
+    assert_eq!(codes(2, &[press(5)]), [1, 1, 1, 1, 1, 1, 1, 1, 1, 4, 4]);
+    for version in [0, 3, 255] {
+        assert_eq!(codes(version, &[]), [1, 2, 2, 2, 2, 2, 2, 2, 2, 2, 2]);
+    }
+}
+
+#[test]
+fn version_2_under_64_octets_comes_before_the_actuators_and_the_actions() {
+    let list = with(&wall_list(&tenths(0, 0, 1, 0), 10, &[], &[4; 4]), 3, 2);
+    refused(&list[..63], 1, 0);
+    refused(&list, 3, 0);
+    refused(&with(&list, 3, 1), 11, 0);
+}
+
+#[test]
+fn a_time_out_of_range_comes_before_the_actions() {
+    for (time, params) in [
+        (0, tenths(655_351, 0, 1, 0)),
+        (4, tenths(0, 655_351, 0, 0)),
+        (8, tenths(0, 0, 0, 0)),
+        (8, tenths(0, 0, 655_351, 655_351)),
+        (12, tenths(0, 0, 1, u32::MAX)),
+    ] {
+        refused(&wall_list(&params, 10, &[press(11)], &[4; 4]), 5, time);
+    }
+}
+
+#[test]
+fn presses_meet_timers_to_the_tenth() {
+    // Warning at 605, dark at 630: a press in the tenth before finds the light on, one at it finds it out
+    for (stamp, sent) in [(629, OFF), (630, ON)] {
+        let items = [(5, TIMED, 1), press(stamp)];
+        let run = play(&wall_list(&tenths(0, 13, 600, 25), 1000, &items, &TOGGLE));
+        assert_eq!(sends(&run), [sent]);
+    }
+    // a toggle of a delay of 7 tenths, heard at its end
+    let items = [press(0), press(6), press(20), press(27)];
+    let list = wall_list(&tenths(7, 13, 1, 0), 100, &items, &TOGGLE);
+    expect(&list, &[(27, 255, 1, 0), (40, 0, 1, 0)], &[ON, OFF, ON, OFF], &[0, 0, 0, 0]);
+}
+
+#[test]
+fn the_pair_keeps_its_version_and_is_sound_by_it() {
+    let pair = |params: &Params| Pair { actuator: actuator(params), sensor: sensor(&TOGGLE) };
+    let new = pair(&tenths(7, 13, 61, 25));
+    let pressed = pair_single(&new, &input(press(3)));
+    assert_eq!((pressed.code, pressed.pair.actuator.params.version), (0, 2));
+    let moved = pair_clock_move(&pressed.pair, 500);
+    assert_eq!((moved.code, moved.pair.actuator.params), (0, new.actuator.params));
+    for version in [0, 1, 3, 255] {
+        let params = in_version(version, &new.actuator.params);
+        let other = Pair { actuator: State { params, ..new.actuator }, ..new };
+        assert!(!pair_sound(&other));
+        assert_eq!(pair_single(&other, &input(press(3))).code, 9);
+        assert_eq!(pair_clock_move(&other, 3).code, 9);
+    }
+}
+
+#[test]
+fn the_same_times_give_the_same_in_either_version() {
+    let mut rng = Rng::new(108);
+    for _ in 0..10_000 {
+        let n = files::length(&mut rng);
+        let [old, new] = &LAYOUTS;
+        let list = WallList::random_in(old, &mut rng, n);
+        let octets = list.octets();
+        let plain = play(&octets);
+        let twin = play(&WallList { cues: list.cues.in_version(new), ..list }.octets());
+        assert_eq!(wall_number(&plain), wall_number(&twin));
+        assert_eq!((&plain.records, &plain.answers), (&twin.records, &twin.answers));
+        assert_eq!((&plain.records_before, &plain.sends), (&twin.records_before, &twin.sends));
+        let params = in_version(2, &plain.end.actuator.params);
+        let actuator = State { params, ..plain.end.actuator };
+        assert_eq!(Pair { actuator, ..plain.end }, twin.end);
+    }
+}
+
+// ================================================================================================
 // What holds of every wall list
 // ================================================================================================
 
@@ -592,7 +687,7 @@ fn any_lists(seed: u64, count: usize, mut check: impl FnMut(&[u8])) {
 /// The items of an accepted list.
 fn items(list: &[u8]) -> Vec<[u8; 8]> {
     let octets = |item: &[u8]| <[u8; 8]>::try_from(item).unwrap();
-    list[52..list.len() - 4].chunks_exact(8).map(octets).collect()
+    list[inputs_at(list)..list.len() - 4].chunks_exact(8).map(octets).collect()
 }
 
 fn is_edge(item: &[u8; 8]) -> bool {
@@ -656,7 +751,7 @@ fn the_actuator_plays_the_telegrams() {
                 answers.push(run.answers[index]);
             }
         }
-        let mut file = list[..52].to_vec();
+        let mut file = list[..inputs_at(list)].to_vec();
         file[8..12].copy_from_slice(&(cues.len() as u32).to_be_bytes());
         file.extend(cues.concat());
         let plain = model::run(&file, usize::MAX, usize::MAX);
@@ -715,7 +810,7 @@ fn by_value_step_by_step_is_the_run() {
         }
         // the start record is heard, and changes nothing of a fresh sensor
         let mut pair = Pair {
-            actuator: fresh(&list[20..52]).0,
+            actuator: fresh(parameters_in(list)).0,
             sensor: fresh_sensor(&list[list.len() - 4..]).0,
         };
         let mut records = vec![record((0, 0, 1, 0))];
@@ -741,7 +836,8 @@ fn by_value_step_by_step_is_the_run() {
 fn lent_buffers_hold_what_the_run_gives() {
     let mut rng = Rng::new(105);
     any_lists(106, 20_000, |list| {
-        let n = (list.len().saturating_sub(56)) / 8;
+        let n = list.get(8..12).map_or(0, |n| u32::from_be_bytes(n.try_into().unwrap()));
+        let n = n.min(4096) as usize;
         let (room, places) = (8 * (3 * n + 3), n);
         let (room, places) = match rng.below(10) {
             0 => (room - 1, places),

@@ -2,7 +2,7 @@
 //! Shared by the tests and the bench.
 #![allow(dead_code)]
 
-use crate::files::{CueFile, Rng};
+use crate::files::{CueFile, Layout, Rng};
 
 /// A wall list: a cue file in which an input may also be an edge, then the four actions of the sensor.
 pub struct WallList {
@@ -16,16 +16,17 @@ pub const BUTTONS: [u8; 2] = [11, 12];
 /// Kinds that no wall list may have: the neighbours of the good ones, and the sensor's own status.
 const WRONG_KINDS: [u8; 6] = [0, 9, 10, 13, 14, 255];
 
-/// Short times in whole seconds, so that presses can be aimed at the timers that they start.
-fn short_times(rng: &mut Rng) -> [u8; 8] {
-    let mut time = |least: u64| -> u8 { least.max([0, 0, 1, 2, 5, 7][rng.below(6) as usize]) as u8 };
-    [0, time(0), 0, time(0), 0, time(1), 0, time(0)]
+/// Short times, so that presses can be aimed at the timers that they start; in tenths, of which a version may keep whole seconds.
+fn short_times(layout: &Layout, rng: &mut Rng) -> [u32; 4] {
+    [0, 0, layout.unit, 0].map(|least| {
+        let tenths = [0, 0, 10, 20, 50, 70][rng.below(6) as usize] + [0, 3, 5, 8][rng.below(4) as usize];
+        least.max(tenths - tenths % layout.unit)
+    })
 }
 
 /// How long after an input one of the timers is due that it may have started, in tenths.
-fn sums(parameters: &[u8; 32]) -> [u32; 6] {
-    let time = |at: usize| 10 * u32::from(u16::from_be_bytes([parameters[at], parameters[at + 1]]));
-    let (on, off, timed, prewarning) = (time(0), time(2), time(4), time(6));
+fn sums(times: &[u32; 4]) -> [u32; 6] {
+    let [on, off, timed, prewarning] = *times;
     [on, off, timed, on + timed, timed + prewarning, on + timed + prewarning]
 }
 
@@ -49,9 +50,16 @@ fn next_stamp(rng: &mut Rng, sums: &[u32; 6], stamps: &[u32]) -> u32 {
 }
 
 impl WallList {
-    /// A list of n items that is in order. Most lists have short times and aim at them; half are calm, with few locks, forces and cuts.
+    /// A list of n items that is in order, of any version. Most lists have short times and aim at them; half are calm, with few
+    /// locks, forces and cuts.
     pub fn random(rng: &mut Rng, n: usize) -> WallList {
-        let mut cues = CueFile::random(rng, n);
+        let layout = Layout::random(rng);
+        WallList::random_in(layout, rng, n)
+    }
+
+    /// The same, of this version.
+    pub fn random_in(layout: &'static Layout, rng: &mut Rng, n: usize) -> WallList {
+        let mut cues = CueFile::random_in(layout, rng, n);
         let calm = rng.chance(50);
         for input in &mut cues.inputs {
             let holds_up = matches!(input[4], 4 | 5 | 7 | 8);
@@ -112,8 +120,8 @@ impl WallList {
 
 /// Short times, and stamps at which timers are due; the end time too.
 fn aim(cues: &mut CueFile, rng: &mut Rng) {
-    cues.parameters[0..8].copy_from_slice(&short_times(rng));
-    let sums = sums(&cues.parameters);
+    cues.times = short_times(cues.layout, rng);
+    let sums = sums(&cues.times);
     let mut stamps = vec![if rng.chance(4) { 863_900 } else { 0 }];
     for input in &mut cues.inputs {
         let stamp = next_stamp(rng, &sums, &stamps);
