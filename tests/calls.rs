@@ -5,9 +5,10 @@
 //! bridge too; without it everything goes by the bridge.
 #![allow(dead_code)]
 
-use crate::files::Rng;
+use crate::files::{Rng, LAYOUTS};
 use crate::model::{record_octets, Record};
 use std::io::{BufReader, BufWriter, Read, Write};
+use std::ops::RangeInclusive;
 use std::process::{Child, ChildStdin, ChildStdout, Command, Stdio};
 
 /// What stands in the lent buffers before a call.
@@ -235,6 +236,63 @@ pub fn damaged(list: &[u8]) -> Vec<Vec<u8>> {
         }
     }
     lists
+}
+
+/// A list cut or prolonged with zeros to each of these lengths, by its own version and by one that nobody plays.
+pub fn of_lengths(list: &[u8], lengths: RangeInclusive<usize>) -> Vec<Vec<u8>> {
+    let mut unknown = list.to_vec();
+    unknown[0..2].copy_from_slice(&(LAYOUTS.len() as u16 + 1).to_be_bytes());
+    let resized = |length: usize| {
+        [list, &unknown].map(|list| {
+            let mut list = list.to_vec();
+            list.resize(length, 0);
+            list
+        })
+    };
+    lengths.flat_map(resized).collect()
+}
+
+/// How many lists met each code, by the version that their first two octets name: the played ones, then any other.
+pub struct Codes {
+    met: Vec<[u64; 12]>,
+}
+
+impl Codes {
+    pub fn new() -> Codes {
+        Codes { met: vec![[0; 12]; LAYOUTS.len() + 1] }
+    }
+
+    pub fn note(&mut self, list: &[u8], code: usize) {
+        let named = |version: u16| list.get(..2) == Some(&version.to_be_bytes());
+        let row = LAYOUTS.iter().position(|layout| named(layout.version)).unwrap_or(LAYOUTS.len());
+        self.met[row][code] += 1;
+    }
+
+    /// The rows by name, each with the codes that it can have: a version that is played has no 2, any other has 1 and 2.
+    fn rows<'a>(&'a self, codes: &'a [usize]) -> impl Iterator<Item = (String, Vec<usize>, &'a [u64; 12])> {
+        self.met.iter().enumerate().map(move |(row, met)| match LAYOUTS.get(row) {
+            Some(layout) => {
+                let possible = codes.iter().copied().filter(|&code| code != 2).collect();
+                (format!("version {}", layout.version), possible, met)
+            }
+            None => ("any other version".to_string(), vec![1, 2], met),
+        })
+    }
+
+    pub fn say(&self, codes: &[usize]) {
+        for (name, possible, met) in self.rows(codes) {
+            let refused: u64 = met[1..].iter().sum();
+            let by_code: Vec<(usize, u64)> = possible.into_iter().map(|code| (code, met[code])).collect();
+            println!("{}: {} accepted, {} refused; by code: {:?}", name, met[0], refused, by_code);
+        }
+    }
+
+    pub fn claim(&self, codes: &[usize], claims: &mut Claims) {
+        for (name, possible, met) in self.rows(codes) {
+            let as_possible = (0..met.len()).all(|code| possible.contains(&code) == (met[code] > 0));
+            claims.claim(&format!("{}: codes {:?} are met, and no other", name, possible), as_possible);
+        }
+    }
 }
 
 /// A number from the environment, or the default.

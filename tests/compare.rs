@@ -12,87 +12,100 @@ mod files;
 #[path = "calls.rs"]
 mod calls;
 
-use calls::{damaged, lent, number_named, Call, Case, Claims, Comparison, Outcome};
-use files::{CueFile, Rng};
+use calls::{damaged, lent, number_named, of_lengths, Call, Case, Claims, Codes, Comparison, Outcome};
+use files::{CueFile, Layout, Rng, LAYOUTS};
 
-/// What the second model says of a call.
-fn by_model(case: &Case) -> Outcome {
-    let run = model::run(&case.list, case.records_len, case.answers_len);
-    Outcome::of_model(case, model::number(&run), &run.records, &run.answers)
-}
+/// The codes that a cue file can have.
+const CODES: [usize; 9] = [0, 1, 2, 3, 4, 5, 6, 7, 8];
 
-/// Counts of what was met.
+/// The comparison, and counts of what was met.
 struct Tally {
-    files: u64,
-    codes: [u64; 9],
+    comparison: Comparison,
+    codes: Codes,
     answers: [u64; 6],
-    longest: usize,
+    longest: [usize; LAYOUTS.len()],
 }
 
 impl Tally {
-    fn note(&mut self, case: &Case, expected: &Outcome) {
-        self.files += 1;
-        self.codes[expected.code()] += 1;
+    /// A file, with buffers of some length.
+    fn check(&mut self, file: Vec<u8>, sample: bool, rng: &mut Rng) {
+        self.check_case(lent(Call::Run, file, rng), sample);
+    }
+
+    fn check_case(&mut self, case: Case, sample: bool) {
+        let run = model::run(&case.list, case.records_len, case.answers_len);
+        let expected = Outcome::of_model(&case, model::number(&run), &run.records, &run.answers);
+        self.codes.note(&case.list, expected.code());
+        for answer in &run.answers {
+            self.answers[usize::from(*answer)] += 1;
+        }
         if expected.code() == 0 {
-            let n = (case.list.len() - 52) / 8;
-            self.longest = self.longest.max(n);
-            for &answer in &expected.answers[..n] {
-                self.answers[answer as usize] += 1;
+            let longest = &mut self.longest[usize::from(case.list[1]) - 1];
+            *longest = run.answers.len().max(*longest);
+        }
+        self.comparison.check(&case, &expected, sample);
+    }
+
+    /// Files of one version at its ends: the longest, every prefix and damage of small ones, and the lengths at which one version
+    /// or the other starts.
+    fn ends(&mut self, layout: &'static Layout, rng: &mut Rng) {
+        for n in [0, 1, 2, 255, 256, 2047, 2048] {
+            let list = CueFile::random_in(layout, rng, n).octets();
+            self.check_case(Case { call: Call::Run, list, records_len: 8 * (3 * n + 3), answers_len: n }, true);
+        }
+        let small = CueFile::random_in(layout, rng, 2).octets();
+        for (i, other) in damaged(&small).into_iter().enumerate() {
+            self.check(other, i % 50 == 0, rng);
+        }
+        for n in [0, 0, 1, 1, 2] {
+            let file = CueFile::random_in(layout, rng, n).octets();
+            for other in of_lengths(&file, 51..=61) {
+                self.check(other, true, rng);
             }
         }
+    }
+
+    fn finish(self, seed: u64, wanted: u64) -> ! {
+        let Tally { comparison, codes, answers, longest } = self;
+        let files = comparison.compared;
+        println!("seed {}, {} files, the longest of each version with {:?} inputs", seed, files, longest);
+        let (by_bridge, differing) = comparison.stop();
+        codes.say(&CODES);
+        println!("answers 0 to 5: {:?}", answers);
+        let mut claims = Claims::new();
+        claims.claim("number, records, answers and file are the model's for every file", differing == 0);
+        claims.claim("at least 120,000 files, or as many as were asked for", files >= wanted.min(120_000));
+        claims.claim("a file of 2,048 inputs is accepted in every version", longest.iter().all(|&n| n == 2048));
+        codes.claim(&CODES, &mut claims);
+        claims.claim("every answer is met", answers.iter().all(|&k| k > 0));
+        claims.claim("a sample went by the bridge", by_bridge >= 100);
+        claims.finish()
     }
 }
 
 fn main() {
-    let mut comparison = Comparison::start();
     let seed = number_named("SEED", 20_260_101);
     let wanted = number_named("FILES", 120_000);
     let mut rng = Rng::new(seed);
-    let mut tally = Tally { files: 0, codes: [0; 9], answers: [0; 6], longest: 0 };
-
-    let mut check = |file: Vec<u8>, sample: bool, rng: &mut Rng, tally: &mut Tally| {
-        let case = lent(Call::Run, file, rng);
-        let expected = by_model(&case);
-        tally.note(&case, &expected);
-        comparison.check(&case, &expected, sample);
-    };
-
-    // The longest files, every prefix and damage of small ones, random octets, and random shows of every length.
-    for n in [0, 1, 2, 255, 256, 2047, 2048] {
-        let file = CueFile::random(&mut rng, n).octets();
-        check(file, true, &mut rng, &mut tally);
+    let mut tally = Tally { comparison: Comparison::start(), codes: Codes::new(), answers: [0; 6], longest: [0; LAYOUTS.len()] };
+    for layout in &LAYOUTS {
+        tally.ends(layout, &mut rng);
     }
-    for n in [0, 1, 3] {
-        let file = CueFile::random(&mut rng, n).octets();
-        for (i, other) in damaged(&file).into_iter().enumerate() {
-            check(other, i % 50 == 0, &mut rng, &mut tally);
-        }
-    }
-    while tally.files < wanted {
+    // Random octets, and random shows of every length and version, some of them spoilt.
+    while tally.comparison.compared < wanted {
         let which = rng.below(100);
         let file = if which < 3 {
             files::noise(&mut rng)
         } else {
             let n = files::length(&mut rng);
             let mut show = CueFile::random(&mut rng, n);
-            if which < 12 {
+            if which < 15 {
                 show.spoil(&mut rng);
             }
             show.octets()
         };
-        let sample = tally.files % 100 == 0;
-        check(file, sample, &mut rng, &mut tally);
+        let sample = tally.comparison.compared % 100 == 0;
+        tally.check(file, sample, &mut rng);
     }
-
-    println!("seed {}, {} files, the longest with {} inputs", seed, tally.files, tally.longest);
-    let (by_bridge, differing) = comparison.stop();
-    println!("codes 0 to 8: {:?}", tally.codes);
-    println!("answers 0 to 5: {:?}", tally.answers);
-    let mut claims = Claims::new();
-    claims.claim("number, records, answers and file are the model's for every file", differing == 0);
-    claims.claim("at least 100,000 files, or as many as were asked for", tally.files >= wanted.min(100_000));
-    claims.claim("every code is met", tally.codes.iter().all(|&k| k > 0));
-    claims.claim("every answer is met", tally.answers.iter().all(|&k| k > 0));
-    claims.claim("a sample went by the bridge", by_bridge >= 100);
-    claims.finish();
+    tally.finish(seed, wanted)
 }

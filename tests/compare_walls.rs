@@ -18,8 +18,8 @@ mod walls;
 #[path = "calls.rs"]
 mod calls;
 
-use calls::{damaged, lent, number_named, Call, Case, Claims, Comparison, Outcome};
-use files::{CueFile, Rng};
+use calls::{damaged, lent, number_named, of_lengths, Call, Case, Claims, Codes, Comparison, Outcome};
+use files::{CueFile, Layout, Rng, LAYOUTS};
 use wall::WallRun;
 use walls::WallList;
 
@@ -54,8 +54,8 @@ fn is_edge(item: &[u8]) -> bool {
 
 impl Met {
     fn note(&mut self, list: &[u8], run: &WallRun) {
-        let (items, actions) = list[52..].split_at(list.len() - 56);
-        let items: Vec<&[u8]> = items.chunks_exact(8).collect();
+        let (cues, actions) = list.split_at(list.len() - 4);
+        let items: Vec<&[u8]> = cues[cues.len() - 8 * run.answers.len()..].chunks_exact(8).collect();
         let mut sends = run.sends.iter().peekable();
         let mut last_sent = None;
         for (index, item) in items.iter().enumerate() {
@@ -71,17 +71,7 @@ impl Met {
             let action = actions[place];
             self.actions[place][usize::from(action)] += 1;
             let sent = sends.next_if(|sent| sent.index == index);
-            match (action, sent.map(|sent| sent.on)) {
-                (1, Some(false)) => self.sent_off += 1,
-                (2, Some(true)) => self.sent_on += 1,
-                (3, Some(on)) => {
-                    self.toggled_on += u64::from(on);
-                    self.toggled_off += u64::from(!on);
-                    self.turned_by_a_status += u64::from(last_sent == Some(on));
-                }
-                (0, None) => self.silent += 1,
-                other => panic!("an action that sends another value: {:?}", other),
-            }
+            self.note_send(action, sent.map(|sent| sent.on), last_sent);
             if let Some(sent) = sent {
                 self.telegrams[answer] += 1;
                 last_sent = Some(sent.on);
@@ -92,6 +82,21 @@ impl Met {
             self.at_a_timer[usize::from(sent.is_none())] += u64::from(at_a_timer);
             self.after_a_cue += u64::from(tie && !is_edge(items[index - 1]));
             self.after_an_edge += u64::from(tie && is_edge(items[index - 1]));
+        }
+    }
+
+    /// What an action sent, and what was sent last before it.
+    fn note_send(&mut self, action: u8, sent: Option<bool>, last_sent: Option<bool>) {
+        match (action, sent) {
+            (1, Some(false)) => self.sent_off += 1,
+            (2, Some(true)) => self.sent_on += 1,
+            (3, Some(on)) => {
+                self.toggled_on += u64::from(on);
+                self.toggled_off += u64::from(!on);
+                self.turned_by_a_status += u64::from(last_sent == Some(on));
+            }
+            (0, None) => self.silent += 1,
+            other => panic!("an action that sends another value: {:?}", other),
         }
     }
 
@@ -130,15 +135,22 @@ const CODES: [usize; 10] = [0, 1, 2, 3, 4, 5, 6, 7, 8, 11];
 struct Tally {
     comparison: Comparison,
     met: Met,
-    codes: [u64; 12],
+    codes: Codes,
     bad_actions: [u64; 4],
-    longest: usize,
+    longest: [usize; LAYOUTS.len()],
     plain: u64,
 }
 
 impl Tally {
-    fn walls(&self) -> u64 {
-        self.comparison.compared
+    fn new() -> Tally {
+        Tally {
+            comparison: Comparison::start(),
+            met: Met::default(),
+            codes: Codes::new(),
+            bad_actions: [0; 4],
+            longest: [0; LAYOUTS.len()],
+            plain: 0,
+        }
     }
 
     /// A list, with buffers of some length.
@@ -149,10 +161,11 @@ impl Tally {
     fn check_case(&mut self, case: Case, sample: bool) {
         let run = wall::wall_run(&case.list, case.records_len, case.answers_len);
         let expected = Outcome::of_model(&case, wall::wall_number(&run), &run.records, &run.answers);
-        self.codes[expected.code()] += 1;
+        self.codes.note(&case.list, expected.code());
         match run.code {
             0 => {
-                self.longest = self.longest.max(run.answers.len());
+                let longest = &mut self.longest[usize::from(case.list[1]) - 1];
+                *longest = run.answers.len().max(*longest);
                 self.met.note(&case.list, &run);
             }
             11 => self.bad_actions[usize::from(run.place)] += 1,
@@ -171,9 +184,79 @@ impl Tally {
         case.list.extend_from_slice(&[0; 4]);
         let run = model::run(&file, case.records_len, case.answers_len);
         let expected = Outcome::of_model(&case, model::number(&run), &run.records, &run.answers);
-        self.codes[expected.code()] += 1;
+        self.codes.note(&case.list, expected.code());
         self.plain += 1;
         self.comparison.check(&case, &expected, sample);
+    }
+
+    /// Lists of one version at its ends: the longest, every prefix and damage of a small one, longer ones, and the lengths at which
+    /// one version or the other starts.
+    fn ends(&mut self, layout: &'static Layout, rng: &mut Rng) {
+        for n in [0, 1, 2, 255, 256, 2047, 2048] {
+            let list = WallList::random_in(layout, rng, n).octets();
+            self.check_case(Case { call: Call::WallRun, list, records_len: 8 * (3 * n + 3), answers_len: n }, true);
+        }
+        let small = WallList::random_in(layout, rng, 2).octets();
+        for (i, other) in damaged(&small).into_iter().enumerate() {
+            self.check(other, i % 50 == 0, rng);
+        }
+        for other in of_lengths(&small, small.len()..=small.len() + 20) {
+            self.check(other, false, rng);
+        }
+        for n in [0, 0, 1, 1, 2] {
+            let list = WallList::random_in(layout, rng, n).octets();
+            for other in of_lengths(&list, 55..=65) {
+                self.check(other, true, rng);
+            }
+        }
+    }
+
+    /// Random octets, plain cue files, and random lists of every length and version, some of them spoilt.
+    fn random(&mut self, rng: &mut Rng) {
+        let sample = self.comparison.compared % 100 == 0;
+        let n = files::length(rng);
+        match rng.below(100) {
+            0..=1 => {
+                let octets = files::noise(rng);
+                self.check(octets, sample, rng);
+            }
+            2..=13 => {
+                let mut show = CueFile::random(rng, n);
+                if rng.chance(30) {
+                    show.spoil(rng);
+                }
+                self.check_plain(&show, sample, rng);
+            }
+            14..=27 => {
+                let octets = WallList::random(rng, n).spoilt(rng);
+                self.check(octets, sample, rng);
+            }
+            _ => {
+                let octets = WallList::random(rng, n).octets();
+                self.check(octets, sample, rng);
+            }
+        }
+    }
+
+    fn finish(self, seed: u64, wanted: u64) -> ! {
+        let Tally { comparison, met, codes, bad_actions, longest, plain } = self;
+        let walls = comparison.compared;
+        println!("seed {}, {} wall lists, {} of them plain cue files", seed, walls, plain);
+        println!("the longest of each version with {:?} items", longest);
+        let (by_bridge, differing) = comparison.stop();
+        codes.say(&CODES);
+        println!("places 0 to 3 of code 11: {:?}", bad_actions);
+        met.say();
+        let mut claims = Claims::new();
+        claims.claim("number, records, answers and list are the model's for every wall list", differing == 0);
+        claims.claim("at least 120,000 wall lists, or as many as were asked for", walls >= wanted.min(120_000));
+        claims.claim("a list of 2,048 items is accepted in every version", longest.iter().all(|&n| n == 2048));
+        codes.claim(&CODES, &mut claims);
+        claims.claim("a bad action is met at every place", bad_actions.iter().all(|&k| k > 0));
+        met.claim(&mut claims);
+        claims.claim("cue files with four zero octets went by the plain run", plain > 0);
+        claims.claim("a sample went by the bridge", by_bridge >= 100);
+        claims.finish()
     }
 }
 
@@ -181,72 +264,12 @@ fn main() {
     let seed = number_named("SEED", 20_260_103);
     let wanted = number_named("WALLS", 120_000);
     let mut rng = Rng::new(seed);
-    let mut tally = Tally {
-        comparison: Comparison::start(),
-        met: Met::default(),
-        codes: [0; 12],
-        bad_actions: [0; 4],
-        longest: 0,
-        plain: 0,
-    };
-
-    // The longest lists, every prefix and damage of small ones and longer ones, random octets, plain cue files, and random lists
-    // of every length.
-    for n in [0, 1, 2, 255, 256, 2047, 2048] {
-        let list = WallList::random(&mut rng, n).octets();
-        tally.check_case(Case { call: Call::WallRun, list, records_len: 8 * (3 * n + 3), answers_len: n }, true);
+    let mut tally = Tally::new();
+    for layout in &LAYOUTS {
+        tally.ends(layout, &mut rng);
     }
-    for n in [0, 1, 3] {
-        let list = WallList::random(&mut rng, n).octets();
-        for (i, other) in damaged(&list).into_iter().enumerate() {
-            tally.check(other, i % 50 == 0, &mut rng);
-        }
-        for more in 1..20 {
-            let mut longer = list.clone();
-            longer.extend(vec![0; more]);
-            tally.check(longer, false, &mut rng);
-        }
+    while tally.comparison.compared < wanted {
+        tally.random(&mut rng);
     }
-    while tally.walls() < wanted {
-        let sample = tally.walls() % 100 == 0;
-        let n = files::length(&mut rng);
-        match rng.below(100) {
-            0..=1 => {
-                let octets = files::noise(&mut rng);
-                tally.check(octets, sample, &mut rng);
-            }
-            2..=13 => {
-                let mut show = CueFile::random(&mut rng, n);
-                if rng.chance(30) {
-                    show.spoil(&mut rng);
-                }
-                tally.check_plain(&show, sample, &mut rng);
-            }
-            14..=27 => {
-                let octets = WallList::random(&mut rng, n).spoilt(&mut rng);
-                tally.check(octets, sample, &mut rng);
-            }
-            _ => {
-                let octets = WallList::random(&mut rng, n).octets();
-                tally.check(octets, sample, &mut rng);
-            }
-        }
-    }
-
-    let Tally { comparison, met, codes, bad_actions, longest, plain } = tally;
-    let walls = comparison.compared;
-    println!("seed {}, {} wall lists, {} of them plain cue files, the longest with {} items", seed, walls, plain, longest);
-    let (by_bridge, differing) = comparison.stop();
-    println!("codes 0 to 8 and 11: {:?}; places 0 to 3 of code 11: {:?}", CODES.map(|code| codes[code]), bad_actions);
-    met.say();
-    let mut claims = Claims::new();
-    claims.claim("number, records, answers and list are the model's for every wall list", differing == 0);
-    claims.claim("at least 60,000 wall lists, or as many as were asked for", walls >= wanted.min(60_000));
-    claims.claim("a list of 2,048 items is accepted", longest == 2048);
-    claims.claim("every code is met", CODES.iter().all(|&code| codes[code] > 0));
-    claims.claim("a bad action is met at every place", bad_actions.iter().all(|&k| k > 0));
-    met.claim(&mut claims);
-    claims.claim("cue files with four zero octets went by the plain run", plain > 0);
-    claims.claim("a sample went by the bridge", by_bridge >= 100);
-    claims.finish();
+    tally.finish(seed, wanted)
 }

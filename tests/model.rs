@@ -1231,16 +1231,22 @@ pub fn state_of_a_refusal() -> State {
     fresh_state(params, [Scene { number: UNUSED, flags: 0 }; 8])
 }
 
+/// "A state keeps its version" (document 02), and the ranges are those of this version; there are
+/// none of any other.
+fn in_range(p: &Params, scenes: &[Scene; 8]) -> bool {
+    let times = [p.on_delay, p.off_delay, p.timed_on, p.prewarning];
+    match Version::of(p.version.into()) {
+        Some(version) => lowest_bad_octet(version, &times, &rest_of(p, scenes)).is_none(),
+        None => false,
+    }
+}
+
 /// "A state is sound when ..."
 pub fn sound(state: &State) -> bool {
     let lock_or_force = state.lock || state.force != Force::None;
 
-    // "its parameters and scenes are in range," by the version that it keeps, and of no other
-    let p = &state.params;
-    let times = [p.on_delay, p.off_delay, p.timed_on, p.prewarning];
-    let rest = rest_of(p, &state.scenes);
-    let in_range = Version::of(p.version.into())
-        .map_or(false, |version| lowest_bad_octet(version, &times, &rest).is_none());
+    // "its parameters and scenes are in range,"
+    let in_range = in_range(&state.params, &state.scenes);
 
     // "the clock is at most 864,000,"
     let clock_good = state.clock <= LAST_STAMP;
