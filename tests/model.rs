@@ -1252,10 +1252,8 @@ pub fn sound(state: &State) -> bool {
     let clock_good = state.clock <= LAST_STAMP;
 
     // "a deadline lies 1 to 655,350 after the clock,"
-    let deadline_good = match state.phase.deadline() {
-        None => true,
-        Some(d) => d > state.clock && d - state.clock <= LONGEST_DELAY,
-    };
+    let due = |d: u32| d > state.clock && d - state.clock <= LONGEST_DELAY;
+    let deadline_good = state.phase.deadline().map_or(true, due);
 
     // "lock or force leaves only Dark or Lit,"
     let dark_or_lit = !lock_or_force || matches!(state.phase, Phase::Dark | Phase::Lit);
@@ -1269,8 +1267,7 @@ pub fn sound(state: &State) -> bool {
         };
 
     // "Lit in night needs lock or force,"
-    let lit_in_night = state.phase == Phase::Lit && state.night;
-    let night_good = !lit_in_night || lock_or_force;
+    let night_good = state.phase != Phase::Lit || !state.night || lock_or_force;
 
     // "and power down means Dark with night, lock and force clear."
     let power_good = state.link != Link::PowerDown

@@ -13,7 +13,7 @@ mod files;
 #[path = "walls.rs"]
 mod walls;
 
-use files::{CueFile, Rng};
+use files::{CueFile, Layout, Rng, LAYOUTS};
 use std::io::Write;
 use std::process::{Command, Stdio};
 use walls::WallList;
@@ -37,8 +37,8 @@ fn printed(command: &[String], file: &[u8]) -> String {
 }
 
 /// A cue file of n inputs, in order or spoilt.
-fn cue_file(rng: &mut Rng, n: usize, spoilt: bool) -> Vec<u8> {
-    let mut show = CueFile::random(rng, n);
+fn cue_file(layout: &'static Layout, rng: &mut Rng, n: usize, spoilt: bool) -> Vec<u8> {
+    let mut show = CueFile::random_in(layout, rng, n);
     if spoilt {
         show.spoil(rng);
     }
@@ -46,8 +46,8 @@ fn cue_file(rng: &mut Rng, n: usize, spoilt: bool) -> Vec<u8> {
 }
 
 /// A wall list of n items, in order or spoilt.
-fn wall_list(rng: &mut Rng, n: usize, spoilt: bool) -> Vec<u8> {
-    let list = WallList::random(rng, n);
+fn wall_list(layout: &'static Layout, rng: &mut Rng, n: usize, spoilt: bool) -> Vec<u8> {
+    let list = WallList::random_in(layout, rng, n);
     if spoilt {
         list.spoilt(rng)
     } else {
@@ -55,18 +55,24 @@ fn wall_list(rng: &mut Rng, n: usize, spoilt: bool) -> Vec<u8> {
     }
 }
 
-/// The shortest and the longest, and lists of every length, a third of them spoilt.
-fn sample(rng: &mut Rng, made: fn(&mut Rng, usize, bool) -> Vec<u8>) -> Vec<Vec<u8>> {
+type Made = fn(&'static Layout, &mut Rng, usize, bool) -> Vec<u8>;
+
+/// The shortest and the longest of each version, one cut where a version starts, and lists of every length, a third of them spoilt.
+fn sample(rng: &mut Rng, made: Made) -> Vec<Vec<u8>> {
     let mut sample: Vec<Vec<u8>> = vec![Vec::new(), vec![0; 51], vec![0; 52], vec![0; 55], vec![0; 56], vec![1; 40_000]];
-    for n in [0, 1, 2, 7, 300, 2048] {
-        sample.push(made(rng, n, false));
+    for layout in &LAYOUTS {
+        for n in [0, 1, 2, 7, 300, 2048] {
+            sample.push(made(layout, rng, n, false));
+        }
+        let mut longer = made(layout, rng, 2048, false);
+        longer.extend_from_slice(&[0; 3]);
+        sample.push(longer);
+        let whole = made(layout, rng, 3, false);
+        sample.extend([51, 52, 55, 56, 59, 60, 63, 64].map(|length| whole[..length].to_vec()));
     }
-    let mut longer = made(rng, 2048, false);
-    longer.extend_from_slice(&[0; 3]);
-    sample.push(longer);
     for i in 0..90 {
-        let n = files::length(rng);
-        sample.push(made(rng, n, i % 3 == 0));
+        let (layout, n) = (Layout::random(rng), files::length(rng));
+        sample.push(made(layout, rng, n, i % 3 == 0));
     }
     sample
 }
