@@ -87,13 +87,36 @@ def back():
     out.extend(b'B')
 
 
-# Parameters: four delays in seconds, the modes, eight scenes as (number, flags).
+# Parameters of a version: four times, the modes, eight scenes as (number, flags). A version has times of so many octets, and of units of
+# so many tenths.
 
-def parameters(on=2, off=5, timed=60, prewarning=10, locking=0, unlocking=0, failure=0, returning=0, power=0, learning=0, scenes=()):
+TIME_OCTETS = {1: 2, 2: 4}
+UNIT = {1: 10, 2: 1}
+
+# The longest time that a state may have, in tenths.
+LONGEST = 655350
+
+
+def in_tenths(version, on, off, timed, prewarning, locking=0, unlocking=0, failure=0, returning=0, power=0, learning=0, scenes=()):
     table = list(scenes) + [(255, 0)] * (8 - len(scenes))
-    octets = b''.join(t.to_bytes(2, 'big') for t in (on, off, timed, prewarning))
+    octets = b''.join((t // UNIT[version]).to_bytes(TIME_OCTETS[version], 'big') for t in (on, off, timed, prewarning))
     octets += bytes([locking, unlocking, failure, returning, power, learning, 0, 0])
     return octets + bytes(o for entry in table for o in entry)
+
+
+def parameters(on=2, off=5, timed=60, prewarning=10, *modes, version=1, **more):
+    """Four times in seconds, in any version."""
+    return in_tenths(version, 10 * on, 10 * off, 10 * timed, 10 * prewarning, *modes, **more)
+
+
+def tenths(on=7, off=13, timed=61, prewarning=25, *modes, **more):
+    """Version 2: four times in tenths."""
+    return in_tenths(2, on, off, timed, prewarning, *modes, **more)
+
+
+def modes_at(version):
+    """The octet at which the modes start, after four times; the scenes start eight octets later."""
+    return 4 * TIME_OCTETS[version]
 
 
 def script(text, octets, cues, *stamps):
@@ -108,11 +131,12 @@ def script(text, octets, cues, *stamps):
 
 # 1. Document 01: the printout, "Run only" and the worked cases.
 
-def document():
-    plain = parameters(on=0, off=0)
+def document(version):
+    title('version %d' % version)
+    plain = parameters(on=0, off=0, version=version)
     script('the printout', plain, [(0, START), (700, ON), (700, OFF)], 1000)
-    worked = parameters(unlocking=3)
-    script('run only: OffDelay 600, On 0, Off 100, night 200', parameters(off=600, unlocking=3), [(0, ON), (100, OFF), (200, NIGHT)], 899, 900)
+    worked = parameters(unlocking=3, version=version)
+    script('run only: OffDelay 600, On 0, Off 100, night 200', parameters(off=600, unlocking=3, version=version), [(0, ON), (100, OFF), (200, NIGHT)], 899, 900)
     script('run only: Timed 0, bus failure 50, On 60', worked, [(0, START), (50, BUS_FAILS), (60, ON)], 719, 720)
     script('run only: On 0, power failure 50, return 90', worked, [(0, ON), (50, POWER_FAILS), (90, POWER_RETURNS)], 1000)
     script('run only: stamps 50, 49', worked, [(50, ON), (49, ON), (50, OFF)], 49, 50)
@@ -145,6 +169,33 @@ def slips():
     script('night cuts a long ending, and only once', parameters(off=600), [(0, ON), (20, OFF), (100, NIGHT), (110, NIGHT), (120, DAY), (130, NIGHT)], LAST)
     script('an unlock remembers a force from before the lock', worked, [(0, FORCE_ON), (10, LOCK), (20, UNLOCK), (30, FREE)], LAST)
     script('the same by night', worked, [(0, NIGHT), (0, FORCE_ON), (10, LOCK), (20, UNLOCK), (30, FREE)], LAST)
+
+
+# Times that no whole seconds give. The state stays of version 2, whatever is played.
+
+def tenths_evenings():
+    script('a prewarning of 2.5 seconds', tenths(0, 0, 600, 25), [(0, START)], 599, 600, 624, 625)
+    script('it in one move', tenths(0, 0, 600, 25), [(0, START)], LAST)
+    script('and an Off that would last longer', tenths(0, 30, 600, 25), [(0, START), (599, OFF)], 624, 625)
+    script('and one within it', tenths(0, 13, 600, 25), [(0, START), (610, OFF)], 622, 623)
+    usual = tenths(unlocking=3)
+    script('in tenths: On, On', usual, [(0, ON), (6, ON)], 6, 7)
+    script('in tenths: On, Off before its end', usual, [(0, ON), (6, OFF)], LAST)
+    script('in tenths: On, Off at its end, Off', usual, [(0, ON), (7, OFF), (15, OFF)], 19, 20)
+    script('in tenths: three timers in one clock move', usual, [(0, START)], LAST)
+    script('in tenths: three timers, each by itself', usual, [(0, START)], 6, 7, 67, 68, 92, 93)
+    script('in tenths: each timer before an input at its moment', usual, [(0, START), (7, OFF), (20, ON), (27, START), (88, START), (149, OFF), (162, ON)], 169, LAST)
+    for stamp in (78, 79, 80, 81):
+        script('in tenths: Off at %d in the warning' % stamp, usual, [(0, START), (stamp, OFF)], 91, 92, 93)
+    script('in tenths: night over a light', usual, [(0, ON), (100, NIGHT)], 160, 161, 185, 186)
+    script('in tenths: night cuts a long ending', tenths(off=999), [(0, ON), (7, OFF), (100, NIGHT)], 185, 186)
+    script('in tenths: force, release by night', usual, [(0, NIGHT), (0, FORCE_ON), (33, FREE)], 93, 94, 118, 119)
+    script('in tenths: lock, unlock by night', usual, [(0, NIGHT), (0, START), (9, LOCK), (33, UNLOCK)], 93, 94, 118, 119)
+    script('in tenths: bus and power', usual, [(0, START), (9, BUS_FAILS), (10, ON), (11, BUS_RETURNS), (30, POWER_FAILS), (31, ON), (32, POWER_RETURNS)], LAST)
+    script('one tenth each', tenths(1, 1, 1, 1), [(0, START), (10, ON), (12, OFF), (20, NIGHT), (20, ON), (22, OFF)], 22, 23)
+    script('the longest times in tenths', tenths(LONGEST, LONGEST, LONGEST, LONGEST), [(0, START), (208649, NIGHT)], LONGEST - 1, LONGEST, LAST)
+    script('the longest but one at the last moment', tenths(0, LONGEST - 1, LONGEST - 1, LONGEST - 1), [(LAST, ON), (LAST, NIGHT), (LAST, OFF), (LAST, DAY), (LAST, NIGHT)], LAST)
+    script('refused in between: the version stays', usual, [(10, ON), (9, OFF), (10, (9, 1)), (11, (1, 2)), (LAST + 1, OFF)], 9, LAST + 1, 17)
 
 
 # 2. Every order in every phase, by day and by night, and while something stands.
@@ -201,6 +252,16 @@ def held():
     grid('orders with the power down, from dark', full, [(0, POWER_FAILS)], 5, timers=False)
     grid('orders with the power down, from lit', full, lit + [(21, POWER_FAILS)], 30, timers=False)
     grid('orders with the power down, from a lock by night with the bus down', full, lit + [(20, NIGHT), (20, LOCK), (20, BUS_FAILS), (21, POWER_FAILS)], 30, timers=False)
+
+
+def tenths_in_phases():
+    full = tenths(learning=1, scenes=SCENES)
+    for name, first in (('by day', []), ('by night', [(0, NIGHT)])):
+        grid('in tenths: orders in Dark ' + name, full, first, 5)
+        grid('in tenths: orders in Timed ' + name, full, first + [(0, START), (7, BUS_RETURNS)], 9)
+        grid('in tenths: orders in Warning ' + name, full, first + [(0, START), (68, BUS_RETURNS)], 71)
+        grid('in tenths: orders in Ending ' + name, full, first + [(0, START), (12, OFF)], 14)
+    grid('in tenths: orders in Lit by day', full, [(0, ON), (7, BUS_RETURNS)], 9)
 
 
 # 3. Every mode.
@@ -275,63 +336,93 @@ def refusals():
 
 # 6. Parameters alone.
 
-def offered(octets, **at):
+def offered(octets, changed):
+    """The octets with some changed, by their places."""
     octets = bytearray(octets)
-    for place, value in at.items():
-        octets[int(place[1:])] = value
+    for place, value in changed.items():
+        octets[place] = value
     fresh(octets)
 
 
-def parameter_refusals():
-    base = parameters(scenes=((1, 2), (2, 3)))
+def offered_times():
+    title('TimedOn 0')
+    fresh(parameters(timed=0))
+    fresh(parameters(timed=0, locking=3))
+    title('times at the ends of their ranges, in tenths')
+    good = (7, 13, 61, 25)
+    for which in range(4):
+        for time in (0, 1, 65535, 65536, LONGEST, LONGEST + 1, 2**24, 2**32 - 1):
+            fresh(tenths(*good[:which], time, *good[which + 1:]))
+    title('several times out of range, and a mode: the lowest')
+    fresh(tenths(off=LONGEST + 1, timed=0))
+    fresh(tenths(timed=0, prewarning=LONGEST + 1))
+    fresh(tenths(prewarning=2**32 - 1, locking=3))
+    fresh(tenths(on=2**32 - 1, off=2**32 - 1, timed=2**32 - 1, prewarning=2**32 - 1, locking=255))
+
+
+def offered_lengths():
     title('parameters of another length')
+    base = parameters(scenes=((1, 2), (2, 3)))
     for size in (0, 1, 31):
         fresh(base[:size])
     for more in (b'\0', base[:20], bytes(255 - 32)):
         fresh(base + more)
-    title('parameters at the ends of their ranges')
-    fresh(parameters(0, 0, 1, 0))
-    fresh(parameters(65535, 65535, 65535, 65535, 2, 3, 2, 2, 2, 1, [(56 + i, i % 4) for i in range(8)]))
-    fresh(parameters(timed=256))
-    title('TimedOn 0')
-    fresh(parameters(timed=0))
-    fresh(parameters(timed=0, locking=3))
-    title('octets 8 to 15 out of range')
-    for place, most in ((8, 2), (9, 3), (10, 2), (11, 2), (12, 2), (13, 1), (14, 0), (15, 0)):
-        offered(base, **{'o%d' % place: most})
-        offered(base, **{'o%d' % place: most + 1})
-        offered(base, **{'o%d' % place: 255})
+    title('parameters of 31 to 41 octets')
+    for longer in (base + bytes(9), tenths(scenes=((1, 2), (2, 3))) + bytes(1)):
+        for size in range(31, 42):
+            fresh(longer[:size])
+
+
+def offered_rest(version):
+    base = parameters(scenes=((1, 2), (2, 3)), version=version)
+    first = modes_at(version)
+    title('version %d: parameters at the ends of their ranges' % version)
+    fresh(parameters(0, 0, 1, 0, version=version))
+    fresh(parameters(65535, 65535, 65535, 65535, 2, 3, 2, 2, 2, 1, [(56 + i, i % 4) for i in range(8)], version=version))
+    fresh(parameters(timed=256, version=version))
+    title('version %d: the octets from %d to %d out of range' % (version, first, first + 7))
+    for place, most in enumerate((2, 3, 2, 2, 2, 1, 0, 0)):
+        for octet in (most, most + 1, 255):
+            offered(base, {first + place: octet})
     title('several out of range: the lowest')
-    offered(base, o15=1, o9=4, o12=3)
-    offered(base, o31=4, o14=1)
+    offered(base, {first + 7: 1, first + 1: 4, first + 4: 3})
+    offered(base, {first + 23: 4, first + 6: 1})
     title('scene numbers, repeated scenes and flags, entry by entry')
-    for entry in range(8):
-        number, flags = 'o%d' % (16 + 2 * entry), 'o%d' % (17 + 2 * entry)
+    for number in range(first + 8, first + 24, 2):
+        flags = number + 1
         for wrong in (64, 254):
-            offered(base, **{number: wrong})
-        offered(base, **{number: 9, flags: 4})
-        offered(base, **{number: 9, flags: 128})
-        offered(base, **{number: 255, flags: 1})
-        offered(base, **{number: 255, flags: 2})
-        offered(base, **{number: 1 if entry else 2, flags: 0})
-        offered(base, **{number: 9, flags: 3})
+            offered(base, {number: wrong})
+        offered(base, {number: 9, flags: 4})
+        offered(base, {number: 9, flags: 128})
+        offered(base, {number: 255, flags: 1})
+        offered(base, {number: 255, flags: 2})
+        offered(base, {number: 1 if number > first + 8 else 2, flags: 0})
+        offered(base, {number: 9, flags: 3})
     title('a repeated scene and bad flags: the lowest')
-    offered(base, o18=1, o17=4)
-    offered(base, o18=1, o19=4)
-    offered(base, o30=2, o28=64)
-    offered(base, o28=2, o30=2)
-    title('a refusal gives a state that plays')
-    fresh(b'')
-    cue(5, ON)
-    cue(6, NIGHT)
-    clock(LAST)
+    offered(base, {first + 10: 1, first + 9: 4})
+    offered(base, {first + 10: 1, first + 11: 4})
+    offered(base, {first + 22: 2, first + 20: 64})
+    offered(base, {first + 20: 2, first + 22: 2})
+
+
+def parameter_refusals():
+    offered_lengths()
+    offered_times()
+    for version in (1, 2):
+        offered_rest(version)
+    for octets in (b'', tenths() + b'\0', tenths(locking=3)):
+        title('a refusal gives a state that plays')
+        fresh(octets)
+        cue(5, ON)
+        cue(6, NIGHT)
+        clock(LAST)
 
 
 # 7. States that break a rule, and their neighbours that do not.
 
 FIELDS = dict(ondelay=1, offdelay=2, timedon=3, prewarning=4, locking=5, unlocking=6, failure=7, returning=8, power=9, learning=10,
               clock=11, night=12, lock=13, force=14, link=15, atlocking=16, atfailure=17,
-              dark=18, lit=19, starting=20, starting_timed=21, timed=22, warning=23, ending=24)
+              dark=18, lit=19, starting=20, starting_timed=21, timed=22, warning=23, ending=24, version=25)
 
 
 def scene_entry(number, flags):
@@ -353,12 +444,13 @@ def handed(text, *changes):
 
 def handed_ranges():
     for name in ('ondelay', 'offdelay', 'timedon', 'prewarning'):
-        handed('sound: %s 65,535 seconds' % name, (name, 655350))
-        handed('%s above 65,535 seconds' % name, (name, 655360))
+        handed('sound: %s 65,535 seconds' % name, (name, LONGEST))
+        handed('%s above 65,535 seconds' % name, (name, LONGEST + 10))
         handed('%s at its most' % name, (name, 2**32 - 1))
         handed('%s not whole seconds' % name, (name, 15))
     handed('sound: TimedOn 1 second', ('timedon', 10))
     handed('TimedOn 0', ('timedon', 0))
+    handed('TimedOn half a second', ('timedon', 5))
     for name, most in (('locking', 2), ('unlocking', 3), ('failure', 2), ('returning', 2), ('power', 2)):
         handed('sound: %s %d' % (name, most), (name, most))
         handed('%s %d' % (name, most + 1), (name, most + 1))
@@ -418,6 +510,33 @@ def handed_flags():
         handed('%s, force On and Lit' % where, ('link', link), ('force', 2), ('lit', 0))
 
 
+def handed_tenths():
+    for name in ('ondelay', 'offdelay', 'timedon', 'prewarning'):
+        for sound in (1, 15, LONGEST):
+            handed('sound in version 2: %s %d tenths' % (name, sound), (name, sound))
+        for unsound in (LONGEST + 1, 2**32 - 1):
+            handed('%s %d tenths' % (name, unsound), (name, unsound))
+    handed('TimedOn 0 in version 2', ('timedon', 0))
+    handed('sound in version 2: no other time', ('ondelay', 0), ('offdelay', 0), ('prewarning', 0))
+    for unsound in (0, 1, 3, 255):
+        handed('version %d with tenths' % unsound, ('version', unsound))
+    for name in ('starting', 'starting_timed', 'timed', 'warning', 'ending'):
+        handed('sound in version 2: %s until 655,350 after the clock' % name, ('clock', 1005), (name, 656355))
+        handed('in version 2 %s until 655,351 after the clock' % name, ('clock', 1005), (name, 656356))
+    handed('BehaviourAtLocking 3 in version 2', ('locking', 3))
+    handed('scene 64 in version 2', ('7', scene_entry(64, 0)))
+
+
+def handed_versions():
+    for sound in (1, 2):
+        handed('sound: whole seconds in version %d' % sound, ('version', sound))
+        handed('TimedOn 0 in version %d' % sound, ('version', sound), ('timedon', 0))
+    for unsound in (0, 3, 255):
+        handed('whole seconds in version %d' % unsound, ('version', unsound))
+    handed('sound: version 2 by its last octet alone', ('version', 256 + 2))
+    handed('sound: tenths in version 2', ('version', 2), ('ondelay', 15), ('timedon', 5))
+
+
 def handed_states():
     title('states with one field changed')
     fresh(parameters(learning=1, scenes=((10, 2), (11, 3))))
@@ -425,6 +544,11 @@ def handed_states():
     handed_ranges()
     handed_times()
     handed_flags()
+    handed_versions()
+    title('states of version 2 with one field changed')
+    fresh(tenths(learning=1, scenes=((10, 2), (11, 3))))
+    keep()
+    handed_tenths()
 
 
 # 8. Sensors: the octets of their actions, and edges and statuses to a sensor alone.
@@ -653,6 +777,17 @@ def pair_orders():
                 pair_clock(LAST)
 
 
+def pair_tenths():
+    for stamp in (624, 625):
+        pair_script('a press at %d of a prewarning of 2.5 seconds' % stamp, tenths(0, 13, 600, 25), TOGGLE, [(0, START), (stamp, PRESS_1)], LAST)
+    pair_script('in tenths: presses within delays and at their ends', tenths(), TOGGLE,
+                [(0, PRESS_1), (6, PRESS_1), (20, PRESS_1), (27, PRESS_1), (39, PRESS_1), (40, PRESS_1)], 46, 47)
+    pair_script('in tenths: by night', tenths(on=0), TOGGLE, [(0, NIGHT), (10, PRESS_1), (40, PRESS_1), (52, PRESS_1), (53, PRESS_1)], 139, LAST)
+    full = tenths()
+    for stamp in (6, 7, 67, 68, 92, 93):
+        pair_grid('in tenths: edges at %d of a timed light' % stamp, full, [(0, START)], stamp)
+
+
 # 10. Refusals of the pair.
 
 def pair_refusals():
@@ -727,6 +862,11 @@ def handed_pairs():
     handed_pair('the sensor at 1000, the actuator at 999', [('clock', 999)], [])
     handed_pair('OnDelay not whole seconds', [('ondelay', 15)], [])
     handed_pair('TimedOn 0', [('timedon', 0)], [])
+    handed_pair('sound: tenths in version 2', [('version', 2), ('ondelay', 15), ('timedon', 1)], [])
+    handed_pair('sound: 655,350 tenths in version 2', [('version', 2), ('offdelay', LONGEST)], [])
+    handed_pair('655,351 tenths in version 2', [('version', 2), ('offdelay', LONGEST + 1)], [])
+    for version in (0, 3, 255):
+        handed_pair('version %d' % version, [('version', version)], [])
     handed_pair('BehaviourAtLocking 3', [('locking', 3)], [])
     handed_pair('scene 64', [('0', scene_entry(64, 0))], [])
     handed_pair('Timed until the clock', [('timed', 1000)], [])
@@ -743,9 +883,12 @@ def handed_pairs():
         handed_pair('sound: action %d for the press' % action, [], [(1, action)])
 
 
-document()
+for played in (1, 2):
+    document(played)
 slips()
+tenths_evenings()
 phases()
+tenths_in_phases()
 held()
 modes()
 scenes()
@@ -761,6 +904,7 @@ pair_actions()
 pair_phases()
 pair_held()
 pair_orders()
+pair_tenths()
 pair_refusals()
 handed_pairs()
 sys.stdout.buffer.write(out)

@@ -11,9 +11,9 @@ mod model;
 #[path = "wall.rs"]
 mod wall;
 
-use model::{Force, Link, Move, Params, Phase, Record, Scene, Single, State};
+use model::{Force, Link, Phase, Record, Scene, State};
 use std::io::{Read, Write};
-use wall::{Action, Pair, PairMove, PairSingle, Sensor};
+use wall::{Action, Pair, Sensor};
 
 /// Octets of the steps; past their end they are 0.
 struct Steps {
@@ -36,108 +36,38 @@ impl Steps {
         array
     }
 
-    fn some(&mut self, n: u8) -> Vec<u8> {
-        (0..n).map(|_| self.octet()).collect()
+    /// So many octets as the next one says.
+    fn counted(&mut self) -> Vec<u8> {
+        (0..self.octet()).map(|_| self.octet()).collect()
     }
 }
 
-/// A state as the calls by value have it: with its four times in tenths of a second.
-///
-/// The model's own times are U16 seconds. A time that they cannot hold is out of range, as no
-/// parameter octets give it.
-#[derive(Clone, Copy)]
-struct Held {
-    state: State,
-    tenths: [u32; 4],
-}
-
-fn held(state: State) -> Held {
-    let p = state.params;
-    let seconds = [p.on_delay, p.off_delay, p.timed_on, p.prewarning];
-    Held { state, tenths: seconds.map(|s| 10 * u32::from(s)) }
-}
-
-impl Held {
-    fn times_in_range(&self) -> bool {
-        self.tenths == held(self.state).tenths
-    }
-
-    fn set_time(&mut self, which: usize, tenths: u32) {
-        self.tenths[which] = tenths;
-        let p = &mut self.state.params;
-        let time = [&mut p.on_delay, &mut p.off_delay, &mut p.timed_on, &mut p.prewarning];
-        if tenths % 10 == 0 && tenths / 10 <= u32::from(u16::MAX) {
-            *time[which] = (tenths / 10) as u16;
-        } else {
-            *time[which] = 1;
-        }
-    }
-
-    fn single(&self, octets: &[u8; 8]) -> (Held, Single) {
-        if self.times_in_range() {
-            let given = model::single(&self.state, octets);
-            return (held(given.state), given);
-        }
-        let state = self.state;
-        (*self, Single { state, code: 9, place: 0, answer: 0, records: Vec::new() })
-    }
-
-    fn clock_move(&self, stamp: u32) -> (Held, Move) {
-        if self.times_in_range() {
-            let given = model::clock_move(&self.state, stamp);
-            return (held(given.state), given);
-        }
-        (*self, Move { state: self.state, code: 9, place: 0, records: Vec::new() })
-    }
-
-    fn pair(&self, sensor: &Sensor) -> Pair {
-        Pair { actuator: self.state, sensor: *sensor }
-    }
-
-    fn pair_single(&self, sensor: &Sensor, octets: &[u8; 8]) -> (Held, PairSingle) {
-        let pair = self.pair(sensor);
-        if self.times_in_range() {
-            let given = wall::pair_single(&pair, octets);
-            return (held(given.pair.actuator), given);
-        }
-        let (answer, records, sent) = (0, Vec::new(), [0; 8]);
-        (*self, PairSingle { pair, code: 9, place: 0, answer, records, sent })
-    }
-
-    fn pair_clock_move(&self, sensor: &Sensor, stamp: u32) -> (Held, PairMove) {
-        let pair = self.pair(sensor);
-        if self.times_in_range() {
-            let given = wall::pair_clock_move(&pair, stamp);
-            return (held(given.pair.actuator), given);
-        }
-        (*self, PairMove { pair, code: 9, place: 0, records: Vec::new() })
-    }
-
-    fn change(&mut self, field: u8, octets: [u8; 4]) {
-        let number = u32::from_be_bytes(octets);
-        let last = octets[3];
-        let s = &mut self.state;
-        match field {
-            1..=4 => self.set_time(usize::from(field) - 1, number),
-            5 => s.params.behaviour_at_locking = last,
-            6 => s.params.behaviour_at_unlocking = last,
-            7 => s.params.bus_failure_mode = last,
-            8 => s.params.bus_return_mode = last,
-            9 => s.params.power_return_mode = last,
-            10 => s.params.scene_learning_mode_enable = u8::from(last != 0),
-            11 => s.clock = number,
-            12 => s.night = last != 0,
-            13 => s.lock = last != 0,
-            14 => s.force = [Force::None, Force::Off, Force::On][usize::from(last.min(2))],
-            15 => s.link = [Link::Up, Link::BusDown, Link::PowerDown][usize::from(last.min(2))],
-            16 => s.output_at_locking = last != 0,
-            17 => s.output_at_power_failure = last != 0,
-            18..=24 => s.phase = phase(field, number),
-            32..=39 => {
-                s.scenes[usize::from(field) - 32] = Scene { number: octets[2], flags: last & 3 }
-            }
-            _ => {}
-        }
+/// One field of the state is changed.
+fn change_state(s: &mut State, field: u8, octets: [u8; 4]) {
+    let number = u32::from_be_bytes(octets);
+    let last = octets[3];
+    match field {
+        1 => s.params.on_delay = number,
+        2 => s.params.off_delay = number,
+        3 => s.params.timed_on = number,
+        4 => s.params.prewarning = number,
+        5 => s.params.behaviour_at_locking = last,
+        6 => s.params.behaviour_at_unlocking = last,
+        7 => s.params.bus_failure_mode = last,
+        8 => s.params.bus_return_mode = last,
+        9 => s.params.power_return_mode = last,
+        10 => s.params.scene_learning_mode_enable = u8::from(last != 0),
+        11 => s.clock = number,
+        12 => s.night = last != 0,
+        13 => s.lock = last != 0,
+        14 => s.force = [Force::None, Force::Off, Force::On][usize::from(last.min(2))],
+        15 => s.link = [Link::Up, Link::BusDown, Link::PowerDown][usize::from(last.min(2))],
+        16 => s.output_at_locking = last != 0,
+        17 => s.output_at_power_failure = last != 0,
+        18..=24 => s.phase = phase(field, number),
+        25 => s.params.version = last,
+        32..=39 => s.scenes[usize::from(field) - 32] = Scene { number: octets[2], flags: last & 3 },
+        _ => {}
     }
 }
 
@@ -236,36 +166,38 @@ fn records_text(records: &[Record], places: usize) -> String {
     text
 }
 
-fn params_line(h: &Held) -> String {
-    let [on, off, timed, prewarning] = h.tenths;
-    let p: Params = h.state.params;
-    format!(
-        "P {} {} {} {} {} {} {} {} {} {}\n",
-        on,
-        off,
-        timed,
-        prewarning,
+fn params_line(s: &State) -> String {
+    let p = &s.params;
+    let times = [p.on_delay, p.off_delay, p.timed_on, p.prewarning];
+    let modes = [
         p.behaviour_at_locking,
         p.behaviour_at_unlocking,
         p.bus_failure_mode,
         p.bus_return_mode,
         p.power_return_mode,
-        p.scene_learning_mode_enable
-    )
+        p.scene_learning_mode_enable,
+    ];
+    let mut text = format!("P {}", p.version);
+    for number in times.into_iter().chain(modes.map(u32::from)) {
+        text += &format!(" {}", number);
+    }
+    text + "\n"
 }
 
-fn scenes_line(h: &Held) -> String {
+fn scenes_line(s: &State) -> String {
     let mut text = String::from("K");
-    for scene in h.state.scenes {
+    for scene in s.scenes {
         text += &format!(" {} {} {}", scene.number, scene.flags & 1, scene.flags >> 1 & 1);
     }
     text + "\n"
 }
 
 struct Player {
-    now: Held,
+    now: State,
     sensor: Sensor,
-    kept: (Held, Sensor),
+    kept: (State, Sensor),
+    /// The last lines of parameters and of scenes; none at the start.
+    shown: [String; 2],
     text: Vec<u8>,
 }
 
@@ -274,14 +206,14 @@ impl Player {
         self.text.extend(text.into_bytes());
     }
 
-    fn fresh(&mut self, octets: &[u8]) -> Held {
+    fn fresh(&mut self, octets: &[u8]) {
         let (state, code, place) = model::fresh(octets);
         self.write(format!("F {} > {} {} | {}\n", octets.len(), code, place, state_text(&state)));
-        held(state)
+        self.is_now(state);
     }
 
-    fn single(&mut self, o: [u8; 8]) -> Held {
-        let (after, given) = self.now.single(&o);
+    fn single(&mut self, o: [u8; 8]) {
+        let given = model::single(&self.now, &o);
         self.write(format!(
             "S {} > {} {} {} {} | {}{}\n",
             input_text(&o),
@@ -292,11 +224,11 @@ impl Player {
             state_text(&given.state),
             records_text(&given.records, 3)
         ));
-        after
+        self.is_now(given.state);
     }
 
-    fn clock_move(&mut self, stamp: u32) -> Held {
-        let (after, given) = self.now.clock_move(stamp);
+    fn clock_move(&mut self, stamp: u32) {
+        let given = model::clock_move(&self.now, stamp);
         self.write(format!(
             "C {} > {} {} {} | {}{}\n",
             stamp,
@@ -306,15 +238,15 @@ impl Player {
             state_text(&given.state),
             records_text(&given.records, 2)
         ));
-        after
+        self.is_now(given.state);
     }
 
-    fn change(&mut self, field: u8, o: [u8; 4]) -> Held {
+    fn change(&mut self, field: u8, o: [u8; 4]) {
         let mut after = self.now;
-        after.change(field, o);
-        let state = state_text(&after.state);
+        change_state(&mut after, field, o);
+        let state = state_text(&after);
         self.write(format!("U {} {} {} {} {} | {}\n", field, o[0], o[1], o[2], o[3], state));
-        after
+        self.is_now(after);
     }
 
     fn fresh_sensor(&mut self, octets: &[u8]) {
@@ -337,8 +269,12 @@ impl Player {
         ));
     }
 
-    fn pair_single(&mut self, o: [u8; 8]) -> Held {
-        let (after, given) = self.now.pair_single(&self.sensor, &o);
+    fn pair(&self) -> Pair {
+        Pair { actuator: self.now, sensor: self.sensor }
+    }
+
+    fn pair_single(&mut self, o: [u8; 8]) {
+        let given = wall::pair_single(&self.pair(), &o);
         self.sensor = given.pair.sensor;
         self.write(format!(
             "J {} > {} {} {} {} | {} | {}{} | {}\n",
@@ -352,11 +288,11 @@ impl Player {
             records_text(&given.records, 3),
             sent_text(&given.sent)
         ));
-        after
+        self.is_now(given.pair.actuator);
     }
 
-    fn pair_clock_move(&mut self, stamp: u32) -> Held {
-        let (after, given) = self.now.pair_clock_move(&self.sensor, stamp);
+    fn pair_clock_move(&mut self, stamp: u32) {
+        let given = wall::pair_clock_move(&self.pair(), stamp);
         self.sensor = given.pair.sensor;
         self.write(format!(
             "M {} > {} {} {} | {} | {}{}\n",
@@ -368,7 +304,7 @@ impl Player {
             sensor_text(&given.pair.sensor),
             records_text(&given.records, 2)
         ));
-        after
+        self.is_now(given.pair.actuator);
     }
 
     fn change_sensor(&mut self, field: u8, o: [u8; 4]) {
@@ -377,68 +313,47 @@ impl Player {
         self.write(format!("V {} {} {} {} {} | {}\n", field, o[0], o[1], o[2], o[3], text));
     }
 
+    fn keep(&mut self) {
+        self.kept = (self.now, self.sensor);
+    }
+
+    fn back(&mut self) {
+        let (state, sensor) = self.kept;
+        self.sensor = sensor;
+        self.is_now(state);
+    }
+
+    fn title(&mut self, text: Vec<u8>) {
+        self.text.extend(text);
+        self.text.push(b'\n');
+    }
+
     /// The state is now this one; its parameters and scenes are shown where they differ.
-    fn is_now(&mut self, after: Held) {
-        let (before_params, params) = (params_line(&self.now), params_line(&after));
-        if before_params != params {
-            self.write(params);
+    fn is_now(&mut self, after: State) {
+        let lines = [params_line(&after), scenes_line(&after)];
+        for (line, shown) in lines.iter().zip(&self.shown) {
+            if line != shown {
+                self.text.extend(line.bytes());
+            }
         }
-        let (before_scenes, scenes) = (scenes_line(&self.now), scenes_line(&after));
-        if before_scenes != scenes {
-            self.write(scenes);
-        }
+        self.shown = lines;
         self.now = after;
     }
 
     fn step(&mut self, steps: &mut Steps) -> bool {
         match steps.octet() {
-            b'T' => {
-                let n = steps.octet();
-                let text = steps.some(n);
-                self.text.extend(text);
-                self.text.push(b'\n');
-            }
-            b'F' => {
-                let n = steps.octet();
-                let after = self.fresh(&steps.some(n));
-                self.is_now(after);
-            }
-            b'S' => {
-                let after = self.single(steps.array());
-                self.is_now(after);
-            }
-            b'C' => {
-                let after = self.clock_move(u32::from_be_bytes(steps.array()));
-                self.is_now(after);
-            }
-            b'U' => {
-                let field = steps.octet();
-                let after = self.change(field, steps.array());
-                self.is_now(after);
-            }
-            b'N' => {
-                let n = steps.octet();
-                self.fresh_sensor(&steps.some(n));
-            }
+            b'T' => self.title(steps.counted()),
+            b'F' => self.fresh(&steps.counted()),
+            b'S' => self.single(steps.array()),
+            b'C' => self.clock_move(u32::from_be_bytes(steps.array())),
+            b'U' => self.change(steps.octet(), steps.array()),
+            b'N' => self.fresh_sensor(&steps.counted()),
             b'E' => self.sensor_input(steps.array()),
-            b'J' => {
-                let after = self.pair_single(steps.array());
-                self.is_now(after);
-            }
-            b'M' => {
-                let after = self.pair_clock_move(u32::from_be_bytes(steps.array()));
-                self.is_now(after);
-            }
-            b'V' => {
-                let field = steps.octet();
-                self.change_sensor(field, steps.array());
-            }
-            b'K' => self.kept = (self.now, self.sensor),
-            b'B' => {
-                let (state, sensor) = self.kept;
-                self.sensor = sensor;
-                self.is_now(state);
-            }
+            b'J' => self.pair_single(steps.array()),
+            b'M' => self.pair_clock_move(u32::from_be_bytes(steps.array())),
+            b'V' => self.change_sensor(steps.octet(), steps.array()),
+            b'K' => self.keep(),
+            b'B' => self.back(),
             _ => return false,
         }
         true
@@ -448,14 +363,12 @@ impl Player {
 fn main() {
     let mut steps = Steps { octets: Vec::new(), at: 0 };
     std::io::stdin().read_to_end(&mut steps.octets).expect("reading the steps");
-    let (first, sensor) = (held(model::state_of_a_refusal()), wall::sensor_of_a_refusal());
-    let mut player = Player { now: first, sensor, kept: (first, sensor), text: Vec::new() };
-    let start = player.fresh(&[]);
-    player.write(params_line(&start));
-    player.write(scenes_line(&start));
-    player.now = start;
+    let (now, sensor) = (model::state_of_a_refusal(), wall::sensor_of_a_refusal());
+    let shown = [String::new(), String::new()];
+    let mut player = Player { now, sensor, kept: (now, sensor), shown, text: Vec::new() };
+    player.fresh(&[]);
     player.fresh_sensor(&[]);
-    player.kept = (start, player.sensor);
+    player.keep();
     while player.step(&mut steps) {}
     std::io::stdout().write_all(&player.text).expect("writing the lines");
 }
