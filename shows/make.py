@@ -42,17 +42,26 @@ NOT_TAUGHT, TAUGHT_OFF, TAUGHT_ON = 0, 2, 3
 # ---- the octets of a file
 
 def parameters(on_delay=0, off_delay=0, timed_on=1, prewarning=0, locking=KEEP, unlocking=KEEP, bus_failure=KEEP,
-               bus_return=KEEP, power_return=AS_BEFORE_FAILURE, learning=0, scenes=()):
-    """32 octets: four times in seconds, the modes, two zeros, eight scene entries."""
-    octets = struct.pack('>4H6B2x', on_delay, off_delay, timed_on, prewarning, locking, unlocking, bus_failure, bus_return,
-                         power_return, learning)
+               bus_return=KEEP, power_return=AS_BEFORE_FAILURE, learning=0, scenes=(), times='>4H'):
+    """Four times, the modes, two zeros, eight scene entries: with the times of version 1, in seconds, 32 octets."""
+    octets = struct.pack(times, on_delay, off_delay, timed_on, prewarning)
+    octets += struct.pack('6B2x', locking, unlocking, bus_failure, bus_return, power_return, learning)
     entries = list(scenes) + [(255, 0)] * (8 - len(scenes))
     return octets + b''.join(struct.pack('2B', number, flags) for number, flags in entries)
 
 
-def cue_file(params, inputs, end, version=1, actuators=1):
+def in_tenths(**named):
+    """The parameters of version 2, 40 octets: the four times in tenths of a second."""
+    return parameters(times='>4I', **named)
+
+
+# the version that has parameters of so many octets
+VERSIONS = {32: 1, 40: 2}
+
+
+def cue_file(params, inputs, end, version=None, actuators=1):
     """Header, parameters, then an input of eight octets for each (stamp, kind, value)."""
-    header = struct.pack('>2H4I', version, actuators, 20, len(inputs), 52, end)
+    header = struct.pack('>2H4I', version or VERSIONS[len(params)], actuators, 20, len(inputs), 20 + len(params), end)
     return header + params + b''.join(struct.pack('>I2B2x', *i) for i in inputs)
 
 
@@ -197,12 +206,41 @@ write('power_cut', cue_file(
     ],
     end=1100))
 
+# ---- tenths: an evening in a studio whose actuators are set in tenths of a second: on after 0.7 seconds, off after 1.5, a timed light
+# of 60.5, and a prewarning of 2.5
+
+TENTHS = cue_file(
+    in_tenths(on_delay=7, off_delay=15, timed_on=605, prewarning=25, locking=MODE_OFF, unlocking=MODE_ON),
+    [
+        (0, TIMED, START),          # 0: the stage manager's round: on at 7, Warning at 612, which would end at 637
+        (625, TIMED, START),        # 1: once more in the prewarning: until 1230, and to 1255 with it
+        (1254, SWITCH, ON),         # 2: doors, in the last tenth of it: the light stays
+        (18000, SWITCH, OFF),       # 3: the show starts: it goes out at 18015
+        (18010, SWITCH, OFF),       # 4: an impatient Off: it is going off already
+        (18015, LOCK, LOCK_IT),     # 5: first act, locked just as the light goes
+        (20000, SWITCH, ON),        # 6: a latecomer at the wall switch
+        (36000, LOCK, UNLOCK_IT),   # 7: the interval
+        (45000, TIMED, START),      # 8: its last minute: Warning at 45605, which would end at 45630
+        (45610, SWITCH, OFF),       # 9: Off in the prewarning: 45625 is the earlier end
+        (45626, LOCK, LOCK_IT),     # 10: second act
+        (60000, LOCK, UNLOCK_IT),   # 11: applause
+        (66000, NIGHT, ON),         # 12: the house is empty: Warning at 66605, which would end at 66630
+        (66629, TIMED, START),      # 13: the cleaner, in the last tenth of it: until 67234, and to 67259 with it
+        (67259, SWITCH, ON),        # 14: again, but a tenth late: it is Dark by now, and starts until 67266
+        (67880, TIMED, STOP),       # 15: by night it was timed, Warning since 67871 until 67896: 67895 is the earlier end
+        (72000, NIGHT, OFF),        # 16: morning
+    ],
+    end=80000)
+write('tenths', TENTHS)
+
 # ---- refused_1 to refused_7: one damaged file for each refusal number
 
 # under 52 octets
 write('refused_1', EXAMPLE[:51])
-# version 2
-write('refused_2', cue_file(EXAMPLE_PARAMETERS, EXAMPLE_INPUTS, end=1000, version=2))
+# version 2, and under its 60 octets
+write('refused_1_tenths', TENTHS[:59])
+# version 3
+write('refused_2', cue_file(EXAMPLE_PARAMETERS, EXAMPLE_INPUTS, end=1000, version=3))
 # two actuators
 write('refused_3', cue_file(EXAMPLE_PARAMETERS, EXAMPLE_INPUTS, end=1000, actuators=2))
 # an octet too many
@@ -210,6 +248,8 @@ write('refused_4', EXAMPLE + b'\0')
 # scene 7 in entry 0, which is octet 16 of the parameters, and again in entry 2, which is octet 20
 write('refused_5', cue_file(
     parameters(timed_on=60, scenes=[(7, TAUGHT_ON), (8, TAUGHT_OFF), (7, TAUGHT_OFF)]), EXAMPLE_INPUTS, end=1000))
+# OffDelay a tenth too long, which is octets 4 to 7 of the parameters, and a TimedOn of 0, octets 8 to 11
+write('refused_5_tenths', cue_file(in_tenths(off_delay=655351, timed_on=0), EXAMPLE_INPUTS, end=1000))
 # a night of 2 in input 2; its stamp is wrong too, but 6 comes before 7
 write('refused_6', cue_file(EXAMPLE_PARAMETERS, [(0, TIMED, START), (50, SWITCH, ON), (40, NIGHT, 2)], end=1000))
 # stamps 50, 49
@@ -252,6 +292,21 @@ write('foyer.wall', wall_list(
         (200000, NIGHT, OFF),           # 26: morning, after two timers
     ],
     end=216000, actions=FOYER_ACTIONS))
+
+# ---- stage_door: version 2 with a button: by night it lights the stair for 20.5 seconds, and a prewarning of 2.5 seconds ends it
+
+write('stage_door.wall', wall_list(
+    in_tenths(off_delay=15, timed_on=205, prewarning=25),
+    [
+        (0, NIGHT, ON),             # 0
+        (10, BUTTON_1, RISING),     # 1: On: Warning at 215, which would end at 240
+        (239, BUTTON_1, RISING),    # 2: in its last tenth a press: the light is on, so Off, and 240 is the earlier end
+        (240, BUTTON_1, RISING),    # 3: a tenth later it has just gone out: On, until 470 with its prewarning
+        (469, BUTTON_1, FALLING),   # 4: sends nothing
+        (470, BUTTON_1, RISING),    # 5: it has just gone out: On, until 700
+        (700, NIGHT, OFF),          # 6: and out again, then morning
+    ],
+    end=1000, actions=(TOGGLE, NOTHING, NOTHING, NOTHING)))
 
 # actions 4 and 9: the place is the lower one, button 1 falling
 write('refused_11.wall', wall_list(FOYER_PARAMETERS, [(0, BUTTON_1, RISING)], end=1000, actions=(TOGGLE, 4, 9, NOTHING)))
