@@ -1,7 +1,7 @@
 //! The proved runs and the second model, side by side in one program, over the kinds of show of `shows.rs`: five of cue files, and
-//! one of wall lists.
+//! one of wall lists, each in every version.
 //!
-//! bench shows: a line for each kind, its name and its lengths.
+//! bench shows: a line for each show, its name and its lengths.
 //! bench mix SHOW N: what the N inputs of a show do: how many change something, change nothing, are stopped; and the records.
 //! bench count SHOW N SIDE CALLS: plays it so many times, by the `proved` run or by the `model`, for a tool that counts
 //! instructions: what ten calls more cost is ten times one call, without the start and the end of the program.
@@ -124,7 +124,7 @@ fn main() {
     let words: Vec<String> = std::env::args().skip(1).collect();
     let words: Vec<&str> = words.iter().map(String::as_str).collect();
     match words[..] {
-        ["shows"] => shows::ALL.iter().for_each(|(name, lengths)| println!("{name} {lengths}")),
+        ["shows"] => shows::all().for_each(|(name, lengths)| println!("{name} {lengths}")),
         ["mix", show, n] => mix(show, n.parse().unwrap()),
         ["time", show, n] => time(show, n.parse().unwrap()),
         ["count", show, n, side, calls] => {

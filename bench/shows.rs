@@ -1,57 +1,107 @@
-//! The kinds of show, so that nobody tunes the run to one of them: five cue files, and a wall list.
+//! The kinds of show, so that nobody tunes the run to one of them: five cue files, and a wall list, each in every version.
 
-use crate::files::{CueFile, Rng};
+use crate::files::{CueFile, Layout, Rng, LAYOUTS};
 use crate::walls::WallList;
 
-/// Each kind, and the lengths that it is measured at.
-pub const ALL: [(&str, &str); 6] = [
-    ("empty", "0"),
-    ("mixed", "256 1024 2048"),
-    ("switching", "256 1024 2048"),
-    ("timers", "256 1024 2048"),
-    ("random", "2048"),
-    ("wall", "2048"),
+/// A kind of show: its name, the lengths that it is measured at, and how one of n inputs is made. It is made of version 1, and has the
+/// same times in every other.
+struct Kind {
+    name: &'static str,
+    lengths: &'static str,
+    made: Made,
+}
+
+/// A cue file, or a wall list, which another call plays.
+enum Made {
+    Cues(fn(usize) -> CueFile),
+    Wall(fn(usize) -> WallList),
+}
+
+static KINDS: [Kind; 6] = [
+    Kind { name: "empty", lengths: "0", made: Made::Cues(mixed) },
+    Kind { name: "mixed", lengths: "256 1024 2048", made: Made::Cues(mixed) },
+    Kind { name: "switching", lengths: "256 1024 2048", made: Made::Cues(switching) },
+    Kind { name: "timers", lengths: "256 1024 2048", made: Made::Cues(timers) },
+    Kind { name: "random", lengths: "2048", made: Made::Cues(random) },
+    Kind { name: "wall", lengths: "2048", made: Made::Wall(wall) },
 ];
 
-/// OnDelay, OffDelay, TimedOn and Prewarning in seconds: those of document 01's cases.
-const DELAYS: [u8; 8] = [0, 2, 0, 5, 0, 60, 0, 10];
+/// The name of a kind in a version: its own in the first, then with the version behind it.
+fn name(kind: &Kind, layout: &Layout) -> String {
+    match layout.version {
+        1 => kind.name.to_string(),
+        version => format!("{}-{}", kind.name, version),
+    }
+}
 
-/// A timed light is over before the next input.
-const SHORT_DELAYS: [u8; 8] = [0, 2, 0, 5, 0, 20, 0, 10];
+/// Every kind in every version.
+fn shows() -> impl Iterator<Item = (&'static Kind, &'static Layout)> {
+    LAYOUTS.iter().flat_map(|layout| KINDS.iter().map(move |kind| (kind, layout)))
+}
 
-/// Whether a show is a wall list, which another call plays.
+fn named(show: &str) -> (&'static Kind, &'static Layout) {
+    let found = shows().find(|(kind, layout)| name(kind, layout) == show);
+    found.unwrap_or_else(|| panic!("no show {show}"))
+}
+
+/// Each show, and the lengths that it is measured at.
+pub fn all() -> impl Iterator<Item = (String, &'static str)> {
+    shows().map(|(kind, layout)| (name(kind, layout), kind.lengths))
+}
+
+/// Whether a show is a wall list.
 pub fn is_wall(show: &str) -> bool {
-    show == "wall"
+    matches!(named(show).0.made, Made::Wall(_))
 }
 
 /// A cue file of n inputs, or a wall list of n items.
 pub fn octets(show: &str, n: usize) -> Vec<u8> {
-    match show {
-        "wall" => return wall(n).octets(),
-        "empty" | "mixed" => repeated(n, DELAYS, true, &mixed()),
-        "switching" => repeated(n, DELAYS, true, &switching()),
-        "timers" => repeated(n, SHORT_DELAYS, false, &[[2, 1]]),
-        "random" => CueFile::random(&mut Rng::new(42), n),
-        _ => panic!("no show {show}"),
-    }.octets()
+    let (kind, layout) = named(show);
+    match kind.made {
+        Made::Cues(made) => made(n).in_version(layout).octets(),
+        Made::Wall(made) => {
+            let list = made(n);
+            WallList { cues: list.cues.in_version(layout), ..list }.octets()
+        }
+    }
+}
+
+/// OnDelay, OffDelay, TimedOn and Prewarning in tenths: those of document 01's cases.
+const DELAYS: [u32; 4] = [20, 50, 600, 100];
+
+/// A timed light is over before the next input.
+const SHORT_DELAYS: [u32; 4] = [20, 50, 200, 100];
+
+/// A random show of version 1.
+fn random_show(seed: u64, n: usize) -> CueFile {
+    CueFile::random_in(&LAYOUTS[0], &mut Rng::new(seed), n)
+}
+
+fn random(n: usize) -> CueFile {
+    random_show(42, n)
 }
 
 /// 256 random inputs of all kinds, from a power cut on, so that every block meets the same state.
-fn mixed() -> Vec<[u8; 2]> {
-    let random = CueFile::random(&mut Rng::new(7), 256).inputs;
-    let mut block: Vec<[u8; 2]> = random.iter().map(|input| [input[4], input[5]]).collect();
+fn mixed(n: usize) -> CueFile {
+    let inputs = random_show(7, 256).inputs;
+    let mut block: Vec<[u8; 2]> = inputs.iter().map(|input| [input[4], input[5]]).collect();
     block[0] = [8, 0];
     block[1] = [8, 1];
-    block
+    repeated(n, DELAYS, true, &block)
 }
 
 /// 96 On and Off of 100, and a lock that stops two more.
-fn switching() -> Vec<[u8; 2]> {
+fn switching(n: usize) -> CueFile {
     let mut rng = Rng::new(3);
     let mut block: Vec<[u8; 2]> = (0..100).map(|_| [1, rng.below(2) as u8]).collect();
     block[50] = [5, 1];
     block[53] = [5, 0];
-    block
+    repeated(n, DELAYS, true, &block)
+}
+
+/// A timed start each time.
+fn timers(n: usize) -> CueFile {
+    repeated(n, SHORT_DELAYS, false, &[[2, 1]])
 }
 
 /// About two presses and releases for each cue, again and again: both buttons toggle when they are pressed, button 2 sends Off when it
@@ -73,17 +123,13 @@ fn wall(n: usize) -> WallList {
 
 /// The same kinds and values again and again, so that what a longer show costs more is what more inputs cost. An input is 42
 /// seconds after the one before, with ties every fifth at the same stamp.
-fn repeated(n: usize, delays: [u8; 8], ties: bool, block: &[[u8; 2]]) -> CueFile {
-    let mut file = CueFile::random(&mut Rng::new(7), 256);
-    file.parameters[0..8].copy_from_slice(&delays);
-    file.inputs = (0..n).map(|i| {
+fn repeated(n: usize, times: [u32; 4], ties: bool, block: &[[u8; 2]]) -> CueFile {
+    let input = |i: usize| {
         let stamp = (i - usize::from(ties && i % 5 == 4)) as u32 * 420;
         let mut input = [0; 8];
         input[0..4].copy_from_slice(&stamp.to_be_bytes());
         input[4..6].copy_from_slice(&block[i % block.len()]);
         input
-    }).collect();
-    file.count = n as u32;
-    file.end = 864_000;
-    file
+    };
+    CueFile { times, inputs: (0..n).map(input).collect(), count: n as u32, end: 864_000, ..random_show(7, 256) }
 }

@@ -263,7 +263,7 @@ impl Codes {
     }
 
     pub fn note(&mut self, list: &[u8], code: usize) {
-        let named = |version: u16| list.get(..2) == Some(&version.to_be_bytes());
+        let named = |version: u16| list.get(..2) == Some(&version.to_be_bytes()[..]);
         let row = LAYOUTS.iter().position(|layout| named(layout.version)).unwrap_or(LAYOUTS.len());
         self.met[row][code] += 1;
     }

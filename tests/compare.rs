@@ -23,7 +23,7 @@ struct Tally {
     comparison: Comparison,
     codes: Codes,
     answers: [u64; 6],
-    longest: [usize; LAYOUTS.len()],
+    longest: Vec<usize>,
 }
 
 impl Tally {
@@ -87,7 +87,7 @@ fn main() {
     let seed = number_named("SEED", 20_260_101);
     let wanted = number_named("FILES", 120_000);
     let mut rng = Rng::new(seed);
-    let mut tally = Tally { comparison: Comparison::start(), codes: Codes::new(), answers: [0; 6], longest: [0; LAYOUTS.len()] };
+    let mut tally = Tally { comparison: Comparison::start(), codes: Codes::new(), answers: [0; 6], longest: vec![0; LAYOUTS.len()] };
     for layout in &LAYOUTS {
         tally.ends(layout, &mut rng);
     }

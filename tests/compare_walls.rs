@@ -137,7 +137,7 @@ struct Tally {
     met: Met,
     codes: Codes,
     bad_actions: [u64; 4],
-    longest: [usize; LAYOUTS.len()],
+    longest: Vec<usize>,
     plain: u64,
 }
 
@@ -148,7 +148,7 @@ impl Tally {
             met: Met::default(),
             codes: Codes::new(),
             bad_actions: [0; 4],
-            longest: [0; LAYOUTS.len()],
+            longest: vec![0; LAYOUTS.len()],
             plain: 0,
         }
     }

@@ -1,4 +1,5 @@
-//! Cue files made at random: shows that reach every kind, phase, mode and answer, and spoilt ones. Shared by the tests and the bench.
+//! Cue files of every version made at random: shows that reach every kind, phase, mode and answer, and spoilt ones. Shared by the
+//! tests and the bench.
 #![allow(dead_code)]
 
 /// A small generator of random numbers (xorshift64*), so that a seed gives the same files everywhere.
