@@ -63,7 +63,6 @@ const REST: usize = 24;
 const LONGEST: u32 = 655_350;
 
 /// The parts of a cue file, in the order in which they are written; the times in tenths, whatever the version.
-#[derive(Clone)]
 pub struct CueFile {
     pub layout: &'static Layout,
     pub version: u16,

@@ -87,8 +87,8 @@ def back():
     out.extend(b'B')
 
 
-# Parameters of a version: four times, the modes, eight scenes as (number, flags). A version has times of so many octets, and of units of
-# so many tenths.
+# Parameters of a version: four times, the modes, eight scenes as (number, flags). A version has times of so many octets, and of units
+# of so many tenths.
 
 TIME_OCTETS = {1: 2, 2: 4}
 UNIT = {1: 10, 2: 1}

@@ -215,6 +215,7 @@ fn bad_time(version: &Version, times: &[u32; 4]) -> Option<usize> {
     (0..4).find(|which| bad(times[*which]) || (*which == timed_on && times[timed_on] == 0))
 }
 
+/// The first octet of the rest that is out of range; the places quoted are those of version 1.
 fn bad_rest(rest: &[u8; REST]) -> Option<usize> {
     // octet by octet, the highest value it may have
     let highest = [
