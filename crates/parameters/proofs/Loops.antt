@@ -6,7 +6,7 @@ use mathlib.Core.Path.{_≡_, refl, sym, ap, _∙_}
 use native.Mathlib.Omega.{arith}
 use lib.ListN.{getD}
 use lib.Dec.{eqb, leb, ltb}
-use borrow.Author.Tests.{ne-eqb, lt-ltb, le-ltb, leb-true, not-false}
+use borrow.Author.Tests.{ne-eqb, lt-ltb, leb-true, not-false}
 use Rattle.octets.specs.BigEndian.{octet}
 use Rattle.rules.specs.declared.form.Scale.{Scale}
 use Rattle.rules.specs.declared.form.Scale.the-variants.{Seconds, Tenths}
@@ -62,15 +62,22 @@ pass-over f octets (suc k) left at good =
     rw (more, rw here at (good 0 (omega arith)))
     (pass-over f octets k left (at + 1) (λ j within. let next : at + 1 + j ≡ at + (j + 1) = omega arith in rw next (good (j + 1) (omega arith))) ∙ rw past)
 
+-- how many octets stand from time n on
+abbrev pub fromTime : Form → ℕ → ℕ
+fromTime f n = width (f .scale) * (4 - n) + 24
+
 -- a time is bad at its first octet or not at all
-pub time-step : (f : Form) (octets : List ℕ) (n left : ℕ) → n < 4 → lowestBad f octets (width (f .scale) + left) (timePlace f n) ≡ cond (badTime f octets n) (Refused BadParameter (timePlace f n)) (lowestBad f octets left (timePlace f (n + 1)))
+pub time-step : (f : Form) (octets : List ℕ) (n : ℕ) → n < 4 → lowestBad f octets (fromTime f n) (timePlace f n) ≡ cond (badTime f octets n) (Refused BadParameter (timePlace f n)) (lowestBad f octets (fromTime f (n + 1)) (timePlace f (n + 1)))
 unfolding lowestBad
-time-step f octets n left within =
+time-step f octets n within =
     let some = few-octets (f .scale) in
-    let first : width (f .scale) + left ≡ suc (width (f .scale) - 1 + left) = omega arith in
     let behind : timePlace f n + 1 + (width (f .scale) - 1) ≡ timePlace f n + width (f .scale) = omega arith in
-    rw (first, time-octet f octets n within, pass-over f octets (width (f .scale) - 1) left (timePlace f n + 1) inner, behind, next (f .scale))
+    rw (left (f .scale), time-octet f octets n within, pass-over f octets (width (f .scale) - 1) (fromTime f (n + 1)) (timePlace f n + 1) inner, behind, next (f .scale))
   where
+    left : (s : Scale) → width s * (4 - n) + 24 ≡ suc (width s - 1 + (width s * (4 - (n + 1)) + 24))
+    left Seconds = omega arith
+    left Tenths = omega arith
+
     next : (s : Scale) → width s * n + width s ≡ width s * (n + 1)
     next Seconds = omega arith
     next Tenths = omega arith
@@ -79,13 +86,6 @@ time-step f octets n left within =
     inner j less =
         let place : timePlace f n + 1 + j ≡ timePlace f n + (j + 1) = omega arith in
         rw place (within-time f octets n (j + 1) within (omega arith) (omega arith))
-
--- all four, then the modes
-pub times-end : (f : Form) (octets : List ℕ) (n : ℕ) → 4 ≤ n → n ≤ 4 → lowestBad f octets (width (f .scale) * (4 - n) + 24) (timePlace f n) ≡ lowestBad f octets 24 (modesAt f)
-times-end f octets n past within =
-    let all : n ≡ 4 = omega arith in
-    let none : width (f .scale) * (4 - 4) + 24 ≡ 24 = omega arith in
-    rw (all, none)
 
 -- a mode against the table
 pub mode-step : (f : Form) (octets : List ℕ) (m : ℕ) → m < 8 → lowestBad f octets (24 - m) (modesAt f + m) ≡ cond (ltb (getD greatest m 0) (octet octets (modesAt f + m))) (Refused BadParameter (modesAt f + m)) (lowestBad f octets (24 - (m + 1)) (modesAt f + (m + 1)))

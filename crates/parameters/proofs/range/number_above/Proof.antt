@@ -1,46 +1,37 @@
+use Prim.Native.Nat.{_≤_}
+use mathlib.Core.Path.{_≡_, sym, _∙_}
+use native.Mathlib.Omega.{arith}
+use borrow.Author.Tests.{eq-eqb, ne-eqb}
+use borrow.Author.Needs.{needs}
+use Rattle.rules.specs.Parameters.{numberAbove}
+use Rattle.parameters.proofs.Loops.{above-step, above-none}
 use Rattle.parameters.proofs.range.number_above.Statement.{statement}
 use Rattle.parameters.proofs.range.number_above.Tie as tie
-use Rattle.parameters.proofs.range.number_above.Reads as reads
-use Rattle.parameters.proofs.range.number_above.Lts as lts
-use Rattle.layout.proofs.scene_place.Reads as scene-place-reads
 
+-- no entry from this one on has the number
 abbrev Inv-loop : tie.InvT-loop
-Inv-loop octets form number entries entry₀ entry = ?
+Inv-loop octets form number entries entry₀ entry = (entry ≤ entries) × (numberAbove form octets number entries ≡ numberAbove form octets number entry)
 
 abbrev μ-loop : tie.MeasureT-loop
-μ-loop octets form number entries entry₀ entry = ?
+μ-loop octets form number entries entry₀ entry = entry
 
--- src/range.rt:41:5
-loop-holds : tie.Need-loop-holds Inv-loop μ-loop
-loop-holds c = ?
-
--- src/range.rt:42:9
-sub-entry : tie.Need-sub-entry Inv-loop μ-loop
-sub-entry c = ?
-
--- src/range.rt:43:13
-scene-place-requires : tie.Need-scene-place-requires Inv-loop μ-loop
-scene-place-requires c κs = ?
-
--- src/range.rt:44:12
-shared-slice-read-if1 : tie.Need-shared-slice-read-if1 Inv-loop μ-loop
-shared-slice-read-if1 c = ?
-
--- src/range.rt:45:13
 returns : tie.Need-returns Inv-loop μ-loop
-returns c = ?
+returns c =
+    let a = c .before .before .before .before .before .before .args in
+    let l = c .before .before .before .before .loop in
+    sym (l .inv .1 ∙ (simp (← c .before .before .scene-place .ensures .0, eq-eqb _ _ (c .if1 .taken)) at (above-step (a .form) (a .octets .now) (a .number) (l .entry) (omega arith))))
 
--- src/range.rt:41:5
-loop-less : tie.Need-loop-less Inv-loop μ-loop
-loop-less c = ?
-
--- src/range.rt:41:5
 loop-again : tie.Need-loop-again Inv-loop μ-loop
-loop-again c = ?
+loop-again c =
+    let a = c .before .before .before .before .before .before .args in
+    let l = c .before .before .before .before .loop in
+    (search needs, l .inv .1 ∙ (simp (← c .before .before .scene-place .ensures .0, ne-eqb _ _ (c .if1 .left)) at (above-step (a .form) (a .octets .now) (a .number) (l .entry) (omega arith))))
 
--- src/range.rt:36:1
 returns-2 : tie.Need-returns-2 Inv-loop μ-loop
-returns-2 c = ?
+returns-2 c =
+    let a = c .before .before .before .args in
+    let l = c .before .loop in
+    sym (l .inv .1 ∙ above-none (a .form) (a .octets .now) (a .number) (l .entry) (omega arith))
 
 pub number-above-spec : {M : Type 1} → statement M
 number-above-spec =
@@ -48,11 +39,11 @@ number-above-spec =
     (tie.spec
     Inv-loop
     μ-loop
-    loop-holds
-    sub-entry
-    scene-place-requires
-    shared-slice-read-if1
+    (λ c. search needs)
+    (λ c. search needs)
+    (λ c κs. search needs)
+    (λ c. search needs)
     returns
-    loop-less
+    (λ c. search needs)
     loop-again
     returns-2)
