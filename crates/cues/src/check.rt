@@ -1,14 +1,17 @@
 // The check of a whole file: the first thing that is wrong, in the order of the refusal numbers.
 ghost use mathlib.Core.Path.{_≡_};
-ghost use Prim.Native.Nat.{_+_, _≤_};
+ghost use Prim.Native.Nat.{_+_, _*_, _≤_};
 ghost use lib.ListN.{length};
+ghost use Rattle.base.specs.declared.refusal.Check.the-variants.{Refused};
 ghost use Rattle.rules.specs.Parameters.{checkParameters};
-ghost use Rattle.rules.specs.Layout.{inputsAt, inputSize, mostInputs, inputPlace};
+ghost use Rattle.rules.specs.Forms.{formIn};
+ghost use Rattle.rules.specs.Layout.{leastFile, inputsAt, inputSize, mostInputs};
 ghost use Rattle.rules.specs.Readings.{verdict};
-ghost use Rattle.rules.specs.Files.{parametersIn, checkStart, readFile};
+ghost use Rattle.rules.specs.Files.{parametersIn, checkRest, checkStart, readFile};
 ghost use Rattle.cues.specs.Checks.{checkOne, checkInputs, isEdge, isKnown, knownAt};
 use crate::header::actuators_of;
 use crate::header::end_time;
+use crate::header::form_in;
 use crate::header::input_count;
 use crate::header::layout_is_right;
 use crate::header::version_of;
@@ -16,21 +19,24 @@ use base::logic::both;
 use base::refusal::Check;
 use base::refusal::Refusal;
 use inputs::is_input_at;
-use layout::INPUTS_AT;
+use layout::LEAST_FILE;
 use layout::input_place;
+use layout::inputs_at;
+use layout::is_version;
 use layout::parameters_in;
 use octets::group::stamp_at;
 use parameters::read::check_parameters;
+use rules::form::Form;
 use sensor::signal::Signal;
 use sensor::signal::Signalled;
 use sensor::signal::signal_at;
 
 // The parameters of a file.
-fn check_parameters_in(file: &[u8]) -> Check
-    requires { ⌜ inputsAt ≤ length (now file) ⌝ }
-    ensures { λ r. ⌜ r ≡ checkParameters (parametersIn (now (file .entry))) ⌝ }
+fn check_parameters_in(file: &[u8], form: Form) -> Check
+    requires { ⌜ (form ≡ formIn (now file)) × (inputsAt form ≤ length (now file)) ⌝ }
+    ensures { λ r. ⌜ r ≡ checkParameters (formIn (now (file .entry))) (parametersIn (now (file .entry))) ⌝ }
 {
-    check_parameters(parameters_in(file))
+    check_parameters(parameters_in(file, form), form)
 }
 
 // Input i alone, known to mean something or not: 6 before 7.
@@ -86,14 +92,14 @@ fn is_known_at(file: &[u8], at: usize, edges: bool) -> bool
 }
 
 // The first bad input of n, from the first on, in a list that takes edges too or does not.
-pub fn check_inputs(file: &[u8], n: u32, end: u32, edges: bool) -> Check
-    requires { ⌜ (n ≤ mostInputs) × (inputPlace n ≤ length (now file)) ⌝ }
+pub fn check_inputs(file: &[u8], form: Form, n: u32, end: u32, edges: bool) -> Check
+    requires { ⌜ (form ≡ formIn (now file)) × (n ≤ mostInputs) × (inputsAt form + inputSize * n ≤ length (now file)) ⌝ }
     ensures { λ r. ⌜ r ≡ checkInputs (knownAt edges (now (file .entry))) (now (file .entry)) n 0 0 end ⌝ }
 {
     let mut i: u32 = 0;
     let mut last: u32 = 0;
     while i < n {
-        let at = input_place(i);
+        let at = input_place(form, i);
         let stamp = stamp_at(file, at);
         let one = check_one(is_known_at(file, at, edges), stamp, last, end, i);
         match one {
@@ -109,35 +115,42 @@ pub fn check_inputs(file: &[u8], n: u32, end: u32, edges: bool) -> Check
     Check::Passed
 }
 
+// A row of the table whose place is 0.
+fn refused(why: Refusal) -> Check
+    ensures { λ r. ⌜ r ≡ Refused why 0 ⌝ }
+{
+    Check::Refused { why, place: 0 }
+}
+
+// What stands before the inputs of a file of this row, from its length on.
+fn check_rest(file: &[u8], form: Form) -> Check
+    requires { ⌜ (form ≡ formIn (now file)) × (leastFile ≤ length (now file)) ⌝ }
+    ensures { λ r. ⌜ r ≡ checkRest (now (file .entry)) ⌝ }
+{
+    if file.len() < inputs_at(form) {
+        return refused(Refusal::WrongLength);
+    }
+    if actuators_of(file) != 1 {
+        return refused(Refusal::WrongActuators);
+    }
+    if layout_is_right(file, form) {
+        check_parameters_in(file, form)
+    } else {
+        refused(Refusal::WrongLayout)
+    }
+}
+
 // What stands before the inputs: the header, then the parameters.
 pub fn check_start(file: &[u8]) -> Check
     ensures { λ r. ⌜ r ≡ checkStart (now (file .entry)) ⌝ }
 {
-    if file.len() < INPUTS_AT {
-        return Check::Refused {
-            why: Refusal::WrongLength,
-            place: 0,
-        };
+    if file.len() < LEAST_FILE {
+        return refused(Refusal::WrongLength);
     }
-    if version_of(file) != 1 {
-        return Check::Refused {
-            why: Refusal::WrongVersion,
-            place: 0,
-        };
-    }
-    if actuators_of(file) != 1 {
-        return Check::Refused {
-            why: Refusal::WrongActuators,
-            place: 0,
-        };
-    }
-    if layout_is_right(file) {
-        check_parameters_in(file)
+    if is_version(version_of(file)) {
+        check_rest(file, form_in(file))
     } else {
-        Check::Refused {
-            why: Refusal::WrongLayout,
-            place: 0,
-        }
+        refused(Refusal::WrongVersion)
     }
 }
 
@@ -147,7 +160,7 @@ pub fn check_file(file: &[u8]) -> Check
 {
     let start = check_start(file);
     match start {
-        Check::Passed => check_inputs(file, input_count(file), end_time(file), false),
+        Check::Passed => check_inputs(file, form_in(file), input_count(file), end_time(file), false),
         Check::Refused { why, place } => Check::Refused { why, place },
     }
 }

@@ -3,7 +3,7 @@
 ghost use mathlib.Core.Path.{_≡_};
 ghost use Prim.Native.Nat.{_+_, _*_, _≤_, _<_};
 ghost use lib.ListN.{length};
-ghost use Rattle.rules.specs.Forms.{width, formOf, formIn};
+ghost use Rattle.rules.specs.Forms.{width, formOf, isVersion, formIn};
 ghost use Rattle.rules.specs.Layout.{timePlace, modesAt, scenesAt, scenePlace, flagsPlace, parametersSize, formAlone, inputsAt, inputSize};
 ghost use Rattle.rules.specs.Files.{parametersIn};
 use rules::form::Form;
@@ -33,6 +33,14 @@ pub fn form_of(version: u32) -> Form
             scale: Scale::Seconds,
         }
     }
+}
+
+// Whether a version has a row of its own.
+pub fn is_version(version: u32) -> bool
+    ensures { λ r. ⌜ r ≡ isVersion version ⌝ }
+{
+    let form = form_of(version);
+    form.version as u32 == version
 }
 
 // The row of parameters that are offered alone: told by how many octets they are.

@@ -61,18 +61,21 @@ layoutRight file =
 
 -- ---- the whole file: "Order 1, 2, 3, 4, 5; then the first bad input"
 
--- 1 to 5: what stands before the inputs. 02, [2]: "version is tested on files of at least 52 octets, and a version 2 file under 60 then
--- gets 1"
-unfoldable pub checkStart : List ℕ → Check
-checkStart file =
-    cond (leb leastFile (length file))
-    (cond (isVersion (version file))
-    (cond (leb (inputsAt (formIn file)) (length file))
+-- of a file whose version has a row: "a version 2 file under 60 then gets 1" (02, [2]), then 3, 4 and 5
+unfoldable pub checkRest : List ℕ → Check
+checkRest file =
+    cond (leb (inputsAt (formIn file)) (length file))
     (cond (eqb (actuators file) 1)
     (cond (layoutRight file) (checkParameters (formIn file) (parametersIn file))
     (Refused WrongLayout 0))
     (Refused WrongActuators 0))
-    (Refused WrongLength 0))
+    (Refused WrongLength 0)
+
+-- 1 to 5, what stands before the inputs: "version is tested on files of at least 52 octets" (02, [2])
+unfoldable pub checkStart : List ℕ → Check
+checkStart file =
+    cond (leb leastFile (length file))
+    (cond (isVersion (version file)) (checkRest file)
     (Refused WrongVersion 0))
     (Refused WrongLength 0)
 

@@ -27,7 +27,7 @@ use Rattle.rules.specs.Parameters.{checkParameters}
 use Rattle.rules.specs.Layout.{parametersSize, formAlone, inputsAt, inputPlace}
 use Rattle.rules.specs.Readings.{cues, bad, verdict, found, readInputs}
 use Rattle.rules.specs.Forms.{isVersion, version, formIn}
-use Rattle.rules.specs.Files.{actuators, parametersOffset, inputCount, inputsOffset, endTime, parametersIn, layoutRight, checkStart, stamped, cueAt, readFile}
+use Rattle.rules.specs.Files.{actuators, parametersOffset, inputCount, inputsOffset, endTime, parametersIn, layoutRight, checkRest, checkStart, stamped, cueAt, readFile}
 use Rattle.rules.specs.Facts.{HasVersion}
 use Rattle.rules.specs.Refusals.{LongEnough, FoundWhen, GoodLayout, GoodHeader, GoodStart, StartWhen, GivenWhen, GoodFile}
 use Rattle.base.proofs.Tests.{no, both, cond-case, either-way}
@@ -92,7 +92,7 @@ module _ (file : List ℕ) where
 
   -- a file of either version that is shorter than its own parameters
   pub short-of-version : HasVersion (version file) → length file < inputsAt (formIn file) → checkStart file ≡ Refused WrongLength 0
-  unfolding checkStart
+  unfolding checkStart checkRest
   short-of-version known short =
       either-way (λ (c : Check). c ≡ Refused WrongLength 0) (leb 52 (length file)) _ (Refused WrongLength 0)
       (simp (has-version (version file) .1 known, lt-leb (inputsAt (formIn file)) (length file) short))
@@ -100,7 +100,7 @@ module _ (file : List ℕ) where
 
   -- from there on
   past-length : LongEnough file → checkStart file ≡ cond (eqb (actuators file) 1) (cond (layoutRight file) (checkParameters (formIn file) (parametersIn file)) (Refused WrongLayout 0)) (Refused WrongActuators 0)
-  unfolding checkStart
+  unfolding checkStart checkRest
   past-length e = simp (le-leb 52 (length file) (e .least), has-version (version file) .1 (e .version), le-leb (inputsAt (formIn file)) (length file) (e .long))
 
   pub other-actuators : LongEnough file → (actuators file ≡ 1 → ⊥) → checkStart file ≡ Refused WrongActuators 0
@@ -145,7 +145,7 @@ Begins file (Refused why place) = StartWhen file why place
 
 -- the tests of the header in their order, then the parameters
 begins : (file : List ℕ) → Begins file (checkStart file)
-unfolding checkStart
+unfolding checkStart checkRest
 begins file =
     cond-case (Begins file) (leb 52 (length file)) _ (Refused WrongLength 0)
     (λ least. cond-case (Begins file) (isVersion (version file)) _ (Refused WrongVersion 0)

@@ -1,4 +1,4 @@
-use mathlib.Core.Path.{sym, _∙_}
+use mathlib.Core.Path.{refl, sym, _∙_}
 use native.Mathlib.Omega.{arith}
 use denote.Ref.{now}
 use borrow.Author.Needs.{needs}
@@ -14,13 +14,13 @@ start c = start-decides _ .passed .0 (sym (c .before .before .check-start .ensur
 
 check-inputs-requires : tie.Need-check-inputs-requires
 check-inputs-requires c κs =
-    let layout = start (c .before .before) .header .layout in
-    rw (c .before .input-count .ensures) (layout .few, omega (arith, layout .whole))
+    let layout = start (c .before .before .before) .header .layout in
+    rw (c .before .input-count .ensures, c .before .before .form-in .ensures) (refl, layout .few, omega (arith, layout .whole))
 
 returns : tie.Need-returns
 returns c =
     rw (c .check-inputs .ensures, c .before .end-time .ensures, c .before .before .input-count .ensures)
-    (checked-as-read _ _ (known-says _) _ _ _ _ _ ∙ sym (file-passes _ (start (c .before .before .before))))
+    (checked-as-read _ _ (known-says _) _ _ _ _ _ ∙ sym (file-passes _ (start (c .before .before .before .before))))
 
 returns-2 : tie.Need-returns-2
 returns-2 c = sym (file-stops _ _ _ (sym (c .before .before .before .check-start .ensures) ∙ c .before .start .given .1))
@@ -31,8 +31,9 @@ check-file-spec =
     (tie.spec
     (λ c κs. search needs)
     (λ c. search needs)
-    (λ c κs. start c .header .long)
-    (λ c κs. start (c .before) .header .long)
+    (λ c κs. start c .header .enough .least)
+    (λ c κs. start (c .before) .header .enough .least)
+    (λ c κs. start (c .before .before) .header .enough .least)
     check-inputs-requires
     (λ c. search needs)
     returns
