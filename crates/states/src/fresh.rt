@@ -27,11 +27,12 @@ pub fn fresh_with(p: Params, k: [Scene; 8]) -> State
     }
 }
 
-// The state of a refusal where none was handed in: TimedOn 1 second, all else 0, no scenes.
+// The state of a refusal where none was handed in: version 1, TimedOn 1 second, all else 0, no scenes.
 pub fn own_state() -> State
     ensures { λ r. ⌜ r ≡ ownState ⌝ }
 {
     let p = Params {
+        version: 1,
         ondelay: 0,
         offdelay: 0,
         timedon: 10,

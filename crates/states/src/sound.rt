@@ -1,6 +1,8 @@
 // Whether a state that a caller hands in is sound: one test for each rule.
 ghost use mathlib.Core.Path.{_≡_};
-ghost use Rattle.rules.specs.Parameters.{timeInRange, paramsInRange};
+ghost use Prim.Native.Nat.{_≤_};
+ghost use Rattle.rules.specs.Forms.{unit};
+ghost use Rattle.rules.specs.Parameters.{timeInRange, timesInRange, modesInRange, paramsInRange};
 ghost use Rattle.rules.specs.Soundness.{soon, isDark, isLit, agrees, heldIsSteady, forceDecides, nightEnds, powerDownIsClear, consistent, sound};
 use base::logic::both;
 use base::logic::either;
@@ -9,7 +11,10 @@ use base::moment::LAST_STAMP;
 use base::moment::LONGEST_DELAY;
 use lamps::flags::power_is_down;
 use lamps::flags::stands;
+use layout::form_of;
+use layout::is_version;
 use phases::phase::deadline_of;
+use rules::form::Scale;
 use rules::input::Force;
 use rules::parameters::Params;
 use rules::phase::Deadline;
@@ -18,30 +23,64 @@ use rules::state::Link;
 use rules::state::State;
 use scenes::range::scenes_in_range;
 
-fn time_in_range(t: u32) -> bool
-    ensures { λ r. ⌜ r ≡ timeInRange t ⌝ }
+// The tenths that 1 lasts.
+fn unit_of(scale: Scale) -> u32
+    ensures { λ r. ⌜ (r ≡ unit scale) × (1 ≤ r) ⌝ }
+{
+    match scale {
+        Scale::Seconds => 10,
+        Scale::Tenths => 1,
+    }
+}
+
+// A time that this scale can write.
+fn time_in_range(scale: Scale, t: u32) -> bool
+    ensures { λ r. ⌜ r ≡ timeInRange scale t ⌝ }
 {
     let short = t <= LONGEST_DELAY;
-    let whole = t % 10 == 0;
+    let whole = t % unit_of(scale) == 0;
     both(short, whole)
 }
 
-fn params_in_range(p: Params) -> bool
-    ensures { λ r. ⌜ r ≡ paramsInRange p ⌝ }
+fn times_in_range(scale: Scale, p: Params) -> bool
+    ensures { λ r. ⌜ r ≡ timesInRange scale p ⌝ }
 {
-    let times = both(
-        both(time_in_range(p.ondelay), time_in_range(p.offdelay)),
-        both(time_in_range(p.timedon), time_in_range(p.prewarning)),
+    let switched = both(
+        time_in_range(scale, p.ondelay),
+        time_in_range(scale, p.offdelay),
     );
-    let some = 10 <= p.timedon;
+    let staged = both(
+        time_in_range(scale, p.timedon),
+        time_in_range(scale, p.prewarning),
+    );
+    let some = unit_of(scale) <= p.timedon;
+    both(both(switched, staged), some)
+}
+
+fn modes_in_range(p: Params) -> bool
+    ensures { λ r. ⌜ r ≡ modesInRange p ⌝ }
+{
     let locking = p.locking <= 2;
     let unlocking = p.unlocking <= 3;
     let failure = p.busfailure <= 2;
     let back = p.busreturn <= 2;
     let power = p.powerreturn <= 2;
     both(
-        both(both(times, both(some, locking)), both(unlocking, failure)),
-        both(back, power),
+        both(both(locking, unlocking), both(failure, back)),
+        power,
+    )
+}
+
+// In range for the version that the state keeps.
+fn params_in_range(p: Params) -> bool
+    ensures { λ r. ⌜ r ≡ paramsInRange p ⌝ }
+{
+    let version = p.version as u32;
+    let form = form_of(version);
+    let scale = form.scale;
+    both(
+        both(is_version(version), times_in_range(scale, p)),
+        modes_in_range(p),
     )
 }
 
