@@ -8,6 +8,7 @@ use base::refusal::number_of;
 use buffers::put::is_roomy;
 use cues::check::check_file;
 use cues::header::end_time;
+use cues::header::form_in;
 use cues::header::input_count;
 use player::play::Ended;
 use player::play::play;
@@ -49,7 +50,15 @@ pub fn run(file: &[u8], records: &mut [u8], answers: &mut [u8]) -> Ran
         Check::Passed => {
             let n = input_count(file);
             if is_roomy(n, records.len(), answers.len()) {
-                accepted(play(file, own_sensor(), n, end_time(file), records, answers))
+                accepted(play(
+                    file,
+                    form_in(file),
+                    own_sensor(),
+                    n,
+                    end_time(file),
+                    records,
+                    answers,
+                ))
             } else {
                 refused(Refusal::ShortBuffer, 0)
             }

@@ -4,6 +4,8 @@ use mathlib.Core.List.{List}
 use mathlib.Core.Path.{_≡_, refl}
 use lib.ListN.{length}
 use Rattle.base.specs.declared.refusal.Check.the-variants.{Passed}
+use Rattle.rules.specs.declared.form.Form.{Form}
+use Rattle.rules.specs.Layout.{parametersSize}
 use Rattle.rules.specs.Steps.{Moved, Stepped}
 use Rattle.rules.specs.Parameters.{checkParameters}
 use Rattle.rules.specs.Calls.{singleDone, moveDone}
@@ -22,6 +24,6 @@ pub clocked-is-done : (m : Moved) → moveOf (clocked m) ≡ moveDone m
 unfolding moveOf clocked notes moveDone
 clocked-is-done m = rw (two-of-three (m .records))
 
--- accepted parameters are 32 octets
-pub passed-length : (octets : List ℕ) → checkParameters octets ≡ Passed → length octets ≡ 32
-passed-length octets h = lowest-bad-octet octets Passed .0 h .whole
+-- accepted parameters have the octets of their row
+pub passed-length : (f : Form) (octets : List ℕ) → checkParameters f octets ≡ Passed → length octets ≡ parametersSize f
+passed-length f octets h = lowest-bad-octet f octets Passed .0 h .whole

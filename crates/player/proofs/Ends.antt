@@ -6,14 +6,16 @@ use mathlib.Core.Path.{_≡_, refl, sym, ap, _∙_}
 use native.Mathlib.Omega.{arith}
 use lib.ListN.{length, getD, take, length-append}
 use Rattle.octets.specs.Splice.{splice}
+use Rattle.rules.specs.declared.form.Form.{Form}
 use Rattle.rules.specs.declared.state.State.{State}
 use Rattle.rules.specs.declared.record.Record.{Record}
 use Rattle.rules.specs.Steps.{Moved, fresh, clockMove}
 use Rattle.rules.specs.Status.{byItself, value, attributes, recordOf}
+use Rattle.rules.specs.Forms.{formIn}
 use Rattle.rules.specs.Files.{endTime, parametersIn}
 use Rattle.rules.specs.Runs.{recordOctets, recordsOctets}
+use Rattle.rules.proofs.Laws.Forms.{file-row}
 use Rattle.rules.proofs.Laws.Parameters.{passed-is-sound}
-use Rattle.rules.proofs.Refusals.Files.{parameters-small}
 use Rattle.sensor.specs.declared.state.Sensor.{Sensor}
 use Rattle.sensor.specs.Reactions.{hear}
 use Rattle.pairs.specs.Pairs.{Pair, pairOf, hears, pairMove}
@@ -49,9 +51,9 @@ module _ (file : List ℕ) (z : Sensor) (r r₁ : List ℕ) (first : r₁ ≡ sp
       ap (λ (y : Sensor). pairOf (freshIn file) y) (put-is-heard (start ∷ []) r r₁ 0 z 0 (omega arith) (omega arith) one ∙ ap (λ (y : Sensor). hears (start ∷ []) y) (all-heard r 0 z))
 
   -- its own parameters start a sound pair, and its items can be played from there on
-  pub fit-ready : (n end : ℕ) → Fit file n end → ((i : ℕ) → getD file i 0 < 256) → Ready file n (pairOf (freshIn file) (listened r₁ 1 z 0))
+  pub fit-ready : (form : Form) (n end : ℕ) → Fit file form n end → Ready file n (pairOf (freshIn file) (listened r₁ 1 z 0))
   unfolding freshIn fresh
-  fit-ready n end fit small =
+  fit-ready form n end fit =
       let layout = fit .start .header .layout in
       rw start-heard
       (record {
@@ -59,7 +61,7 @@ module _ (file : List ℕ) (z : Sensor) (r r₁ : List ℕ) (first : r₁ ≡ sp
         whole = omega (arith, layout .whole, fit .inputs);
         timely = layout .end;
         reads = rw (fit .inputs) (fit .reads);
-        sound = sound-pair-exactly-when (startPair file z) .1 (record { actuator = passed-is-sound (parametersIn file) (parameters-small file small) (fit .start .passed); sensor = unfold hears hear recordOf in omega arith; behind = unfold hears hear recordOf in omega arith });
+        sound = sound-pair-exactly-when (startPair file z) .1 (record { actuator = passed-is-sound (formIn file) (parametersIn file) (file-row file) (fit .start .passed); sensor = unfold hears hear recordOf in omega arith; behind = unfold hears hear recordOf in omega arith });
       })
 
   -- ---- the end

@@ -4,10 +4,12 @@ use mathlib.Core.Bool.{true}
 use mathlib.Core.List.{List}
 use mathlib.Core.Path.{_≡_}
 use lib.ListN.{length}
+use Rattle.rules.specs.declared.form.Form.{Form}
 use Rattle.rules.specs.declared.parameters.Params.{Params}
 use Rattle.rules.specs.declared.parameters.Scene.{Scene}
 use Rattle.rules.specs.declared.state.State.{State}
 use Rattle.base.specs.Time.{lastStamp}
+use Rattle.rules.specs.Forms.{formIn}
 use Rattle.rules.specs.Layout.{mostInputs, inputPlace, recordPlace}
 use Rattle.rules.specs.Steps.{Moved, fresh, clockMove}
 use Rattle.rules.specs.Readings.{cues, found, readInputs}
@@ -39,9 +41,10 @@ freshIn file = fresh (paramsIn file) (scenesIn file)
 unfoldable pub playIn : List ℕ → Sensor → PairPlayed
 playIn file z = playOver file z (itemsIn file)
 
--- nothing is wrong with the file, and these are its count of inputs and its end time
-pub record Fit (file : List ℕ) (n end : ℕ) : Type 0 where
+-- nothing is wrong with the file, and these are the row of its version, its count of inputs and its end time
+pub record Fit (file : List ℕ) (form : Form) (n end : ℕ) : Type 0 where
   pub start : GoodStart file
+  pub row : form ≡ formIn file
   pub reads : itemsRead file ≡ cues (itemsIn file)
   pub inputs : n ≡ inputCount file
   pub ends : end ≡ endTime file

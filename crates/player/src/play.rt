@@ -2,6 +2,7 @@
 ghost use mathlib.Core.Path.{_≡_};
 ghost use Prim.Native.Nat.{_+_, _*_, _≤_};
 ghost use lib.ListN.{length};
+ghost use Rattle.rules.specs.Forms.{formIn};
 ghost use Rattle.rules.specs.Layout.{inputsAt, mostInputs, recordPlace, recordsRoom};
 ghost use Rattle.phases.specs.Room.{Room};
 ghost use Rattle.pairs.specs.Pairs.{pairOf};
@@ -26,6 +27,7 @@ use parameters::read::params_of;
 use parameters::read::scenes_of;
 use records::status::record_of;
 use rules::barrier::Barrier;
+use rules::form::Form;
 use rules::parameters::Params;
 use rules::state::State;
 use sensor::state::Sensor;
@@ -59,12 +61,12 @@ pub struct Moment {
 }
 
 // The fresh state of a file's own parameters and scenes.
-fn fresh_in(file: &[u8]) -> State
-    requires { ⌜ inputsAt ≤ length (now file) ⌝ }
+fn fresh_in(file: &[u8], form: Form) -> State
+    requires { ⌜ (form ≡ formIn (now file)) × (inputsAt form ≤ length (now file)) ⌝ }
     ensures { λ r. ⌜ r ≡ freshIn (now (file .entry)) ⌝ }
 {
-    let parameters = parameters_in(file);
-    fresh_with(params_of(parameters), scenes_of(parameters))
+    let parameters = parameters_in(file, form);
+    fresh_with(params_of(parameters, form), scenes_of(parameters, form))
 }
 
 // The clock of a lamp moves to t: the timers due, until none is. Their records follow those before, which are at most three for
@@ -91,13 +93,14 @@ fn advance(records: &mut [u8], count: u32, p: Params, l: Lamp, t: u32) -> Moment
 // the input that it sends; an edge that sends nothing changes nothing at the actuator but its clock, once the due timers have run.
 fn play_items(
     file: &[u8],
+    form: Form,
     n: u32,
     start: State,
     first: Sensor,
     records: &mut [u8],
     answers: &mut [u8],
 ) -> Reached
-    requires { ⌜ Ready (now file) n (pairOf start (listened (now records) 1 first 0)) × (recordPlace (3 * n + 1) ≤ length (now records)) × (n ≤ length (now answers)) ⌝ }
+    requires { ⌜ Ready (now file) n (pairOf start (listened (now records) 1 first 0)) × (recordPlace (3 * n + 1) ≤ length (now records)) × (n ≤ length (now answers)) × (form ≡ formIn (now file)) ⌝ }
     ensures { λ r. ⌜ ItemsPlayed (now (file .entry)) n start first (now (records .entry)) (now (answers .entry)) r (now (records .exit)) (now (answers .exit)) ⌝ }
 {
     let p = start.params;
@@ -108,7 +111,7 @@ fn play_items(
     let mut count: u32 = 1;
     let mut i: u32 = 0;
     while i < n {
-        let at = input_place(i);
+        let at = input_place(form, i);
         let t = stamp_at(file, at);
         let m = advance(records, count, p, l, t);
         let moved = m.lamp;
@@ -163,18 +166,19 @@ fn play_items(
 // The whole run, to an actuator with this sensor beside it: the start record, the items, and the clock's move to the end time.
 pub fn play(
     file: &[u8],
+    form: Form,
     first: Sensor,
     n: u32,
     end: u32,
     records: &mut [u8],
     answers: &mut [u8],
 ) -> Ended
-    requires { ⌜ Fit (now file) n end × (recordsRoom n ≤ length (now records)) × (n ≤ length (now answers)) ⌝ }
+    requires { ⌜ Fit (now file) form n end × (recordsRoom n ≤ length (now records)) × (n ≤ length (now answers)) ⌝ }
     ensures { λ r. ⌜ Filled 0 (playIn (now (file .entry)) first) (now (records .entry)) (now (answers .entry)) (r .state) (r .sensor) (r .count) (now (records .exit)) (now (answers .exit)) ⌝ }
 {
-    let start = fresh_in(file);
+    let start = fresh_in(file, form);
     put_record(records, 0, record_of(0, lamp_of(start)));
-    let played = play_items(file, n, start, first, records, answers);
+    let played = play_items(file, form, n, start, first, records, answers);
     let s = played.state;
     let z = played.sensor;
     let last = move_clock(s, end);

@@ -10,8 +10,9 @@ use base::refusal::Refusal;
 use cues::check::check_inputs;
 use cues::check::check_start;
 use cues::header::end_time;
+use cues::header::form_in;
 use cues::header::input_count;
-use layout::INPUTS_AT;
+use layout::LEAST_FILE;
 use sensor::action::check_actions;
 
 const ACTIONS_SIZE: usize = 4;
@@ -43,7 +44,7 @@ fn check_parts(file: &[u8], actions: &[u8]) -> Check
             let edges = check_actions(actions);
             match edges {
                 Check::Refused { why, place } => Check::Refused { why, place },
-                Check::Passed => check_inputs(file, input_count(file), end_time(file), true),
+                Check::Passed => check_inputs(file, form_in(file), input_count(file), end_time(file), true),
             }
         }
     }
@@ -53,7 +54,7 @@ fn check_parts(file: &[u8], actions: &[u8]) -> Check
 pub fn check_wall(wall: &[u8]) -> Check
     ensures { λ r. ⌜ r ≡ verdict (readWall (now (wall .entry))) ⌝ }
 {
-    if wall.len() < INPUTS_AT + ACTIONS_SIZE {
+    if wall.len() < LEAST_FILE + ACTIONS_SIZE {
         return Check::Refused {
             why: Refusal::WrongLength,
             place: 0,

@@ -10,6 +10,7 @@ use base::refusal::Refusal;
 use base::refusal::number_of;
 use buffers::put::is_roomy;
 use cues::header::end_time;
+use cues::header::form_in;
 use cues::header::input_count;
 use pairs::call::WallRan;
 use player::play::Ended;
@@ -57,7 +58,15 @@ pub fn run_wall(wall: &[u8], records: &mut [u8], answers: &mut [u8]) -> WallRan
             let n = input_count(file);
             if is_roomy(n, records.len(), answers.len()) {
                 let first = fresh_with(actions_in(wall));
-                accepted(play(file, first, n, end_time(file), records, answers))
+                accepted(play(
+                    file,
+                    form_in(file),
+                    first,
+                    n,
+                    end_time(file),
+                    records,
+                    answers,
+                ))
             } else {
                 refused(Refusal::ShortBuffer, 0)
             }

@@ -28,21 +28,25 @@ use Rattle.player.proofs.play.play_items.Statement.{statement}
 use Rattle.player.proofs.play.play_items.Tie as tie
 
 abbrev Inv-loop : tie.InvT-loop
-Inv-loop file n records₀ answers₀ p k₀ l₀ z₀ heard₀ count₀ i₀ records answers k l z heard count i =
+Inv-loop file form n records₀ answers₀ p k₀ l₀ z₀ heard₀ count₀ i₀ records answers k l z heard count i =
     Going file n (pairOf (stateOf p k₀ l₀) (listened records₀ 1 z₀ 0)) records₀ answers₀ records answers (pairOf (stateOf p k l) (listened records count z heard)) count i × (heard ≤ count)
 
 abbrev μ-loop : tie.MeasureT-loop
-μ-loop file n records₀ answers₀ p k₀ l₀ z₀ heard₀ count₀ i₀ records answers k l z heard count i = n - i
+μ-loop file form n records₀ answers₀ p k₀ l₀ z₀ heard₀ count₀ i₀ records answers k l z heard count i = n - i
 
 -- the pair that the items are played from is ready for them
 ready-to : (c : tie.After-lamp-of Inv-loop μ-loop) → let a = c .before .before .before .before .before .before .args in Ready (now (a .file)) (a .n) (pairOf (stateOf (a .start .params) (a .start .scenes) (c .lamp-of .result)) (listened (now (a .records)) 1 (a .first) 0))
 ready-to c = rw (c .lamp-of .ensures) (c .before .before .before .before .before .before .pre .0)
 
+-- where the next item stands
+placed : (c : tie.After-input-place Inv-loop μ-loop) → c .input-place .result ≡ inputPlace (now (c .before .before .before .before .before .before .before .before .before .args .file)) (c .before .before .loop .i)
+placed c = rw (c .before .before .before .before .before .before .before .before .before .pre .3) at (c .input-place .ensures)
+
 loop-holds : tie.Need-loop-holds Inv-loop μ-loop
 loop-holds c = (going-first _ _ _ _ _ (ready-to c), omega arith)
 
 stamp-at-requires : tie.Need-stamp-at-requires Inv-loop μ-loop
-stamp-at-requires c κs = omega (arith, c .input-place .ensures, c .before .loop-test .taken, ready-to (c .before .before .before) .whole)
+stamp-at-requires c κs = omega (arith, placed c, c .before .loop-test .taken, ready-to (c .before .before .before) .whole)
 
 advance-requires : tie.Need-advance-requires Inv-loop μ-loop
 advance-requires c κs =
@@ -52,7 +56,7 @@ advance-requires c κs =
     let g = loop .inv .0 in
     let within = c .before .before .before .loop-test .taken in
     let f = next-item _ _ _ _ _ ready _ _ _ _ _ g within in
-    (rw (c .before .stamp-at .ensures, c .before .before .input-place .ensures) (sound-room (stateOf (a .args .start .params) (loop .k) (loop .l)) _ (sound-pair-exactly-when _ .0 (g .safe) .actuator) (omega (arith, f .timely, ready .timely))), omega (arith, within, g .stands .few, ready .few), omega (arith, within, g .stands .few, g .stands .room, a .pre .1))
+    (rw (c .before .stamp-at .ensures, placed (c .before .before)) (sound-room (stateOf (a .args .start .params) (loop .k) (loop .l)) _ (sound-pair-exactly-when _ .0 (g .safe) .actuator) (omega (arith, f .timely, ready .timely))), omega (arith, within, g .stands .few, ready .few), omega (arith, within, g .stands .few, g .stands .room, a .pre .1))
 
 turn-at-requires : tie.Need-turn-at-requires Inv-loop μ-loop
 turn-at-requires c κs =
@@ -61,7 +65,7 @@ turn-at-requires c κs =
     let loop = c .before .before .before .before .before .before .before .before .before .loop in
     let g = loop .inv .0 in
     let within = c .before .before .before .before .before .before .before .before .loop-test .taken in
-    let place = c .before .before .before .before .before .before .before .input-place .ensures in
+    let place = placed (c .before .before .before .before .before .before .before) in
     let stamp = rw place at (c .before .before .before .before .before .before .stamp-at .ensures) in
     let moves = c .before .before .before .before .advance in
     let two = a-move-writes-at-most-two (stateOf (a .args .start .params) (loop .k) (loop .l)) (c .before .before .before .before .before .before .stamp-at .result) in
@@ -69,10 +73,10 @@ turn-at-requires c κs =
 
 -- the item's turn, where one stands
 took : (c : tie.After-turn-at Inv-loop μ-loop) → let loop = c .before .before .before .before .before .before .before .before .before .before .loop in let file = now (c .before .before .before .before .before .before .before .before .before .before .before .before .before .before .before .before .before .args .file) in let m = c .before .before .before .before .before .advance in
-    (j : Item) → itemAt file (inputPlace (loop .i)) ≡ Known j → Turned j (stampAt file (inputPlace (loop .i))) (m .last .0) (m .result .count) (loop .z) (loop .heard) (c .turn-at .result)
+    (j : Item) → itemAt file (inputPlace file (loop .i)) ≡ Known j → Turned j (stampAt file (inputPlace file (loop .i))) (m .last .0) (m .result .count) (loop .z) (loop .heard) (c .turn-at .result)
 took c j e =
     let loop = c .before .before .before .before .before .before .before .before .before .before .loop in
-    let place = c .before .before .before .before .before .before .before .before .input-place .ensures in
+    let place = placed (c .before .before .before .before .before .before .before .before) in
     rw (c .turn-at .ensures j (rw place e), c .before .before .before .before .before .before .before .stamp-at .ensures, place) (turned _ _ _ _ _ _ _ (omega (arith, loop .inv .1, c .before .before .before .before .before .advance .ensures (loop .k) .count)) j e)
 
 -- the sensor has heard no more than there is
@@ -89,7 +93,7 @@ asked c =
     let loop = c .before .before .before .before .before .before .before .before .before .before .before .before .before .loop in
     let g = loop .inv .0 in
     let within = c .before .before .before .before .before .before .before .before .before .before .before .before .loop-test .taken in
-    let place = c .before .before .before .before .before .before .before .before .before .before .before .input-place .ensures in
+    let place = placed (c .before .before .before .before .before .before .before .before .before .before .before) in
     let stamp = rw place at (c .before .before .before .before .before .before .before .before .before .before .stamp-at .ensures) in
     let moves = c .before .before .before .before .before .before .before .before .advance in
     let two = a-move-writes-at-most-two (stateOf (a .args .start .params) (loop .k) (loop .l)) (c .before .before .before .before .before .before .before .before .before .before .stamp-at .result) in
@@ -114,7 +118,7 @@ loop-again c =
     let loop = c .before .before .before .before .before .before .before .before .before .before .before .before .before .loop in
     let g = loop .inv .0 in
     let within = c .before .before .before .before .before .before .before .before .before .before .before .before .loop-test .taken in
-    let place = c .before .before .before .before .before .before .before .before .before .before .before .input-place .ensures in
+    let place = placed (c .before .before .before .before .before .before .before .before .before .before .before) in
     let stamp = rw place at (c .before .before .before .before .before .before .before .before .before .before .stamp-at .ensures) in
     let moves = c .before .before .before .before .before .before .before .before .advance in
     let two = a-move-writes-at-most-two (stateOf (a .args .start .params) (loop .k) (loop .l)) (c .before .before .before .before .before .before .before .before .before .before .stamp-at .result) in
@@ -135,7 +139,7 @@ take-requires c κs =
     let s = stateOf (a .start .params) (loop .k) (loop .l) in
     let g = loop .inv .0 in
     let f = next-item _ _ _ _ _ ready _ _ _ _ _ g (c .before .before .before .before .before .before .before .before .before .before .before .before .before .before .before .before .before .loop-test .taken) in
-    rw (c .before .before .before .before .before .before .before .before .before .before .before .before .before .advance .ensures (loop .k) .lamp, c .before .before .before .before .before .before .before .before .before .before .before .before .before .before .before .stamp-at .ensures, c .before .before .before .before .before .before .before .before .before .before .before .before .before .before .before .before .input-place .ensures, move-clock s _)
+    rw (c .before .before .before .before .before .before .before .before .before .before .before .before .before .advance .ensures (loop .k) .lamp, c .before .before .before .before .before .before .before .before .before .before .before .before .before .before .before .stamp-at .ensures, placed (c .before .before .before .before .before .before .before .before .before .before .before .before .before .before .before .before), move-clock s _)
     (moved-roomy s _ (sound-pair-exactly-when _ .0 (g .safe) .actuator) (f .risen) (omega (arith, f .timely, ready .timely)))
 
 put-note-requires : tie.Need-put-note-requires Inv-loop μ-loop
@@ -145,7 +149,7 @@ put-note-requires c κs =
     let loop = c .before .before .before .before .before .before .before .before .before .before .before .before .before .before .before .before .before .before .before .before .loop in
     let g = loop .inv .0 in
     let within = c .before .before .before .before .before .before .before .before .before .before .before .before .before .before .before .before .before .before .before .loop-test .taken in
-    let place = c .before .before .before .before .before .before .before .before .before .before .before .before .before .before .before .before .before .before .input-place .ensures in
+    let place = placed (c .before .before .before .before .before .before .before .before .before .before .before .before .before .before .before .before .before .before) in
     let stamp = rw place at (c .before .before .before .before .before .before .before .before .before .before .before .before .before .before .before .before .before .stamp-at .ensures) in
     let moves = c .before .before .before .before .before .before .before .before .before .before .before .before .before .before .before .advance in
     let two = a-move-writes-at-most-two (stateOf (a .args .start .params) (loop .k) (loop .l)) (c .before .before .before .before .before .before .before .before .before .before .before .before .before .before .before .before .before .stamp-at .result) in
@@ -172,7 +176,7 @@ loop-again-2 c =
     let loop = c .before .before .before .before .before .before .before .before .before .before .before .before .before .before .before .before .before .before .before .before .before .before .before .before .before .loop in
     let g = loop .inv .0 in
     let within = c .before .before .before .before .before .before .before .before .before .before .before .before .before .before .before .before .before .before .before .before .before .before .before .before .loop-test .taken in
-    let place = c .before .before .before .before .before .before .before .before .before .before .before .before .before .before .before .before .before .before .before .before .before .before .before .input-place .ensures in
+    let place = placed (c .before .before .before .before .before .before .before .before .before .before .before .before .before .before .before .before .before .before .before .before .before .before .before) in
     let stamp = rw place at (c .before .before .before .before .before .before .before .before .before .before .before .before .before .before .before .before .before .before .before .before .before .before .stamp-at .ensures) in
     let moves = c .before .before .before .before .before .before .before .before .before .before .before .before .before .before .before .before .before .before .before .before .advance in
     let two = a-move-writes-at-most-two (stateOf (a .args .start .params) (loop .k) (loop .l)) (c .before .before .before .before .before .before .before .before .before .before .before .before .before .before .before .before .before .before .before .before .before .before .stamp-at .result) in
@@ -202,7 +206,7 @@ loop-again-3 c =
     let loop = c .before .before .before .before .before .before .before .before .before .before .before .before .before .before .before .before .before .before .before .loop in
     let g = loop .inv .0 in
     let within = c .before .before .before .before .before .before .before .before .before .before .before .before .before .before .before .before .before .before .loop-test .taken in
-    let place = c .before .before .before .before .before .before .before .before .before .before .before .before .before .before .before .before .before .input-place .ensures in
+    let place = placed (c .before .before .before .before .before .before .before .before .before .before .before .before .before .before .before .before .before) in
     let stamp = rw place at (c .before .before .before .before .before .before .before .before .before .before .before .before .before .before .before .before .stamp-at .ensures) in
     let moves = c .before .before .before .before .before .before .before .before .before .before .before .before .before .before .advance in
     let two = a-move-writes-at-most-two (stateOf (a .args .start .params) (loop .k) (loop .l)) (c .before .before .before .before .before .before .before .before .before .before .before .before .before .before .before .before .stamp-at .result) in
