@@ -9,6 +9,8 @@ use lib.Dec.{leb}
 use Rattle.base.specs.declared.refusal.Refusal.{Refusal}
 use Rattle.base.specs.declared.refusal.Refusal.the-variants.{ShortBuffer}
 use Rattle.base.specs.declared.refusal.Check.the-variants.{Passed, Refused}
+use Rattle.rules.specs.declared.form.Form.{Form}
+use Rattle.rules.specs.Forms.{formIn}
 use Rattle.rules.specs.Layout.{recordsRoom}
 use Rattle.rules.specs.Lists.{Cue, Played}
 use Rattle.rules.specs.Readings.{Reading, cues, found, verdict}
@@ -45,8 +47,8 @@ module _ (file : List ℕ) (read : readFile file ≡ cues (listIn file)) where
   unfolding itemsIn
   items-are-cues = ap (λ (x : Reading Listed). found x) items-read
 
-  pub file-fits : (n end : ℕ) → n ≡ inputCount file → end ≡ endTime file → Fit file n end
-  file-fits n end inputs ends = record { start = good-file file (listIn file) read .start; reads = items-read ∙ ap (λ (l : List Listed). cues l) (sym items-are-cues); inputs = inputs; ends = ends }
+  pub file-fits : (form : Form) (n end : ℕ) → form ≡ formIn file → n ≡ inputCount file → end ≡ endTime file → Fit file form n end
+  file-fits form n end row inputs ends = record { start = good-file file (listIn file) read .start; row = row; reads = items-read ∙ ap (λ (l : List Listed). cues l) (sym items-are-cues); inputs = inputs; ends = ends }
 
   -- and its run is the actuator's, whatever sensor stands beside it
   pub played-alone : (z : Sensor) → playFile file (listIn file) ≡ actuatorPart (playIn file z)

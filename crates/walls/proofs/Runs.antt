@@ -9,6 +9,8 @@ use lib.Dec.{leb}
 use Rattle.base.specs.declared.refusal.Refusal.{Refusal}
 use Rattle.base.specs.declared.refusal.Refusal.the-variants.{ShortBuffer}
 use Rattle.base.specs.declared.refusal.Check.the-variants.{Passed, Refused}
+use Rattle.rules.specs.declared.form.Form.{Form}
+use Rattle.rules.specs.Forms.{formIn}
 use Rattle.rules.specs.Layout.{recordsRoom}
 use Rattle.rules.specs.Readings.{Reading, cues, found, verdict}
 use Rattle.rules.specs.Files.{inputCount, endTime, lentEnough}
@@ -30,8 +32,8 @@ wall-passed wall e =
     read ∙ ap (λ (x : Reading Listed). cues (found x)) (good-wall-is-read wall (good-wall wall _ read))
 
 module _ (wall : List ℕ) (read : readWall wall ≡ cues (itemsIn (fileIn wall))) where
-  pub wall-fits : (n end : ℕ) → n ≡ inputCount (fileIn wall) → end ≡ endTime (fileIn wall) → Fit (fileIn wall) n end
-  wall-fits n end inputs ends = let good = good-wall wall _ read in record { start = good .start; reads = sym (good-wall-is-read wall good) ∙ read; inputs = inputs; ends = ends }
+  pub wall-fits : (form : Form) (n end : ℕ) → form ≡ formIn (fileIn wall) → n ≡ inputCount (fileIn wall) → end ≡ endTime (fileIn wall) → Fit (fileIn wall) form n end
+  wall-fits form n end row inputs ends = let good = good-wall wall _ read in record { start = good .start; row = row; reads = sym (good-wall-is-read wall good) ∙ read; inputs = inputs; ends = ends }
 
 module _ (wall r a : List ℕ) where
   pub run-refused : (why : Refusal) (place : ℕ) → verdict (readWall wall) ≡ Refused why place → wallWhole (wallRefusal why place) r a ≡ wallCall wall r a

@@ -23,8 +23,8 @@ is-roomy-requires c κs = omega (arith, c .input-count .ensures, header (c .befo
 
 play-requires : tie.Need-play-requires
 play-requires c κs =
-    let room = enough-room _ _ _ (sym (c .before .before .before .before .before .is-roomy .ensures) ∙ c .before .before .before .before .if1 .taken) in
-    (file-fits _ (read (c .before .before .before .before .before .before .before)) _ _ (c .before .before .before .before .before .before .input-count .ensures) (c .before .before .end-time .ensures), room .0, room .1)
+    let room = enough-room _ _ _ (sym (c .before .before .before .before .before .before .is-roomy .ensures) ∙ c .before .before .before .before .before .if1 .taken) in
+    (file-fits _ (read (c .before .before .before .before .before .before .before .before)) _ _ _ (c .before .before .before .before .form-in .ensures) (c .before .before .before .before .before .before .before .input-count .ensures) (c .before .before .end-time .ensures), room .0, room .1)
 
 returns : tie.Need-returns
 returns c = rw (c .refused .ensures) (run-refused _ _ _ _ _ (sym (c .before .before .before .before .check-file .ensures) ∙ c .before .before .checked .given .1))
@@ -32,7 +32,7 @@ returns c = rw (c .refused .ensures) (run-refused _ _ _ _ _ (sym (c .before .bef
 returns-2 : tie.Need-returns-2
 returns-2 c =
     rw (c .accepted .ensures)
-    (run-accepted _ _ _ _ (c .before .before .before .before .before .before .before .before .before .before .before .before .input-count .ensures) (read (c .before .before .before .before .before .before .before .before .before .before .before .before .before)) (sym (c .before .before .before .before .before .before .before .before .before .before .before .is-roomy .ensures) ∙ c .before .before .before .before .before .before .before .before .before .before .if1 .taken) _ _ _ _ (c .before .before .before .before .before .play .ensures))
+    (run-accepted _ _ _ _ (c .before .before .before .before .before .before .before .before .before .before .before .before .before .input-count .ensures) (read (c .before .before .before .before .before .before .before .before .before .before .before .before .before .before)) (sym (c .before .before .before .before .before .before .before .before .before .before .before .before .is-roomy .ensures) ∙ c .before .before .before .before .before .before .before .before .before .before .before .if1 .taken) _ _ _ _ (c .before .before .before .before .before .play .ensures))
 
 returns-3 : tie.Need-returns-3
 returns-3 c =
@@ -47,10 +47,11 @@ run-spec =
     (λ c. search needs)
     (λ c κs. search needs)
     (λ c. search needs)
-    (λ c κs. header c .long)
+    (λ c κs. header c .enough .least)
     is-roomy-requires
+    (λ c κs. header (c .before .before .before) .enough .least)
     (λ c κs. search needs)
-    (λ c κs. header (c .before .before .before .before) .long)
+    (λ c κs. header (c .before .before .before .before .before) .enough .least)
     play-requires
     (λ c κs. search needs)
     (λ c κs. search needs)

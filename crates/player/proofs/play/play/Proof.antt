@@ -22,10 +22,10 @@ begun c =
 
 -- the fresh pair is sound, and the items are in order from there on
 ready : (c : tie.After-put-record) → let a = c .before .before .before .before .before .before .before .before .args in Ready (now (a .file)) (a .n) (pairOf (c .before .before .before .before .fresh-in .result) (listened (c .put-record .last .0) 1 (a .first) 0))
-ready c = rw (c .before .before .before .before .fresh-in .ensures) (fit-ready _ _ _ _ (begun c) _ _ (c .before .before .before .before .before .before .before .before .pre .0) (λ i. omega (arith, c .before .before .before .before .before .before .before .shared-slice-known .given i)))
+ready c = rw (c .before .before .before .before .fresh-in .ensures) (fit-ready _ _ _ _ (begun c) _ _ _ (c .before .before .before .before .before .before .before .before .pre .0))
 
 play-items-requires : tie.Need-play-items-requires
-play-items-requires c κs = (ready (c .before .before .before .before), omega (arith, c .before .before .before .before .put-record .kept .0, c .before .before .before .before .before .before .before .before .before .before .before .before .pre .1), c .before .before .before .before .before .before .before .before .before .before .before .before .pre .2)
+play-items-requires c κs = (ready (c .before .before .before .before), omega (arith, c .before .before .before .before .put-record .kept .0, c .before .before .before .before .before .before .before .before .before .before .before .before .pre .1), c .before .before .before .before .before .before .before .before .before .before .before .before .pre .2, c .before .before .before .before .before .before .before .before .before .before .before .before .pre .0 .row)
 
 move-clock-requires : tie.Need-move-clock-requires
 move-clock-requires c κs =
@@ -36,7 +36,7 @@ put-notes-requires : tie.Need-put-notes-requires
 put-notes-requires c κs =
     let items = c .before .before .before .before .before .before .before .before .before .before .play-items in
     let few = moved-few _ _ _ (c .before .before .before .move-clock .ensures) in
-    (omega (arith, few, items .ensures .few, ready (c .before .before .before .before .before .before .before .before .before .before .before .before .before .before .before) .few), omega (arith, few), omega (arith, few, items .ensures .few, items .kept .1 .1 .1 .1 .0, c .before .before .before .before .before .before .before .before .before .before .before .before .before .before .before .put-record .kept .0, c .before .before .before .before .before .before .before .before .before .before .before .before .before .before .before .before .before .before .before .before .before .before .before .pre .1))
+    (omega (arith, few, items .ensures .few, ready (c .before .before .before .before .before .before .before .before .before .before .before .before .before .before .before) .few), omega (arith, few), omega (arith, few, items .ensures .few, items .kept .1 .1 .1 .1 .1 .0, c .before .before .before .before .before .before .before .before .before .before .before .before .before .before .before .put-record .kept .0, c .before .before .before .before .before .before .before .before .before .before .before .before .before .before .before .before .before .before .before .before .before .before .before .pre .1))
 
 add-count : tie.Need-add-count
 add-count c = omega (arith, moved-few _ _ _ (c .before .before .before .before .before .before .before .before .move-clock .ensures), c .before .before .before .before .before .before .before .before .before .before .before .before .before .before .before .play-items .ensures .few, ready (c .before .before .before .before .before .before .before .before .before .before .before .before .before .before .before .before .before .before .before .before) .few)
@@ -45,26 +45,26 @@ listen-requires : tie.Need-listen-requires
 listen-requires c κs =
     let items = c .before .before .before .before .before .before .before .before .before .before .before .before .before .before .before .before .play-items in
     let few = moved-few _ _ _ (c .before .before .before .before .before .before .before .before .before .move-clock .ensures) in
-    (omega (arith, items .ensures .behind), omega (arith, few, items .ensures .few, c .before .before .before .before .before .put-notes .kept .0, items .kept .1 .1 .1 .1 .0, c .before .before .before .before .before .before .before .before .before .before .before .before .before .before .before .before .before .before .before .before .before .put-record .kept .0, c .before .before .before .before .before .before .before .before .before .before .before .before .before .before .before .before .before .before .before .before .before .before .before .before .before .before .before .before .before .pre .1))
+    (omega (arith, items .ensures .behind), omega (arith, few, items .ensures .few, c .before .before .before .before .before .put-notes .kept .0, items .kept .1 .1 .1 .1 .1 .0, c .before .before .before .before .before .before .before .before .before .before .before .before .before .before .before .before .before .before .before .before .before .put-record .kept .0, c .before .before .before .before .before .before .before .before .before .before .before .before .before .before .before .before .before .before .before .before .before .before .before .before .before .before .before .before .before .pre .1))
 
 same-length : tie.Need-same-length
-same-length c = c .before .before .before .before .before .before .put-notes .kept .0 ∙ c .before .before .before .before .before .before .before .before .before .before .before .before .before .before .before .before .before .play-items .kept .1 .1 .1 .1 .0 ∙ c .before .before .before .before .before .before .before .before .before .before .before .before .before .before .before .before .before .before .before .before .before .before .put-record .kept .0
+same-length c = c .before .before .before .before .before .before .put-notes .kept .0 ∙ c .before .before .before .before .before .before .before .before .before .before .before .before .before .before .before .before .before .play-items .kept .1 .1 .1 .1 .1 .0 ∙ c .before .before .before .before .before .before .before .before .before .before .before .before .before .before .before .before .before .before .before .before .before .before .put-record .kept .0
 
 same-length-2 : tie.Need-same-length-2
-same-length-2 c = c .before .before .before .before .before .before .before .before .before .before .before .before .before .before .before .before .before .play-items .kept .1 .1 .1 .1 .1 .0
+same-length-2 c = c .before .before .before .before .before .before .before .before .before .before .before .before .before .before .before .before .before .play-items .kept .1 .1 .1 .1 .1 .1 .0
 
 returns : tie.Need-returns
 returns c =
     let a = c .before .before .before .before .before .before .before .before .before .before .before .before .before .before .before .before .before .before .before .before .before .before .before .before .before .before .before .before .before .before in
     let items = c .before .before .before .before .before .before .before .before .before .before .before .before .before .before .before .before .before .play-items in
     rw (c .listen .ensures)
-    (ended _ _ _ _ (begun (c .before .before .before .before .before .before .before .before .before .before .before .before .before .before .before .before .before .before .before .before .before .before)) _ (a .pre .0 .ends) _ _ _ _ _ _ _ _ (items .ensures .behind) (omega (arith, items .ensures .few, items .kept .1 .1 .1 .1 .0, c .before .before .before .before .before .before .before .before .before .before .before .before .before .before .before .before .before .before .before .before .before .before .put-record .kept .0, a .pre .1)) (rw (c .before .before .before .before .before .before .before .before .before .before .before .before .before .before .before .before .before .before .before .before .before .before .before .before .before .before .fresh-in .ensures) at (items .ensures .filled)) _ (c .before .before .before .before .before .before .before .before .before .before .move-clock .ensures) (c .before .before .before .before .before .before .put-notes .ensures))
+    (ended _ _ _ _ (begun (c .before .before .before .before .before .before .before .before .before .before .before .before .before .before .before .before .before .before .before .before .before .before)) _ (a .pre .0 .ends) _ _ _ _ _ _ _ _ (items .ensures .behind) (omega (arith, items .ensures .few, items .kept .1 .1 .1 .1 .1 .0, c .before .before .before .before .before .before .before .before .before .before .before .before .before .before .before .before .before .before .before .before .before .before .put-record .kept .0, a .pre .1)) (rw (c .before .before .before .before .before .before .before .before .before .before .before .before .before .before .before .before .before .before .before .before .before .before .before .before .before .before .fresh-in .ensures) at (items .ensures .filled)) _ (c .before .before .before .before .before .before .before .before .before .before .move-clock .ensures) (c .before .before .before .before .before .before .put-notes .ensures))
 
 pub play-spec : {M : Type 1} → statement M
 play-spec =
     tie.close
     (tie.spec
-    (λ c κs. c .before .before .before .pre .0 .start .header .long)
+    (λ c κs. let fit = c .before .before .before .pre .0 in (fit .row, rw (fit .row) (fit .start .header .enough .long)))
     (λ c κs. search needs)
     (λ c κs. search needs)
     (λ c κs. search needs)

@@ -1,4 +1,4 @@
-use mathlib.Core.Path.{sym, _∙_}
+use mathlib.Core.Path.{refl, sym, _∙_}
 use native.Mathlib.Omega.{arith}
 use denote.Ref.{now}
 use borrow.Author.Needs.{needs}
@@ -16,8 +16,8 @@ start c = start-decides _ .passed .0 (sym (c .before .before .before .before .be
 
 check-inputs-requires : tie.Need-check-inputs-requires
 check-inputs-requires c κs =
-    let layout = start (c .before .before) .header .layout in
-    rw (c .before .input-count .ensures) (layout .few, omega (arith, layout .whole))
+    let layout = start (c .before .before .before) .header .layout in
+    rw (c .before .input-count .ensures, c .before .before .form-in .ensures) (refl, layout .few, omega (arith, layout .whole))
 
 returns : tie.Need-returns
 unfolding checkParts
@@ -31,7 +31,7 @@ returns-2 c =
 returns-3 : tie.Need-returns-3
 unfolding checkParts
 returns-3 c =
-    rw (c .check-inputs .ensures, c .before .end-time .ensures, c .before .before .input-count .ensures, sym (c .before .before .before .before .before .check-actions .ensures) ∙ c .before .before .before .enum-told2 .given .1, sym (c .before .before .before .before .before .before .before .before .check-start .ensures) ∙ c .before .before .before .before .before .before .enum-told .given .1)
+    rw (c .check-inputs .ensures, c .before .end-time .ensures, c .before .before .input-count .ensures, sym (c .before .before .before .before .before .before .check-actions .ensures) ∙ c .before .before .before .before .enum-told2 .given .1, sym (c .before .before .before .before .before .before .before .before .before .check-start .ensures) ∙ c .before .before .before .before .before .before .before .enum-told .given .1)
     (checked-as-read _ _ (items-say _) _ _ _ _ _)
 
 pub check-parts-spec : {M : Type 1} → statement M
@@ -44,8 +44,9 @@ check-parts-spec =
     (λ c κs. search needs)
     (λ c. search needs)
     (λ c. search needs)
-    (λ c κs. start c .header .long)
-    (λ c κs. start (c .before) .header .long)
+    (λ c κs. start c .header .enough .least)
+    (λ c κs. start (c .before) .header .enough .least)
+    (λ c κs. start (c .before .before) .header .enough .least)
     check-inputs-requires
     returns
     returns-2
