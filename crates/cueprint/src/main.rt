@@ -2,15 +2,16 @@
 // reads a wall list.
 //
 // Both are played to a pair: to one whose sensor does nothing a cue file is what it is to the actuator alone.
-ghost use Prim.Native.Nat.{_+_, _≤_};
+ghost use Prim.Native.Nat.{_+_, _*_, _≤_};
 ghost use lib.ListN.{length};
 ghost use mathlib.Core.Path.{_≡_};
-ghost use Rattle.rules.specs.Layout.{mostInputs, inputPlace};
+ghost use Rattle.rules.specs.Layout.{leastFile, inputsAt, inputSize, mostInputs, inputPlace};
 ghost use Rattle.rules.specs.Files.{inputCount};
 use base::refusal::Check;
 use base::refusal::number_of;
 use cues::check::check_file;
 use cues::header::end_time;
+use cues::header::form_in;
 use cues::header::input_count;
 use joined::pair::joined_input;
 use joined::pair::joined_move;
@@ -20,6 +21,7 @@ use layout::parameters_in;
 use live::fresh::fresh_state;
 use pairs::call::Joint;
 use records::status::record_of;
+use rules::form::Form;
 use rules::record::Record;
 use rules::state::State;
 use sensor::call::fresh_sensor;
@@ -110,10 +112,10 @@ fn print_sent(index: u32, sent: [u8; 8]) {
 }
 
 // The octets of input i.
-fn input_octets(file: &[u8], i: u32) -> [u8; 8]
-    requires { ⌜ inputPlace (i + 1) ≤ length (now file) ⌝ }
+fn input_octets(file: &[u8], form: Form, i: u32) -> [u8; 8]
+    requires { ⌜ inputsAt form + inputSize * (i + 1) ≤ length (now file) ⌝ }
 {
-    let at = input_place(i);
+    let at = input_place(form, i);
     [
         file[at],
         file[at + 1],
@@ -157,15 +159,15 @@ struct Played {
 }
 
 // The inputs, in list order.
-fn play_inputs(start: State, fresh: Sensor, file: &[u8], n: u32) -> Played
-    requires { ⌜ (n ≤ mostInputs) × (inputPlace n ≤ length (now file)) ⌝ }
+fn play_inputs(start: State, fresh: Sensor, file: &[u8], form: Form, n: u32) -> Played
+    requires { ⌜ (n ≤ mostInputs) × (inputsAt form + inputSize * n ≤ length (now file)) ⌝ }
 {
     let mut s = start;
     let mut z = fresh;
     let mut count: u32 = 0;
     let mut i: u32 = 0;
     while i < n {
-        let o = play_input(s, z, input_octets(file, i), i);
+        let o = play_input(s, z, input_octets(file, form, i), i);
         let state = o.state;
         let sensor = o.sensor;
         s = state;
@@ -182,14 +184,15 @@ fn play_inputs(start: State, fresh: Sensor, file: &[u8], n: u32) -> Played
 
 // An accepted file, from the start record to the end time. (The start record says what a fresh sensor has: off, at 0.)
 fn play_file(file: &[u8], z: Sensor)
-    requires { ⌜ (inputCount (now file) ≤ mostInputs) × (length (now file) ≡ inputPlace (inputCount (now file))) ⌝ }
+    requires { ⌜ (inputCount (now file) ≤ mostInputs) × (length (now file) ≡ inputPlace (now file) (inputCount (now file))) × (leastFile ≤ length (now file)) ⌝ }
 {
     let n = input_count(file);
+    let form = form_in(file);
     print_accepted(n);
-    let f = fresh_state(parameters_in(file));
+    let f = fresh_state(parameters_in(file, form));
     let start = f.state;
     print_record(record_of(0, lamp_of(start)));
-    let played = play_inputs(start, z, file, n);
+    let played = play_inputs(start, z, file, form, n);
     let s = played.state;
     let heard = played.sensor;
     let last = play_end(s, heard, end_time(file));
@@ -218,10 +221,10 @@ fn print_wall(wall: &[u8]) {
     }
 }
 
-// The longest wall list has 52 + 8 * 2048 + 4 octets, the longest cue file four less. One octet more is read, so that what is longer is seen to
-// be too long.
+// The longest wall list, of version 2, has 60 + 8 * 2048 + 4 octets, the longest cue file four less. One octet more is read, so that what is
+// longer is seen to be too long.
 fn main() {
-    let mut list = [0u8; 16441];
+    let mut list = [0u8; 16449];
     let n = io::read_full(libc::STDIN_FILENO, &mut list);
     if os::arg_count() > 1 {
         print_wall(&list[..n]);

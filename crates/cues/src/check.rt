@@ -160,7 +160,13 @@ pub fn check_file(file: &[u8]) -> Check
 {
     let start = check_start(file);
     match start {
-        Check::Passed => check_inputs(file, form_in(file), input_count(file), end_time(file), false),
+        Check::Passed => check_inputs(
+            file,
+            form_in(file),
+            input_count(file),
+            end_time(file),
+            false,
+        ),
         Check::Refused { why, place } => Check::Refused { why, place },
     }
 }

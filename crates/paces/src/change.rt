@@ -9,6 +9,7 @@
 //     16, 17     the outputs remembered at locking and at power failure: the last octet
 //     18, 19     the phase Dark, Lit
 //     20 to 24   the phase Starting steady, Starting timed, Timed, Warning, Ending: its deadline in four octets
+//     25         the version: the last octet
 //     32 to 39   a scene entry: number in the third octet, flags in the last (bit 0 value, bit 1 taught)
 //
 // and of a sensor:
@@ -38,6 +39,7 @@ fn params_with(p: Params, field: u8, number: u32, last: u8) -> Params {
         8 => q.busreturn = last,
         9 => q.powerreturn = last,
         10 => q.learning = last != 0,
+        25 => q.version = last,
         _ => {}
     }
     q

@@ -31,7 +31,7 @@
 // A state is its clock, phase, deadline (- for none), night, lock, force, link, the output remembered at locking, the one
 // remembered at power failure; a sensor is its clock, its value and the numbers of its four actions; a record is stamp, value, attributes,
 // cause. Parameters and scenes get a line where they
-// differ from those of the line before: P, the four times in tenths, the modes and learning; K, eight times number, value
+// differ from those of the line before: P, the version, the four times in tenths, the modes and learning; K, eight times number, value
 // and taught.
 mod change;
 mod play;
@@ -42,7 +42,7 @@ mod show;
 // and give what to start from; the parameters and scenes are not all 0, so that they get their first lines.
 fn main() {
     let first = play::fresh(0);
-    let mut params = show::params_line([0; 10], first);
+    let mut params = show::params_line([0; 11], first);
     let mut scenes = show::scenes_line([0; 24], first);
     let mut now = play::Pair {
         state: first,

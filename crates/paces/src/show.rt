@@ -333,8 +333,9 @@ pub(crate) fn joined_move(stamp: u32, r: JointMove) {
     mark(b'\n');
 }
 
-fn params_of(p: Params) -> [u64; 10] {
+fn params_of(p: Params) -> [u64; 11] {
     [
+        p.version as u64,
         p.ondelay as u64,
         p.offdelay as u64,
         p.timedon as u64,
@@ -373,7 +374,7 @@ fn same(a: &[u64], b: &[u64]) -> bool {
 }
 
 // A line for the parameters, where they differ from those of the line before; gives them back for the next.
-pub(crate) fn params_line(before: [u64; 10], s: State) -> [u64; 10] {
+pub(crate) fn params_line(before: [u64; 11], s: State) -> [u64; 11] {
     let p = s.params;
     let now = params_of(p);
     if !same(&before, &now) {

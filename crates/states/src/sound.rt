@@ -65,10 +65,7 @@ fn modes_in_range(p: Params) -> bool
     let failure = p.busfailure <= 2;
     let back = p.busreturn <= 2;
     let power = p.powerreturn <= 2;
-    both(
-        both(both(locking, unlocking), both(failure, back)),
-        power,
-    )
+    both(both(both(locking, unlocking), both(failure, back)), power)
 }
 
 // In range for the version that the state keeps.

@@ -44,7 +44,13 @@ fn check_parts(file: &[u8], actions: &[u8]) -> Check
             let edges = check_actions(actions);
             match edges {
                 Check::Refused { why, place } => Check::Refused { why, place },
-                Check::Passed => check_inputs(file, form_in(file), input_count(file), end_time(file), true),
+                Check::Passed => check_inputs(
+                    file,
+                    form_in(file),
+                    input_count(file),
+                    end_time(file),
+                    true,
+                ),
             }
         }
     }

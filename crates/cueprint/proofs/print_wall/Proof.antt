@@ -13,8 +13,8 @@ good c = wall-decides _ .passed .0 (sym (c .before .before .check-wall .ensures)
 
 play-file-requires : tie.Need-play-file-requires
 play-file-requires c κs =
-    let layout = good (c .before .before .before .before) .start .header .layout in
-    rw (c .file-in .ensures) (layout .few, layout .whole)
+    let header = good (c .before .before .before .before) .start .header in
+    rw (c .file-in .ensures) (header .layout .few, header .layout .whole, header .enough .least)
 
 pub print-wall-spec : {M : Type 1} → statement M
 print-wall-spec =
