@@ -1,6 +1,7 @@
 pub mod Demands
 pub mod Joined
 pub mod WrongModels
+pub mod Versions
 -- with a sensor beside the actuator
 pub mod Walls
 pub mod WallJoined

@@ -335,16 +335,16 @@ pub(crate) fn joined_move(stamp: u32, r: JointMove) {
 
 fn params_of(p: Params) -> [u64; 11] {
     [
-        p.version as u64,
+        wide(p.version),
         p.ondelay as u64,
         p.offdelay as u64,
         p.timedon as u64,
         p.prewarning as u64,
-        p.locking as u64,
-        p.unlocking as u64,
-        p.busfailure as u64,
-        p.busreturn as u64,
-        p.powerreturn as u64,
+        wide(p.locking),
+        wide(p.unlocking),
+        wide(p.busfailure),
+        wide(p.busreturn),
+        wide(p.powerreturn),
         p.learning as u64,
     ]
 }
