@@ -1,12 +1,13 @@
 -- No rule looks at the version, so two versions of one show have one run: the same answers and records, and the same end state but for its version.
-use Prim.Native.Nat.{ℕ, zero, suc, _+_, _-_, _*_, _/_, _%_, _≤_, _<_}
+use Prim.Native.Nat.{ℕ, zero, suc, _+_, _-_, _*_, _≤_, _<_}
 use mathlib.Core.Bool.{Bool, true, false, cond, _||_}
-use mathlib.Core.List.{List, [], _∷_, _++_}
+use mathlib.Core.List.{List, [], _∷_}
+use mathlib.Core.Logic.{_↔_, inl, inr}
 use mathlib.Core.Path.{_≡_, refl, sym, ap, _∙_}
 use native.Mathlib.Omega.{arith}
 use lib.ListN.{length}
 use lib.Dec.{eqb, leb}
-use Rattle.octets.specs.BigEndian.{octet}
+use Rattle.octets.specs.BigEndian.{octet, be32}
 use Rattle.rules.specs.declared.parameters.Params.{Params}
 use Rattle.rules.specs.declared.parameters.Scene.{Scene}
 use Rattle.rules.specs.declared.parameters.Recalled.{Recalled}
@@ -24,19 +25,31 @@ use Rattle.rules.specs.declared.input.Input.the-variants.{SwitchOnOff, TimedSta
 use Rattle.rules.specs.declared.state.Link.{Link}
 use Rattle.rules.specs.declared.state.Link.the-variants.{Up, BusDown, PowerDown}
 use Rattle.rules.specs.declared.state.State.{State}
+use Rattle.base.specs.declared.refusal.Check.the-variants.{Passed}
 use Rattle.rules.specs.declared.barrier.Barrier.{Barrier}
 use Rattle.rules.specs.declared.barrier.Barrier.the-variants.{Open, Stopped}
 use Rattle.rules.specs.Phases.{output, deadline, litAt, atDeadline, setOn}
-use Rattle.rules.specs.Scenes.{recalled, learnt}
-use Rattle.rules.specs.Orders.{on, timedStart, offAfterDelay, off, timedStop, nightFalls, withPhase, withForce, held, standing, settle, byMode, switch, timed, recall, learn, scene, nightMode, forced, locked, unlockingOutput, unlocked, lockDevice, busMode, bus, powerFails, powerReturns, power, order}
+use Rattle.rules.specs.Scenes.{recalled}
+use Rattle.rules.specs.Orders.{on, timedStart, offAfterDelay, off, timedStop, nightFalls, withPhase, withForce, held, standing, settle, switch, timed, recall, learn, scene, nightMode, forced, locked, unlockingOutput, unlocked, lockDevice, busMode, bus, powerFails, powerReturns, power, order}
 use Rattle.rules.specs.Barriers.{barrier}
 use Rattle.rules.specs.Inputs.{kind}
 use Rattle.rules.specs.Status.{value, attributes, recordOf, byItself, sameStatus, written}
 use Rattle.rules.specs.Answers.{sameFlags, sameButClock}
 use Rattle.rules.specs.Steps.{Moved, Stepped, fresh, tickAt, tick, ticked, clockMove, taken, meet, act, step}
 use Rattle.rules.specs.Lists.{Cue, cue, Played, andThen, moved, stepped, plays, playsTo, start, playList}
-use Rattle.base.proofs.Tests.{cond-case}
-use Rattle.demands.specs.Versions.{ofVersion, inVersion, PlayedAlike}
+use Rattle.octets.specs.Groups.{stampAt}
+use Rattle.rules.specs.Inputs.{inputAt}
+use Rattle.rules.specs.Forms.{inSeconds, inTenths, formOf, version, formIn}
+use Rattle.rules.specs.Layout.{modesAt, scenePlace, flagsPlace, inputsAt, inputPlace}
+use Rattle.rules.specs.Parameters.{paramsOf, sceneAt, scenesOf, badTime, numberAbove, badNumber, badFlags, badOctet}
+use Rattle.rules.specs.Readings.{cues, readInputs}
+use Rattle.rules.specs.Files.{inputCount, inputsOffset, endTime, parametersIn, paramsIn, scenesIn, cueAt, readFile, lentEnough}
+use Rattle.rules.specs.Refusals.{GoodParameters, GoodStart}
+use Rattle.rules.specs.Runs.{playFile, accepted, runCall}
+use Rattle.rules.proofs.Refusals.Files.{parameters-stand-at-20, parameters-whole, good-start, good-file}
+use Rattle.rules.proofs.Refusals.Runs.{a-good-file-is-played}
+use Rattle.rules.proofs.Laws.Parameters.{lowest-bad-octet, good-time, mode-octet, number-octet, flags-octet, every-octet-good, entries}
+use Rattle.demands.specs.Versions.{ofVersion, inVersion, PlayedAlike, SameShow, RanAlike}
 
 module _ (v : ℕ) where
   abbrev like : State → State
@@ -260,3 +273,205 @@ module _ (v : ℕ) where
       alike-then (start p k) (start (ofVersion v p) k) (playsTo end list) (playsTo end list)
       (record { state = refl; answers = refl; records = unfold recordOf value attributes in refl })
       (alike-to-end end list (fresh p k))
+
+-- ---- two files of one show
+
+module _ (old new : List ℕ) (same : SameShow old new) where
+  old-row : formIn old ≡ inSeconds
+  unfolding formIn formOf
+  old-row = rw (same .first)
+
+  new-row : formIn new ≡ inTenths
+  unfolding formIn formOf
+  new-row = rw (same .second)
+
+  -- ---- the inputs
+
+  same-place : (i : ℕ) → (inputPlace old i ≡ 52 + 8 * i) × (inputPlace new i ≡ 60 + 8 * i)
+  same-place i = (rw old-row (omega arith), rw new-row (omega arith))
+
+  same-octet : (i j : ℕ) → octet new (inputPlace new i + j) ≡ octet old (inputPlace old i + j)
+  same-octet i j =
+      let here : 60 + 8 * i + j ≡ 36 + (24 + 8 * i + j) = omega arith in
+      let there : 52 + 8 * i + j ≡ 28 + (24 + 8 * i + j) = omega arith in
+      rw (same-place i .0, same-place i .1, here, there) (same .rest (24 + 8 * i + j))
+
+  same-number : (a b : ℕ) → ((j : ℕ) → octet new (a + j) ≡ octet old (b + j)) → be32 new a ≡ be32 old b
+  same-number a b each =
+      let a0 : a + 0 ≡ a = omega arith in
+      let b0 : b + 0 ≡ b = omega arith in
+      let a3 : a + 2 + 1 ≡ a + 3 = omega arith in
+      let b3 : b + 2 + 1 ≡ b + 3 = omega arith in
+      rw (a3, b3, each 1, each 2, each 3, rw (a0, b0) at (each 0))
+
+  same-stamp : (i : ℕ) → stampAt new (inputPlace new i) ≡ stampAt old (inputPlace old i)
+  unfolding stampAt
+  same-stamp i = same-number (inputPlace new i) (inputPlace old i) (same-octet i)
+
+  same-cue : (i : ℕ) → cueAt new i ≡ cueAt old i
+  unfolding cueAt inputAt
+  same-cue i = rw (same-stamp i, same-octet i 4, same-octet i 5, same-octet i 6, same-octet i 7)
+
+  same-reading : (left i last end : ℕ) → readInputs (cueAt new) new left i last end ≡ readInputs (cueAt old) old left i last end
+  unfolding readInputs
+  same-reading zero i last end = refl
+  same-reading (suc left) i last end = rw (same-cue i, same-stamp i, same-reading left (i + 1) (stampAt old (inputPlace old i)) end)
+
+  -- ---- the parameters
+
+  -- modes and scenes stand behind the times
+  behind-times : (j : ℕ) → j < 24 → octet (parametersIn new) (16 + j) ≡ octet (parametersIn old) (8 + j)
+  behind-times j within =
+      let here : 20 + (16 + j) ≡ 36 + j = omega arith in
+      let there : 20 + (8 + j) ≡ 28 + j = omega arith in
+      parameters-stand-at-20 new (16 + j) (rw new-row (omega arith)) ∙ (rw (here, there) (same .rest j) ∙ sym (parameters-stand-at-20 old (8 + j) (rw old-row (omega arith))))
+
+  same-params : paramsIn new ≡ ofVersion 2 (paramsIn old)
+  unfolding paramsOf
+  same-params =
+      rw (old-row, new-row)
+      (rw (same .times 0 (omega arith), same .times 1 (omega arith), same .times 2 (omega arith), same .times 3 (omega arith), behind-times 0 (omega arith), behind-times 1 (omega arith), behind-times 2 (omega arith), behind-times 3 (omega arith), behind-times 4 (omega arith), behind-times 5 (omega arith)))
+
+  same-scene-number : (n : ℕ) → n < 8 → octet (parametersIn new) (scenePlace inTenths n) ≡ octet (parametersIn old) (scenePlace inSeconds n)
+  same-scene-number n within =
+      let here : scenePlace inTenths n ≡ 16 + (8 + 2 * n) = omega arith in
+      let there : scenePlace inSeconds n ≡ 8 + (8 + 2 * n) = omega arith in
+      rw (here, there) (behind-times (8 + 2 * n) (omega arith))
+
+  same-scene-flags : (n : ℕ) → n < 8 → octet (parametersIn new) (scenePlace inTenths n + 1) ≡ octet (parametersIn old) (scenePlace inSeconds n + 1)
+  same-scene-flags n within =
+      let here : scenePlace inTenths n + 1 ≡ 16 + (8 + 2 * n + 1) = omega arith in
+      let there : scenePlace inSeconds n + 1 ≡ 8 + (8 + 2 * n + 1) = omega arith in
+      rw (here, there) (behind-times (8 + 2 * n + 1) (omega arith))
+
+  same-entries : (left n : ℕ) → n + left ≡ 8 → entries inTenths (parametersIn new) left n ≡ entries inSeconds (parametersIn old) left n
+  unfolding entries sceneAt
+  same-entries zero n end = refl
+  same-entries (suc left) n end = rw (same-scene-number n (omega arith), same-scene-flags n (omega arith), same-entries left (n + 1) (omega arith))
+
+  same-scenes : scenesIn new ≡ scenesIn old
+  unfolding scenesOf entries
+  same-scenes = rw (old-row, new-row) (same-entries 8 0 refl)
+
+  -- ---- they are accepted alike
+
+  same-times : (n : ℕ) → n < 4 → badTime inTenths (parametersIn new) n ≡ badTime inSeconds (parametersIn old) n
+  unfolding badTime
+  same-times n within = rw (same .times n within)
+
+  same-numbers-above : (number n : ℕ) → n ≤ 8 → numberAbove inTenths (parametersIn new) number n ≡ numberAbove inSeconds (parametersIn old) number n
+  unfolding numberAbove
+  same-numbers-above number zero within = refl
+  same-numbers-above number (suc n) within = rw (same-scene-number n (omega arith), same-numbers-above number n (omega arith))
+
+  same-numbers : (n : ℕ) → n < 8 → badNumber inTenths (parametersIn new) n ≡ badNumber inSeconds (parametersIn old) n
+  unfolding badNumber
+  same-numbers n within = rw (same-scene-number n within, same-numbers-above (octet (parametersIn old) (scenePlace inSeconds n)) n (omega arith))
+
+  same-flags : (n : ℕ) → n < 8 → badFlags inTenths (parametersIn new) n ≡ badFlags inSeconds (parametersIn old) n
+  unfolding badFlags
+  same-flags n within =
+      let here : flagsPlace inTenths n ≡ scenePlace inTenths n + 1 = omega arith in
+      let there : flagsPlace inSeconds n ≡ scenePlace inSeconds n + 1 = omega arith in
+      rw (here, there, same-scene-number n within, same-scene-flags n within)
+
+  same-modes : (m : ℕ) → m < 8 → badOctet inTenths (parametersIn new) (modesAt inTenths + m) ≡ badOctet inSeconds (parametersIn old) (modesAt inSeconds + m)
+  same-modes m within = mode-octet inTenths (parametersIn new) m within ∙ (rw (behind-times m (omega arith)) (sym (mode-octet inSeconds (parametersIn old) m within)))
+
+  -- every octet of the one is good where those of the other are
+  good-parameters : inputsAt (formIn new) ≤ length new → GoodParameters inSeconds (parametersIn old) → GoodParameters inTenths (parametersIn new)
+  good-parameters long g =
+      record {
+        whole = rw new-row at (parameters-whole new long);
+        good =
+            every-octet-good inTenths (parametersIn new)
+            (λ n within. same-times n within ∙ good-time inSeconds (parametersIn old) g n within)
+            (λ m within. same-modes m within ∙ g .good (modesAt inSeconds + m) (omega arith))
+            (λ n within. same-numbers n within ∙ (sym (number-octet inSeconds (parametersIn old) n) ∙ g .good (scenePlace inSeconds n) (omega arith)))
+            (λ n within. same-flags n within ∙ (sym (flags-octet inSeconds (parametersIn old) n) ∙ g .good (flagsPlace inSeconds n) (omega arith)));
+      }
+
+  good-parameters-back : inputsAt (formIn old) ≤ length old → GoodParameters inTenths (parametersIn new) → GoodParameters inSeconds (parametersIn old)
+  good-parameters-back long g =
+      record {
+        whole = rw old-row at (parameters-whole old long);
+        good =
+            every-octet-good inSeconds (parametersIn old)
+            (λ n within. sym (same-times n within) ∙ good-time inTenths (parametersIn new) g n within)
+            (λ m within. sym (same-modes m within) ∙ g .good (modesAt inTenths + m) (omega arith))
+            (λ n within. sym (same-numbers n within) ∙ (sym (number-octet inTenths (parametersIn new) n) ∙ g .good (scenePlace inTenths n) (omega arith)))
+            (λ n within. sym (same-flags n within) ∙ (sym (flags-octet inTenths (parametersIn new) n) ∙ g .good (flagsPlace inTenths n) (omega arith)));
+      }
+
+  good-start-of-new : GoodStart old → GoodStart new
+  good-start-of-new g =
+      let layout = g .header .layout in
+      let place : inputsOffset old ≡ 52 = rw old-row at (layout .inputs) in
+      let whole : length old ≡ 52 + 8 * inputCount old = rw old-row at (layout .whole) in
+      let long : inputsAt (formIn new) ≤ length new = rw new-row (omega (arith, same .size)) in
+      record {
+        header = record {
+          enough = record { least = omega (arith, same .size); version = inr (same .second); long = long };
+          actuators = same .actuators ∙ g .header .actuators;
+          layout = record {
+            parameters = same .parameters ∙ layout .parameters;
+            few = rw (same .count) (layout .few);
+            inputs = rw new-row (omega (arith, same .inputs));
+            end = rw (same .end) (layout .end);
+            whole = rw (new-row, same .count) (omega (arith, same .size));
+          };
+        };
+        passed = rw new-row (lowest-bad-octet inTenths (parametersIn new) Passed .1 (good-parameters long (lowest-bad-octet inSeconds (parametersIn old) Passed .0 (rw old-row at (g .passed)))));
+      }
+
+  good-start-of-old : GoodStart new → GoodStart old
+  good-start-of-old g =
+      let layout = g .header .layout in
+      let place : inputsOffset new ≡ 60 = rw new-row at (layout .inputs) in
+      let whole : length new ≡ 60 + 8 * inputCount new = rw new-row at (layout .whole) in
+      let long : inputsAt (formIn old) ≤ length old = rw old-row (omega (arith, same .size)) in
+      record {
+        header = record {
+          enough = record { least = omega (arith, same .size); version = inl (same .first); long = long };
+          actuators = sym (same .actuators) ∙ g .header .actuators;
+          layout = record {
+            parameters = sym (same .parameters) ∙ layout .parameters;
+            few = rw (← same .count) (layout .few);
+            inputs = rw old-row (omega (arith, same .inputs));
+            end = rw (← same .end) (layout .end);
+            whole = rw (old-row, ← same .count) (omega (arith, same .size));
+          };
+        };
+        passed = rw old-row (lowest-bad-octet inSeconds (parametersIn old) Passed .1 (good-parameters-back long (lowest-bad-octet inTenths (parametersIn new) Passed .0 (rw new-row at (g .passed)))));
+      }
+
+  same-inputs : readInputs (cueAt new) new (inputCount new) 0 0 (endTime new) ≡ readInputs (cueAt old) old (inputCount old) 0 0 (endTime old)
+  same-inputs = rw (same .count, same .end) (same-reading (inputCount old) 0 0 (endTime old))
+
+  -- a show is accepted in one version exactly when it is in the other, with the same cues
+  pub accepted-alike : (list : List Cue) → (readFile old ≡ cues list) ↔ (readFile new ≡ cues list)
+  accepted-alike list = (
+    λ read. let start = good-file old list read .start in good-start new (good-start-of-new start) ∙ (same-inputs ∙ (sym (good-start old start) ∙ read)),
+    λ read. let start = good-file new list read .start in good-start old (good-start-of-old start) ∙ (sym same-inputs ∙ (sym (good-start new start) ∙ read)),
+  )
+
+  -- what is played is the same but for the version of the end state
+  pub played-alike : (list : List Cue) → PlayedAlike 2 (playFile old list) (playFile new list)
+  unfolding playFile
+  played-alike list = rw (same-params, same-scenes, same .end) (no-rule-looks-at-the-version 2 (paramsIn old) (scenesIn old) list (endTime old))
+
+  -- and so is the run, whole
+  pub two-versions-of-one-show-run-alike : (records answers : List ℕ) (list : List Cue) → readFile old ≡ cues list → lentEnough old records answers ≡ true →
+      RanAlike 2 (runCall old records answers) (runCall new records answers)
+  two-versions-of-one-show-run-alike records answers list read room =
+      let enough : lentEnough new records answers ≡ true = unfold lentEnough in rw (same .count) room in
+      let p = played-alike list in
+      rw (a-good-file-is-played old records answers list read room, a-good-file-is-played new records answers list (accepted-alike list .0 read) enough)
+      (unfold accepted in record {
+        state = p .state;
+        code = refl;
+        place = refl;
+        count = rw (p .records);
+        records = rw (p .records);
+        answers = rw (p .answers);
+      })

@@ -7,7 +7,6 @@ use lib.ListN.{length}
 use Rattle.octets.specs.BigEndian.{octet}
 use Rattle.rules.specs.declared.parameters.Params.{Params}
 use Rattle.rules.specs.declared.state.State.{State}
-use Rattle.rules.specs.declared.call.Ran.{Ran}
 use Rattle.rules.specs.Forms.{inSeconds, inTenths, version}
 use Rattle.rules.specs.Parameters.{delay}
 use Rattle.rules.specs.Lists.{Played}

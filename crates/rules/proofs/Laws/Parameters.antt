@@ -25,7 +25,7 @@ use Rattle.rules.specs.Scenes.{entryInRange, absent, scenesInRange}
 use Rattle.rules.specs.Steps.{fresh}
 use Rattle.rules.specs.Soundness.{sound}
 use Rattle.rules.specs.Refusals.{GoodParameters, FirstBad, FoundWhen}
-use Rattle.base.proofs.Tests.{no, neither-left, or-else, cond-case, eqb-same}
+use Rattle.base.proofs.Tests.{no, neither-left, or-else, cond-case, eqb-same, by-order}
 use Rattle.rules.proofs.Laws.Forms.{IsRow}
 use Rattle.rules.proofs.Laws.Soundness.{fresh-is-sound}
 
@@ -200,6 +200,27 @@ pub flags-octet : (f : Form) (octets : List ℕ) (n : ℕ) → badOctet f octets
 flags-octet f octets n =
     let place : scenesAt f + 1 + 2 * n ≡ scenesAt f + (2 * n + 1) = omega arith in
     rw place (scene-octet f octets (2 * n + 1) n (omega arith) ∙ simp (ne-eqb ((2 * n + 1) % 2) 0 (λ even. omega arith)))
+
+-- whatever the octet, of a time, a mode, a scene's number or its flags: it is good where these are
+pub every-octet-good : (f : Form) (octets : List ℕ) → ((n : ℕ) → n < 4 → badTime f octets n ≡ false) → ((m : ℕ) → m < 8 → badOctet f octets (modesAt f + m) ≡ false) →
+    ((n : ℕ) → n < 8 → badNumber f octets n ≡ false) → ((n : ℕ) → n < 8 → badFlags f octets n ≡ false) → (j : ℕ) → j < parametersSize f → badOctet f octets j ≡ false
+every-octet-good f octets times modes numbers flags j within =
+    by-order (modesAt f) j
+    (λ past. by-order (scenesAt f) j
+    (λ scene. scene-good (j - scenesAt f) (omega arith) (omega arith))
+    (λ mode. let place : modesAt f + (j - modesAt f) ≡ j = omega arith in rw place at (modes (j - modesAt f) (omega arith))))
+    (good-times-are-good-octets f octets times j)
+  where
+    scene-good : (m : ℕ) → scenesAt f + m ≡ j → m < 16 → badOctet f octets j ≡ false
+    scene-good m place within = by (eqb (m % 2) 0) refl
+      where
+        by : (b : Bool) → eqb (m % 2) 0 ≡ b → badOctet f octets j ≡ false
+        by true even =
+            let number : scenesAt f + 2 * (m / 2) ≡ j = omega (arith, eqb-true (m % 2) 0 even) in
+            rw number at (number-octet f octets (m / 2) ∙ numbers (m / 2) (omega arith))
+        by false odd =
+            let flag : scenesAt f + 1 + 2 * (m / 2) ≡ j = omega (arith, eqb-false (m % 2) 0 odd) in
+            rw flag at (flags-octet f octets (m / 2) ∙ flags (m / 2) (omega arith))
 
 -- a used entry: its number is at most 63 and in no earlier entry
 record Used (f : Form) (octets : List ℕ) (n : ℕ) : Type 0 where

@@ -27,9 +27,9 @@ use Rattle.rules.specs.Facts.{HasVersion, Delay, ParamsFit, entry, Scene
 use Rattle.rules.specs.Refusals.{GoodParameters}
 use Rattle.rules.specs.Calls.{unused}
 use Rattle.octets.proofs.BothWays.{what-is-written-is-read-16, what-is-written-is-read}
-use Rattle.base.proofs.Tests.{cond-case, either-way, by-order}
+use Rattle.base.proofs.Tests.{cond-case, either-way}
 use Rattle.rules.proofs.Laws.Forms.{own-row}
-use Rattle.rules.proofs.Laws.Parameters.{lowest-bad-octet, good-times-are-good-octets, mode-octet, mode-in-range, number-octet, flags-octet, entries}
+use Rattle.rules.proofs.Laws.Parameters.{lowest-bad-octet, mode-octet, mode-in-range, flags-octet, every-octet-good, entries}
 
 -- ---- accepted parameters are written in one way
 
@@ -273,26 +273,6 @@ module _ (p : Params) (k : List Scene) (fit : ParamsFit p) (g : ScenesFit k) (ei
   mode-good : (m : ℕ) → m < 8 → badOctet f written (modesAt f + m) ≡ false
   mode-good m within = mode-octet f written m within ∙ rw (behind-times m) (modes-within p fit (scenesOctets k) m within)
 
-  -- whatever the octet: of a time its first, of a mode, of a scene's number or flags
-  every-octet-good : (j : ℕ) → j < parametersSize f → badOctet f written j ≡ false
-  every-octet-good j within =
-      by-order (modesAt f) j
-      (λ past. by-order (scenesAt f) j
-      (λ scene. scene-good (j - scenesAt f) (omega arith) (omega arith))
-      (λ mode. let place : modesAt f + (j - modesAt f) ≡ j = omega arith in rw place at (mode-good (j - modesAt f) (omega arith))))
-      (good-times-are-good-octets f written time-good j)
-    where
-      scene-good : (m : ℕ) → scenesAt f + m ≡ j → m < 16 → badOctet f written j ≡ false
-      scene-good m place within = by (eqb (m % 2) 0) refl
-        where
-          by : (b : Bool) → eqb (m % 2) 0 ≡ b → badOctet f written j ≡ false
-          by true even =
-              let number : scenePlace f (m / 2) ≡ j = omega (arith, eqb-true (m % 2) 0 even) in
-              rw number at (number-octet f written (m / 2) ∙ number-good (m / 2) (omega arith))
-          by false odd =
-              let flags : flagsPlace f (m / 2) ≡ j = omega (arith, eqb-false (m % 2) 0 odd) in
-              rw flags at (flags-octet f written (m / 2) ∙ flags-good (m / 2) (omega arith))
-
   scene-back : (n : ℕ) → n < 8 → sceneAt written (scenePlace f n) ≡ entry k n
   unfolding sceneAt
   scene-back n within =
@@ -317,7 +297,7 @@ module _ (p : Params) (k : List Scene) (fit : ParamsFit p) (g : ScenesFit k) (ei
   pub written-is-accepted : checkParameters f written ≡ Passed
   written-is-accepted =
       lowest-bad-octet f written Passed .1
-      record { whole = length-append (timesOctets (f .scale) p) (modeOctets p ++ scenesOctets k) ∙ rw (times-length (f .scale) p, length-as-written k, eight) (omega arith); good = every-octet-good }
+      record { whole = length-append (timesOctets (f .scale) p) (modeOctets p ++ scenesOctets k) ∙ rw (times-length (f .scale) p, length-as-written k, eight) (omega arith); good = every-octet-good f written time-good mode-good number-good flags-good }
 
   params-back : paramsOf f written ≡ p
   unfolding paramsOf
