@@ -170,7 +170,7 @@ module _ (v : ℕ) where
 
   alike-mode : (s : State) (mode : ℕ) → busMode (like s) mode ≡ like (busMode s mode)
   unfolding busMode held
-  alike-mode s mode = rw (alike-settled s (eqb mode 2)) (alike-either _ s _)
+  alike-mode s mode = rw (alike-settled s (eqb mode 2)) (alike-either (held s || eqb mode 0) s (settle s (eqb mode 2)))
 
   alike-bus : (s : State) (l : Link) (e : Event) → bus (like s) l e ≡ like (bus s l e)
   unfolding bus
