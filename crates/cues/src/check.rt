@@ -144,13 +144,14 @@ fn check_rest(file: &[u8], form: Form) -> Check
 pub fn check_start(file: &[u8]) -> Check
     ensures { λ r. ⌜ r ≡ checkStart (now (file .entry)) ⌝ }
 {
-    if file.len() < LEAST_FILE {
-        return refused(Refusal::WrongLength);
-    }
-    if is_version(version_of(file)) {
-        check_rest(file, form_in(file))
+    if LEAST_FILE <= file.len() {
+        if is_version(version_of(file)) {
+            check_rest(file, form_in(file))
+        } else {
+            refused(Refusal::WrongVersion)
+        }
     } else {
-        refused(Refusal::WrongVersion)
+        refused(Refusal::WrongLength)
     }
 }
 
