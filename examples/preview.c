@@ -23,8 +23,8 @@ int main(void) {
                HOUSE_ATTRIBUTES(r) & HOUSE_FORCED ? " forced" : "", HOUSE_ATTRIBUTES(r) & HOUSE_NIGHT ? " night" : "",
                HOUSE_ATTRIBUTES(r) & HOUSE_STAIRCASE ? " timed" : "");
     }
-    for (size_t i = 0; i < (len - 52) / 8; i++) {
-        if (answers[i] >= HOUSE_STOPPED_BY_FORCE) printf("input %zu was dropped (answer %u)\n", i, answers[i]);
+    for (unsigned i = 0; i < HOUSE_INPUTS(file); i++) {
+        if (answers[i] >= HOUSE_STOPPED_BY_FORCE) printf("input %u was dropped (answer %u)\n", i, answers[i]);
     }
     return 0;
 }

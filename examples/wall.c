@@ -34,8 +34,8 @@ int main(void) {
                HOUSE_ATTRIBUTES(r) & HOUSE_STAIRCASE ? ", for a while" : "");
     }
     const uint8_t *actions = wall + len - 4;
-    for (size_t i = 0; i < (len - 56) / 8; i++) {
-        const uint8_t *input = wall + 52 + 8 * i;
+    for (unsigned i = 0; i < HOUSE_INPUTS(wall); i++) {
+        const uint8_t *input = wall + HOUSE_INPUTS_AT(wall) + 8 * i;
         if (input[4] != HOUSE_BUTTON_1 && input[4] != HOUSE_BUTTON_2) continue;
         int button = input[4] - HOUSE_BUTTON_1, falls = !input[5];
         if (actions[2 * button + falls] == HOUSE_NOTHING) continue;

@@ -6,6 +6,19 @@
  * rules say, for every octet string and every pair of buffers. They have no state of their own, allocate nothing, print nothing
  * and always return: they may be called from any thread, and from several at once, as long as they lend different buffers.
  *
+ * A cue file is of version 1, with its times in seconds, or of version 2, with its times in tenths of a second; either call takes
+ * both:
+ *
+ *                                   version 1             version 2
+ *     header                        octets 0 to 19        the same
+ *     parameters                    32 octets from 20 on  40 octets from 20 on
+ *       OnDelay, OffDelay,          four times two        four times four octets: tenths of a second, 0 to 655,350
+ *       TimedOnDuration (not 0),    octets: seconds
+ *       PrewarningDuration
+ *       modes and scenes            24 octets             the same 24 octets
+ *     inputs                        from 52 on            from 60 on
+ *     in all                        52+8n octets          60+8n octets
+ *
  * Link with libhouse.a and, for wall lists, libwalls.a (x86-64 Linux; `rt staticlib house` and `rt staticlib walls` make them in
  * target/staticlib).
  */
@@ -44,7 +57,7 @@ uint64_t house_run(const uint8_t *file, size_t file_len, uint8_t *records, size_
  *
  * A wall list is a cue file in which an input may also be an edge of a wall button (enum house_button), followed by four octets,
  * the sensor's actions (enum house_action): button 1 rising, button 1 falling, button 2 rising, button 2 falling. So it has
- * 56+8n octets, and its header counts the edges among the n inputs.
+ * 56+8n octets in version 1 and 64+8n in version 2, and its header counts the edges among the n inputs.
  *
  * An edge sends what its action says as a telegram of kind 1 at its own stamp, after the timers that are due at that stamp. An
  * action HOUSE_TOGGLE sends the inverse of the last value that the sensor sent or heard, whichever is later; it hears every
@@ -62,18 +75,23 @@ uint64_t house_wall_run(const uint8_t *wall, size_t wall_len, uint8_t *records, 
 
 /* Room that is enough for every file and every wall list. */
 #define HOUSE_MOST_INPUTS 2048u
-#define HOUSE_LONGEST_FILE (52u + 8u * HOUSE_MOST_INPUTS)
+#define HOUSE_LONGEST_FILE (60u + 8u * HOUSE_MOST_INPUTS)
 #define HOUSE_LONGEST_WALL (HOUSE_LONGEST_FILE + 4u)
 #define HOUSE_RECORDS_ROOM(n) (8u * (3u * (size_t)(n) + 3u))
+
+/* Of an accepted file or wall list: its version, how many inputs it has, and where the first of them stands. */
+#define HOUSE_VERSION(file) ((unsigned)(file)[0] << 8 | (unsigned)(file)[1])
+#define HOUSE_INPUTS(file) ((unsigned)(file)[10] << 8 | (unsigned)(file)[11])
+#define HOUSE_INPUTS_AT(file) ((unsigned)(file)[15])
 
 /* Codes, in the order in which they are tested, and what the place means. */
 enum house_code {
     HOUSE_ACCEPTED = 0,        /* place 0 */
-    HOUSE_TOO_SHORT = 1,       /* a file under 52 octets, a wall list under 56; place 0 */
-    HOUSE_WRONG_VERSION = 2,   /* version not 1; place 0 */
+    HOUSE_TOO_SHORT = 1,       /* a file under 52 octets (version 2: 60), a wall list under 56 (64); place 0 */
+    HOUSE_WRONG_VERSION = 2,   /* neither version 1 nor 2, in a file of at least 52 octets; place 0 */
     HOUSE_WRONG_ACTUATORS = 3, /* count of actuators not 1; place 0 */
     HOUSE_WRONG_LAYOUT = 4,    /* an offset, the count of inputs, the length or the end time; place 0 */
-    HOUSE_BAD_PARAMETER = 5,   /* place: the lowest bad octet of the 32 parameter octets, 0 to 31 */
+    HOUSE_BAD_PARAMETER = 5,   /* place: the lowest bad octet of the parameters, 0 to 31 (version 2: 39); of a time its first */
     HOUSE_BAD_ACTION = 11,     /* a wall list's action above 3; place: the lowest bad octet of the four, 0 to 3 */
     HOUSE_BAD_INPUT = 6,       /* kind, value or zero octet; place: the input's index, from 0 */
     HOUSE_BAD_STAMP = 7,       /* below the stamp before, or above the end time; place: the input's index */

@@ -93,17 +93,20 @@ build_example() {
     fi && kit_link "$out/$name" "$out/$name.o" "${archives[@]}"
 }
 
-# example_says NAME SHOW: it writes examples/NAME.txt of a show.
+# example_says NAME SHOW: it writes examples/NAME.SHOW.txt of a show.
 example_says() {
     local name=$1 show=$2
-    "${kit_run[@]}" "$out/$name" <"shows/$show" | diff - "examples/$name.txt"
+    "${kit_run[@]}" "$out/$name" <"shows/$show" | diff - "examples/$name.${show%.*}.txt"
 }
 
-# example NAME SHOW: examples/NAME.c, built and run.
+# example NAME SHOW..: examples/NAME.c, built and run.
 example() {
-    local name=$1 show=$2
+    local name=$1 show
+    shift
     done_or_not "examples/$name.c is built, warnings as errors" build_example "$name"
-    done_or_not "examples/$name.c says what the house does in shows/$show" example_says "$name" "$show"
+    for show in "$@"; do
+        done_or_not "examples/$name.c says what the house does in shows/$show" example_says "$name" "$show"
+    done
 }
 
 # make_archives: one for each run. Making one proves its crate once more.
@@ -134,7 +137,7 @@ if command -v rustc >/dev/null; then
     compared compare_walls "the run over wall lists against the second model"
 fi
 counted "the shows" bash tests/shows.sh
-example preview example.cue
-example wall foyer.wall
+example preview example.cue tenths.cue
+example wall foyer.wall stage_door.wall
 echo "$passed passed, $failed failed"
 [ "$failed" -eq 0 ]

@@ -9,16 +9,20 @@ failed=0
 work=$(mktemp -d) || exit 2
 trap 'rm -rf "$work"' EXIT
 
-# holds NAME STATUS WANTED LINES WORDS..: ./preview WORDS.. ends with STATUS, prints exactly the file WANTED, and says LINES
-# lines on standard error.
+# holds NAME STATUS WANTED SAID WORDS..: ./preview WORDS.. ends with STATUS, prints exactly the file WANTED, and says on standard
+# error exactly the file SAID, or, where that is a number, so many lines.
 holds() {
-    local name=$1 status=$2 wanted=$3 lines=$4 got why=
+    local name=$1 status=$2 wanted=$3 said=$4 got why=
     shift 4
     "$@" >"$work/out" 2>"$work/err"
     got=$?
     [ "$got" -eq "$status" ] || why="$why; exit status $got, not $status"
     cmp -s "$work/out" "$wanted" || why="$why; another printout"
-    [ "$(wc -l <"$work/err")" -eq "$lines" ] || why="$why; not $lines lines on standard error"
+    if [ -f "$said" ]; then
+        cmp -s "$work/err" "$said" || why="$why; other words on standard error"
+    else
+        [ "$(wc -l <"$work/err")" -eq "$said" ] || why="$why; not $said lines on standard error"
+    fi
     if [ -z "$why" ]; then
         passed=$((passed + 1))
         echo "ok: $name"
@@ -39,7 +43,7 @@ play_all() {
         shows=$((shows + 1))
         name=$(basename "$show" ".$end")
         case $name in
-        refused_*) holds "$name" 1 "shows/$name.txt" 1 ./preview "$@" "$show" ;;
+        refused_*) holds "$name" 1 "shows/$name.txt" "shows/$name.why" ./preview "$@" "$show" ;;
         *) holds "$name" 0 "shows/$name.txt" 0 ./preview "$@" "$show" ;;
         esac
     done
@@ -54,6 +58,27 @@ echo "NO 1 0" >"$work/no_1"
 echo "NO 4 0" >"$work/no_4"
 (cat shows/example.cue && head -c 20000 /dev/zero) >"$work/long.cue"
 (cat shows/foyer.wall && head -c 20000 /dev/zero) >"$work/long.wall"
+
+# the longest files: every input is an Off at 0, and changes nothing
+longest() { # VERSION HEADER-OFFSET-OF-INPUTS TIMES-OCTETS
+    printf "\\0\\$1\\0\\1\\0\\0\\0\\24\\0\\0\\10\\0\\0\\0\\0\\$2\\0\\0\\0\\0"
+    printf "$3"
+    printf '\0%.0s' {1..8}
+    printf '\377\0%.0s' {1..8}
+    printf '\0\0\0\0\1\0\0\0%.0s' {1..2048}
+}
+{
+    echo "OK 2048"
+    echo "R 0 0 1 0"
+    for i in {0..2047}; do echo "A $i 1"; done
+    echo "E 1"
+} >"$work/longest.txt"
+longest 1 64 '\0\0\0\0\0\1\0\0' >"$work/longest_1.cue"
+longest 2 74 '\0\0\0\0\0\0\0\0\0\0\0\1\0\0\0\0' >"$work/longest_2.cue"
+(cat "$work/longest_2.cue" && printf '\0\0\0\0') >"$work/longest_2.wall"
+holds "the longest file of version 1" 0 "$work/longest.txt" 0 ./preview "$work/longest_1.cue"
+holds "the longest file of version 2" 0 "$work/longest.txt" 0 ./preview "$work/longest_2.cue"
+holds "the longest wall list of version 2" 0 "$work/longest.txt" 0 ./preview --wall "$work/longest_2.wall"
 
 holds "no file named: the example" 0 shows/example.txt 0 ./preview
 holds "an empty file" 1 "$work/no_1" 1 ./preview "$work/nothing"

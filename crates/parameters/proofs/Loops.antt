@@ -3,10 +3,12 @@ use Prim.Native.Nat.{ℕ, zero, suc, _+_, _-_, _*_, _≤_, _<_}
 use mathlib.Core.Bool.{Bool, true, false, cond, not, _||_}
 use mathlib.Core.List.{List}
 use mathlib.Core.Path.{_≡_, refl, sym, ap, _∙_}
+use native.Mathlib.Numerals.{add-one}
 use native.Mathlib.Omega.{arith}
-use lib.ListN.{getD}
+use lib.ListN.{length, getD, set, replicate, getD-replicate, length-set}
+use lib.Seq.{getD-set-same, getD-set-other}
 use lib.Dec.{eqb, leb, ltb}
-use borrow.Author.Tests.{ne-eqb, lt-ltb, leb-true, not-false}
+use borrow.Author.Tests.{eqb-true, eqb-false, ne-eqb, lt-ltb, le-ltb, leb-true, leb-false, not-false}
 use Rattle.octets.specs.BigEndian.{octet}
 use Rattle.rules.specs.declared.form.Scale.{Scale}
 use Rattle.rules.specs.declared.form.Scale.the-variants.{Seconds, Tenths}
@@ -16,18 +18,46 @@ use Rattle.rules.specs.Layout.{timePlace, modesAt, scenePlace, flagsPlace}
 use Rattle.base.specs.declared.refusal.Refusal.the-variants.{BadParameter}
 use Rattle.base.specs.declared.refusal.Check.the-variants.{Passed, Refused}
 use Rattle.rules.specs.Parameters.{greatest, badTime, numberAbove, badNumber, badFlags, badOctet, lowestBad}
+use Rattle.parameters.specs.Seen.{noted, badAfter}
 use Rattle.rules.proofs.Laws.Forms.{few-octets}
 use Rattle.rules.proofs.Laws.Parameters.{time-octet, within-time, mode-octet, number-octet, flags-octet}
 
--- from the last of the first entries up
-pub above-step : (f : Form) (octets : List ℕ) (number left : ℕ) → 0 < left → numberAbove f octets number left ≡ (eqb (octet octets (scenePlace f (left - 1))) number || numberAbove f octets number (left - 1))
-unfolding numberAbove
-above-step f octets number zero some = absurd (omega arith)
-above-step f octets number (suc n) some = let one : suc n - 1 ≡ n = omega arith in rw one
+-- ---- the numbers seen
 
-pub above-none : (f : Form) (octets : List ℕ) (number left : ℕ) → left ≡ 0 → numberAbove f octets number left ≡ false
+-- what is kept is what the first n entries have
+pub record Seen (f : Form) (octets : List ℕ) (n : ℕ) (seen : List ℕ) : Type 0 where
+  pub whole : length seen ≡ 64
+  pub each : (j : ℕ) → j ≤ 63 → eqb (getD seen j 0) 1 ≡ numberAbove f octets j n
+
+pub none-seen : (f : Form) (octets : List ℕ) → Seen f octets 0 (replicate 64 0)
 unfolding numberAbove
-above-none f octets number left none = rw none
+none-seen f octets = record { whole = refl; each = λ j few. rw (getD-replicate {A = ℕ} 64 j 0 0 (omega arith)) }
+
+-- so a number is bad exactly when the rule says so
+pub bad-as-seen : (f : Form) (octets : List ℕ) (n : ℕ) (seen : List ℕ) → Seen f octets n seen → badAfter seen (octet octets (scenePlace f n)) ≡ badNumber f octets n
+unfolding badAfter badNumber
+bad-as-seen f octets n seen s = by (leb (octet octets (scenePlace f n)) 63) refl
+  where
+    by : (b : Bool) → leb (octet octets (scenePlace f n)) 63 ≡ b → cond b (eqb (getD seen (octet octets (scenePlace f n)) 0) 1) (not (eqb (octet octets (scenePlace f n)) 255)) ≡ cond b (numberAbove f octets (octet octets (scenePlace f n)) n) (not (eqb (octet octets (scenePlace f n)) 255))
+    by true few = s .each (octet octets (scenePlace f n)) (leb-true _ _ few)
+    by false many = refl
+
+-- and one more is noted
+pub noted-is-seen : (f : Form) (octets : List ℕ) (n : ℕ) (seen : List ℕ) → Seen f octets n seen → Seen f octets (n + 1) (noted seen (octet octets (scenePlace f n)))
+unfolding noted numberAbove
+noted-is-seen f octets n seen s = rw (add-one n) (by (leb number 63) refl)
+  where
+    number : ℕ
+    number = octet octets (scenePlace f n)
+
+    -- the number itself, and any other
+    one : (j : ℕ) (b : Bool) → eqb number j ≡ b → number ≤ 63 → j ≤ 63 → eqb (getD (set seen number 1) j 0) 1 ≡ (b || numberAbove f octets j n)
+    one j true e few within = rw (← eqb-true number j e) (rw (getD-set-same seen number 1 0 (omega (arith, s .whole))))
+    one j false e few within = rw (getD-set-other seen number j 1 0 (λ same. eqb-false number j e (sym same))) (s .each j within)
+
+    by : (b : Bool) → leb number 63 ≡ b → Seen f octets (suc n) (cond b (set seen number 1) seen)
+    by true few = record { whole = length-set seen number 1 ∙ s .whole; each = λ j within. one j (eqb number j) refl (leb-true number 63 few) within }
+    by false many = record { whole = s .whole; each = λ j within. rw (ne-eqb number j (λ same. omega (arith, leb-false number 63 many))) (s .each j within) }
 
 -- ---- the flags of an entry whose number is in range
 

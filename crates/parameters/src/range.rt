@@ -7,7 +7,8 @@ ghost use lib.ListN.{length, getD};
 ghost use Rattle.base.specs.declared.refusal.Refusal.the-variants.{BadParameter};
 ghost use Rattle.base.specs.declared.refusal.Check.the-variants.{Refused};
 ghost use Rattle.rules.specs.Layout.{parametersSize, modesAt, scenesAt};
-ghost use Rattle.rules.specs.Parameters.{greatest, badTime, numberAbove, badNumber, badFlags, lowestBad};
+ghost use Rattle.rules.specs.Parameters.{greatest, badTime, badNumber, badFlags, lowestBad};
+ghost use Rattle.parameters.specs.Seen.{noted, badAfter};
 use crate::read::delay_of;
 use base::logic::both;
 use base::logic::either;
@@ -32,33 +33,24 @@ fn greatest_at(n: usize) -> u8
     GREATEST[n]
 }
 
-// Whether one of the first entries has a scene number, from the last of them up.
-fn number_above(octets: &[u8], form: Form, number: u8, entries: usize) -> bool
-    requires { ⌜ (length (now octets) ≡ parametersSize form) × (entries ≤ 8) ⌝ }
-    ensures { λ r. ⌜ r ≡ numberAbove form (now (octets .entry)) number entries ⌝ }
+// A scene number that is too large, or that an entry before has: so a repeated number is bad at the later entry.
+fn bad_number(seen: &[u8; 64], number: u8) -> bool
+    ensures { λ r. ⌜ r ≡ badAfter (now (seen .entry)) number ⌝ }
 {
-    let mut entry = entries;
-    while 0 < entry {
-        entry -= 1;
-        let at = scene_place(form, entry);
-        if octets[at] == number {
-            return true;
-        }
-    }
-    false
-}
-
-// A scene number that is too large, or that an earlier entry has: so a repeated number is bad at the later entry.
-fn bad_number(octets: &[u8], form: Form, entry: usize) -> bool
-    requires { ⌜ (length (now octets) ≡ parametersSize form) × (entry < 8) ⌝ }
-    ensures { λ r. ⌜ r ≡ badNumber form (now (octets .entry)) entry ⌝ }
-{
-    let number = octets[scene_place(form, entry)];
     if number <= 63 {
-        number_above(octets, form, number, entry)
+        seen[number as usize] == 1
     } else {
         let unused = number == 255;
         negated(unused)
+    }
+}
+
+// One number more; an unused entry has none.
+fn note(seen: &mut [u8; 64], number: u8)
+    ensures { λ _. ⌜ now (seen .exit) ≡ noted (now (seen .entry)) number ⌝ }
+{
+    if number <= 63 {
+        seen[number as usize] = 1;
     }
 }
 
@@ -89,16 +81,19 @@ fn bad_at(at: usize) -> Check
     }
 }
 
-// The eight scene entries, each its number and then its flags.
+// The eight scene entries, each its number and then its flags. An octet for each number tells whether an entry before has it.
 fn lowest_bad_from_scenes(octets: &[u8], form: Form) -> Check
     requires { ⌜ length (now octets) ≡ parametersSize form ⌝ }
     ensures { λ r. ⌜ r ≡ lowestBad form (now (octets .entry)) 16 (scenesAt form) ⌝ }
 {
+    let mut seen = [0u8; 64];
     let mut entry: usize = 0;
     while entry < 8 {
-        if bad_number(octets, form, entry) {
+        let number = octets[scene_place(form, entry)];
+        if bad_number(&seen, number) {
             return bad_at(scene_place(form, entry));
         }
+        note(&mut seen, number);
         if bad_flags(octets, form, entry) {
             return bad_at(flags_place(form, entry));
         }
