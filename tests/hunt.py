@@ -28,6 +28,7 @@ LIMIT = 300  # seconds for one check
 GROUPS = [g.split() for g in (
     'true false', 'Dark Lit', 'Timed Warning Ending', 'Free Off On', 'Failure Return', 'Up BusDown PowerDown',
     'SwitchOnOff TimedStartStop LockDevice NightMode', 'Bus Power', 'powerDown busDown', 'isDark isLit', 'be16 be32',
+    'Seconds Tenths', 'versionOne versionTwo', 'width unit', 'formIn formAlone', 'delay timeAt', 'parametersSize inputsAt',
     'modesAt scenesAt', 'scenePlace flagsPlace', 'recallsOn recallsOff', 'lights dims', 'min max', '≤ <', '&& ||',
     # functions of one type, and variables that often stand side by side
     'timedStart timedStop off nightFalls', 'switch timed', 'value attributes', 'version actuators',

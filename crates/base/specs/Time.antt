@@ -5,11 +5,11 @@ use Prim.Native.Nat.{ℕ, _*_, min}
 abbrev pub lastStamp : ℕ
 lastStamp = 864_000
 
--- "Delays are U16 seconds; a delay of s lasts 10*s tenths." Seconds become tenths here and nowhere else.
+-- "Delays are U16 seconds; a delay of s lasts 10*s tenths."
 abbrev pub tenths : ℕ → ℕ
 tenths seconds = 10 * seconds
 
--- the longest delay: 65,535 seconds
+-- the longest delay: 65,535 seconds; 02, [2]: "U32 tenths, 0 to 655,350"
 abbrev pub longestDelay : ℕ
 longestDelay = 655_350
 

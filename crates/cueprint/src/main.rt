@@ -5,7 +5,7 @@
 ghost use Prim.Native.Nat.{_+_, _*_, _≤_};
 ghost use lib.ListN.{length};
 ghost use mathlib.Core.Path.{_≡_};
-ghost use Rattle.rules.specs.Layout.{leastFile, inputsAt, inputSize, mostInputs, inputPlace};
+ghost use Rattle.rules.specs.Layout.{leastFile, mostInputs, placeBy, inputPlace};
 ghost use Rattle.rules.specs.Files.{inputCount};
 use base::refusal::Check;
 use base::refusal::number_of;
@@ -113,7 +113,7 @@ fn print_sent(index: u32, sent: [u8; 8]) {
 
 // The octets of input i.
 fn input_octets(file: &[u8], form: Form, i: u32) -> [u8; 8]
-    requires { ⌜ inputsAt form + inputSize * (i + 1) ≤ length (now file) ⌝ }
+    requires { ⌜ placeBy form (i + 1) ≤ length (now file) ⌝ }
 {
     let at = input_place(form, i);
     [
@@ -160,7 +160,7 @@ struct Played {
 
 // The inputs, in list order.
 fn play_inputs(start: State, fresh: Sensor, file: &[u8], form: Form, n: u32) -> Played
-    requires { ⌜ (n ≤ mostInputs) × (inputsAt form + inputSize * n ≤ length (now file)) ⌝ }
+    requires { ⌜ (n ≤ mostInputs) × (placeBy form n ≤ length (now file)) ⌝ }
 {
     let mut s = start;
     let mut z = fresh;

@@ -5,7 +5,7 @@ ghost use lib.ListN.{length};
 ghost use Rattle.base.specs.declared.refusal.Check.the-variants.{Refused};
 ghost use Rattle.rules.specs.Parameters.{checkParameters};
 ghost use Rattle.rules.specs.Forms.{formIn};
-ghost use Rattle.rules.specs.Layout.{leastFile, inputsAt, inputSize, mostInputs};
+ghost use Rattle.rules.specs.Layout.{leastFile, inputsAt, inputSize, mostInputs, placeBy};
 ghost use Rattle.rules.specs.Readings.{verdict};
 ghost use Rattle.rules.specs.Files.{parametersIn, checkRest, checkStart, readFile};
 ghost use Rattle.cues.specs.Checks.{checkOne, checkInputs, isEdge, isKnown, knownAt};
@@ -93,7 +93,7 @@ fn is_known_at(file: &[u8], at: usize, edges: bool) -> bool
 
 // The first bad input of n, from the first on, in a list that takes edges too or does not.
 pub fn check_inputs(file: &[u8], form: Form, n: u32, end: u32, edges: bool) -> Check
-    requires { ⌜ (form ≡ formIn (now file)) × (n ≤ mostInputs) × (inputsAt form + inputSize * n ≤ length (now file)) ⌝ }
+    requires { ⌜ (form ≡ formIn (now file)) × (n ≤ mostInputs) × (placeBy form n ≤ length (now file)) ⌝ }
     ensures { λ r. ⌜ r ≡ checkInputs (knownAt edges (now (file .entry))) (now (file .entry)) n 0 0 end ⌝ }
 {
     let mut i: u32 = 0;

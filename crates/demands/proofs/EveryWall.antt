@@ -5,7 +5,6 @@ use mathlib.Core.Bool.{true}
 use mathlib.Core.List.{List, [], _∷_, _++_}
 use mathlib.Core.Path.{_≡_, sym, _∙_}
 use native.Mathlib.Omega.{arith}
-use Rattle.octets.specs.BigEndian.{octet}
 use Rattle.octets.specs.Groups.{stampAt}
 use Rattle.rules.specs.Forms.{formIn}
 use Rattle.rules.specs.Layout.{inputPlace}

@@ -295,7 +295,7 @@ lit-through-ties p scenes list end r some delay before a i later split due was =
     the-last-record-shows-the-output p scenes list end a 0 r (omega (arith, due .reached))
     ∙ lit-is-255 (stateAt a list (fresh p scenes)) (a-lit-lamp-stays-lit p scenes list end r some delay before a i later split due lit)
 
--- TimedOn is 1 second or more in accepted parameters.
+-- TimedOn is not 0 in accepted parameters.
 pub light-stamped : (p : Params) (scenes : List Scene) (list : List Cue) (end : ℕ) → Rises 0 list end → 1 ≤ p .timedon → StrongLightPromise p scenes list end →
     LightStamped p scenes list end (playList p scenes list end .records)
 light-stamped p scenes list end r some light before a i later split due =

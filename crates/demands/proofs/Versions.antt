@@ -1,11 +1,12 @@
 -- No rule looks at the version, so two versions of one show have one run: the same answers and records, and the same end state but for its version.
 use Prim.Native.Nat.{ℕ, zero, suc, _+_, _-_, _*_, _≤_, _<_}
 use mathlib.Core.Bool.{Bool, true, false, cond, _||_}
-use mathlib.Core.List.{List, [], _∷_}
+use mathlib.Core.List.{List, [], _∷_, _++_}
 use mathlib.Core.Logic.{_↔_, inl, inr}
 use mathlib.Core.Path.{_≡_, refl, sym, ap, _∙_}
 use native.Mathlib.Omega.{arith}
 use lib.ListN.{length}
+use lib.Seq.{getD-append-add}
 use lib.Dec.{eqb, leb}
 use Rattle.octets.specs.BigEndian.{octet, be32}
 use Rattle.rules.specs.declared.parameters.Params.{Params}
@@ -39,9 +40,9 @@ use Rattle.rules.specs.Steps.{Moved, Stepped, fresh, tickAt, tick, ticked, cloc
 use Rattle.rules.specs.Lists.{Cue, cue, Played, andThen, moved, stepped, plays, playsTo, start, playList}
 use Rattle.octets.specs.Groups.{stampAt}
 use Rattle.rules.specs.Inputs.{inputAt}
-use Rattle.rules.specs.Forms.{inSeconds, inTenths, formOf, version, formIn}
+use Rattle.rules.specs.Forms.{versionOne, versionTwo, formOf, version, formIn}
 use Rattle.rules.specs.Layout.{modesAt, scenePlace, flagsPlace, inputsAt, inputPlace}
-use Rattle.rules.specs.Parameters.{paramsOf, sceneAt, scenesOf, badTime, numberAbove, badNumber, badFlags, badOctet}
+use Rattle.rules.specs.Parameters.{timeAt, delay, paramsOf, sceneAt, scenesOf, badTime, numberAbove, badNumber, badFlags, badOctet}
 use Rattle.rules.specs.Readings.{cues, readInputs}
 use Rattle.rules.specs.Files.{inputCount, inputsOffset, endTime, parametersIn, paramsIn, scenesIn, cueAt, readFile, lentEnough}
 use Rattle.rules.specs.Refusals.{GoodParameters, GoodStart}
@@ -277,11 +278,11 @@ module _ (v : ℕ) where
 -- ---- two files of one show
 
 module _ (old new : List ℕ) (same : SameShow old new) where
-  old-row : formIn old ≡ inSeconds
+  old-row : formIn old ≡ versionOne
   unfolding formIn formOf
   old-row = rw (same .first)
 
-  new-row : formIn new ≡ inTenths
+  new-row : formIn new ≡ versionTwo
   unfolding formIn formOf
   new-row = rw (same .second)
 
@@ -332,19 +333,19 @@ module _ (old new : List ℕ) (same : SameShow old new) where
       rw (old-row, new-row)
       (rw (same .times 0 (omega arith), same .times 1 (omega arith), same .times 2 (omega arith), same .times 3 (omega arith), behind-times 0 (omega arith), behind-times 1 (omega arith), behind-times 2 (omega arith), behind-times 3 (omega arith), behind-times 4 (omega arith), behind-times 5 (omega arith)))
 
-  same-scene-number : (n : ℕ) → n < 8 → octet (parametersIn new) (scenePlace inTenths n) ≡ octet (parametersIn old) (scenePlace inSeconds n)
+  same-scene-number : (n : ℕ) → n < 8 → octet (parametersIn new) (scenePlace versionTwo n) ≡ octet (parametersIn old) (scenePlace versionOne n)
   same-scene-number n within =
-      let here : scenePlace inTenths n ≡ 16 + (8 + 2 * n) = omega arith in
-      let there : scenePlace inSeconds n ≡ 8 + (8 + 2 * n) = omega arith in
+      let here : scenePlace versionTwo n ≡ 16 + (8 + 2 * n) = omega arith in
+      let there : scenePlace versionOne n ≡ 8 + (8 + 2 * n) = omega arith in
       rw (here, there) (behind-times (8 + 2 * n) (omega arith))
 
-  same-scene-flags : (n : ℕ) → n < 8 → octet (parametersIn new) (scenePlace inTenths n + 1) ≡ octet (parametersIn old) (scenePlace inSeconds n + 1)
+  same-scene-flags : (n : ℕ) → n < 8 → octet (parametersIn new) (scenePlace versionTwo n + 1) ≡ octet (parametersIn old) (scenePlace versionOne n + 1)
   same-scene-flags n within =
-      let here : scenePlace inTenths n + 1 ≡ 16 + (8 + 2 * n + 1) = omega arith in
-      let there : scenePlace inSeconds n + 1 ≡ 8 + (8 + 2 * n + 1) = omega arith in
+      let here : scenePlace versionTwo n + 1 ≡ 16 + (8 + 2 * n + 1) = omega arith in
+      let there : scenePlace versionOne n + 1 ≡ 8 + (8 + 2 * n + 1) = omega arith in
       rw (here, there) (behind-times (8 + 2 * n + 1) (omega arith))
 
-  same-entries : (left n : ℕ) → n + left ≡ 8 → entries inTenths (parametersIn new) left n ≡ entries inSeconds (parametersIn old) left n
+  same-entries : (left n : ℕ) → n + left ≡ 8 → entries versionTwo (parametersIn new) left n ≡ entries versionOne (parametersIn old) left n
   unfolding entries sceneAt
   same-entries zero n end = refl
   same-entries (suc left) n end = rw (same-scene-number n (omega arith), same-scene-flags n (omega arith), same-entries left (n + 1) (omega arith))
@@ -355,52 +356,52 @@ module _ (old new : List ℕ) (same : SameShow old new) where
 
   -- ---- they are accepted alike
 
-  same-times : (n : ℕ) → n < 4 → badTime inTenths (parametersIn new) n ≡ badTime inSeconds (parametersIn old) n
+  same-times : (n : ℕ) → n < 4 → badTime versionTwo (parametersIn new) n ≡ badTime versionOne (parametersIn old) n
   unfolding badTime
   same-times n within = rw (same .times n within)
 
-  same-numbers-above : (number n : ℕ) → n ≤ 8 → numberAbove inTenths (parametersIn new) number n ≡ numberAbove inSeconds (parametersIn old) number n
+  same-numbers-above : (number n : ℕ) → n ≤ 8 → numberAbove versionTwo (parametersIn new) number n ≡ numberAbove versionOne (parametersIn old) number n
   unfolding numberAbove
   same-numbers-above number zero within = refl
   same-numbers-above number (suc n) within = rw (same-scene-number n (omega arith), same-numbers-above number n (omega arith))
 
-  same-numbers : (n : ℕ) → n < 8 → badNumber inTenths (parametersIn new) n ≡ badNumber inSeconds (parametersIn old) n
+  same-numbers : (n : ℕ) → n < 8 → badNumber versionTwo (parametersIn new) n ≡ badNumber versionOne (parametersIn old) n
   unfolding badNumber
-  same-numbers n within = rw (same-scene-number n within, same-numbers-above (octet (parametersIn old) (scenePlace inSeconds n)) n (omega arith))
+  same-numbers n within = rw (same-scene-number n within, same-numbers-above (octet (parametersIn old) (scenePlace versionOne n)) n (omega arith))
 
-  same-flags : (n : ℕ) → n < 8 → badFlags inTenths (parametersIn new) n ≡ badFlags inSeconds (parametersIn old) n
+  same-flags : (n : ℕ) → n < 8 → badFlags versionTwo (parametersIn new) n ≡ badFlags versionOne (parametersIn old) n
   unfolding badFlags
   same-flags n within =
-      let here : flagsPlace inTenths n ≡ scenePlace inTenths n + 1 = omega arith in
-      let there : flagsPlace inSeconds n ≡ scenePlace inSeconds n + 1 = omega arith in
+      let here : flagsPlace versionTwo n ≡ scenePlace versionTwo n + 1 = omega arith in
+      let there : flagsPlace versionOne n ≡ scenePlace versionOne n + 1 = omega arith in
       rw (here, there, same-scene-number n within, same-scene-flags n within)
 
-  same-modes : (m : ℕ) → m < 8 → badOctet inTenths (parametersIn new) (modesAt inTenths + m) ≡ badOctet inSeconds (parametersIn old) (modesAt inSeconds + m)
-  same-modes m within = mode-octet inTenths (parametersIn new) m within ∙ (rw (behind-times m (omega arith)) (sym (mode-octet inSeconds (parametersIn old) m within)))
+  same-modes : (m : ℕ) → m < 8 → badOctet versionTwo (parametersIn new) (modesAt versionTwo + m) ≡ badOctet versionOne (parametersIn old) (modesAt versionOne + m)
+  same-modes m within = mode-octet versionTwo (parametersIn new) m within ∙ (rw (behind-times m (omega arith)) (sym (mode-octet versionOne (parametersIn old) m within)))
 
   -- every octet of the one is good where those of the other are
-  good-parameters : inputsAt (formIn new) ≤ length new → GoodParameters inSeconds (parametersIn old) → GoodParameters inTenths (parametersIn new)
+  good-parameters : inputsAt (formIn new) ≤ length new → GoodParameters versionOne (parametersIn old) → GoodParameters versionTwo (parametersIn new)
   good-parameters long g =
       record {
         whole = rw new-row at (parameters-whole new long);
         good =
-            every-octet-good inTenths (parametersIn new)
-            (λ n within. same-times n within ∙ good-time inSeconds (parametersIn old) g n within)
-            (λ m within. same-modes m within ∙ g .good (modesAt inSeconds + m) (omega arith))
-            (λ n within. same-numbers n within ∙ (sym (number-octet inSeconds (parametersIn old) n) ∙ g .good (scenePlace inSeconds n) (omega arith)))
-            (λ n within. same-flags n within ∙ (sym (flags-octet inSeconds (parametersIn old) n) ∙ g .good (flagsPlace inSeconds n) (omega arith)));
+            every-octet-good versionTwo (parametersIn new)
+            (λ n within. same-times n within ∙ good-time versionOne (parametersIn old) g n within)
+            (λ m within. same-modes m within ∙ g .good (modesAt versionOne + m) (omega arith))
+            (λ n within. same-numbers n within ∙ (sym (number-octet versionOne (parametersIn old) n) ∙ g .good (scenePlace versionOne n) (omega arith)))
+            (λ n within. same-flags n within ∙ (sym (flags-octet versionOne (parametersIn old) n) ∙ g .good (flagsPlace versionOne n) (omega arith)));
       }
 
-  good-parameters-back : inputsAt (formIn old) ≤ length old → GoodParameters inTenths (parametersIn new) → GoodParameters inSeconds (parametersIn old)
+  good-parameters-back : inputsAt (formIn old) ≤ length old → GoodParameters versionTwo (parametersIn new) → GoodParameters versionOne (parametersIn old)
   good-parameters-back long g =
       record {
         whole = rw old-row at (parameters-whole old long);
         good =
-            every-octet-good inSeconds (parametersIn old)
-            (λ n within. sym (same-times n within) ∙ good-time inTenths (parametersIn new) g n within)
-            (λ m within. sym (same-modes m within) ∙ g .good (modesAt inTenths + m) (omega arith))
-            (λ n within. sym (same-numbers n within) ∙ (sym (number-octet inTenths (parametersIn new) n) ∙ g .good (scenePlace inTenths n) (omega arith)))
-            (λ n within. sym (same-flags n within) ∙ (sym (flags-octet inTenths (parametersIn new) n) ∙ g .good (flagsPlace inTenths n) (omega arith)));
+            every-octet-good versionOne (parametersIn old)
+            (λ n within. sym (same-times n within) ∙ good-time versionTwo (parametersIn new) g n within)
+            (λ m within. sym (same-modes m within) ∙ g .good (modesAt versionTwo + m) (omega arith))
+            (λ n within. sym (same-numbers n within) ∙ (sym (number-octet versionTwo (parametersIn new) n) ∙ g .good (scenePlace versionTwo n) (omega arith)))
+            (λ n within. sym (same-flags n within) ∙ (sym (flags-octet versionTwo (parametersIn new) n) ∙ g .good (flagsPlace versionTwo n) (omega arith)));
       }
 
   good-start-of-new : GoodStart old → GoodStart new
@@ -421,7 +422,7 @@ module _ (old new : List ℕ) (same : SameShow old new) where
             whole = rw (new-row, same .count) (omega (arith, same .size));
           };
         };
-        passed = rw new-row (lowest-bad-octet inTenths (parametersIn new) Passed .1 (good-parameters long (lowest-bad-octet inSeconds (parametersIn old) Passed .0 (rw old-row at (g .passed)))));
+        passed = rw new-row (lowest-bad-octet versionTwo (parametersIn new) Passed .1 (good-parameters long (lowest-bad-octet versionOne (parametersIn old) Passed .0 (rw old-row at (g .passed)))));
       }
 
   good-start-of-old : GoodStart new → GoodStart old
@@ -442,7 +443,7 @@ module _ (old new : List ℕ) (same : SameShow old new) where
             whole = rw (old-row, ← same .count) (omega (arith, same .size));
           };
         };
-        passed = rw old-row (lowest-bad-octet inSeconds (parametersIn old) Passed .1 (good-parameters-back long (lowest-bad-octet inTenths (parametersIn new) Passed .0 (rw new-row at (g .passed)))));
+        passed = rw old-row (lowest-bad-octet versionOne (parametersIn old) Passed .1 (good-parameters-back long (lowest-bad-octet versionTwo (parametersIn new) Passed .0 (rw new-row at (g .passed)))));
       }
 
   same-inputs : readInputs (cueAt new) new (inputCount new) 0 0 (endTime new) ≡ readInputs (cueAt old) old (inputCount old) 0 0 (endTime old)
@@ -475,3 +476,41 @@ module _ (old new : List ℕ) (same : SameShow old new) where
         records = rw (p .records);
         answers = rw (p .answers);
       })
+
+-- ---- there are such shows
+
+-- OnDelay 0, OffDelay 0, TimedOn 60 seconds, Prewarning 10 seconds, modes 0, no scenes; any inputs, however many the header counts
+abbrev modesAndInputs : List ℕ → List ℕ
+modesAndInputs inputs =
+    0 ∷ 0 ∷ 0 ∷ 0 ∷ 0 ∷ 0 ∷ 0 ∷ 0 ∷ 255 ∷ 0 ∷ 255 ∷ 0 ∷ 255 ∷ 0 ∷ 255 ∷ 0 ∷ 255 ∷ 0 ∷ 255 ∷ 0 ∷ 255 ∷ 0 ∷ 255 ∷ 0 ∷ inputs
+
+abbrev startOfOne : ℕ → List ℕ
+startOfOne n =
+    0 ∷ 1 ∷ 0 ∷ 1 ∷ 0 ∷ 0 ∷ 0 ∷ 20 ∷ 0 ∷ 0 ∷ 0 ∷ n ∷ 0 ∷ 0 ∷ 0 ∷ 52 ∷ 0 ∷ 0 ∷ 3 ∷ 232 ∷ 0 ∷ 0 ∷ 0 ∷ 0 ∷ 0 ∷ 60 ∷ 0 ∷ 10 ∷ []
+
+abbrev startOfTwo : ℕ → List ℕ
+startOfTwo n =
+    0 ∷ 2 ∷ 0 ∷ 1 ∷ 0 ∷ 0 ∷ 0 ∷ 20 ∷ 0 ∷ 0 ∷ 0 ∷ n ∷ 0 ∷ 0 ∷ 0 ∷ 60 ∷ 0 ∷ 0 ∷ 3 ∷ 232 ∷ 0 ∷ 0 ∷ 0 ∷ 0 ∷ 0 ∷ 0 ∷ 0 ∷ 0 ∷ 0 ∷ 0 ∷ 2 ∷ 88 ∷ 0 ∷ 0 ∷ 0 ∷ 100 ∷ []
+
+pub two-versions-used : (n : ℕ) (inputs : List ℕ) → SameShow (startOfOne n ++ modesAndInputs inputs) (startOfTwo n ++ modesAndInputs inputs)
+unfolding parametersIn formIn formOf delay timeAt
+two-versions-used n inputs =
+    record {
+      first = refl;
+      second = refl;
+      actuators = refl;
+      parameters = refl;
+      count = refl;
+      inputs = refl;
+      end = refl;
+      size = omega arith;
+      times = times;
+      rest = λ j. getD-append-add (startOfTwo n) (modesAndInputs inputs) j 0 ∙ sym (getD-append-add (startOfOne n) (modesAndInputs inputs) j 0);
+    }
+  where
+    times : (m : ℕ) → m < 4 → delay versionTwo (parametersIn (startOfTwo n ++ modesAndInputs inputs)) m ≡ delay versionOne (parametersIn (startOfOne n ++ modesAndInputs inputs)) m
+    times zero within = refl
+    times (suc zero) within = refl
+    times (suc (suc zero)) within = refl
+    times (suc (suc (suc zero))) within = refl
+    times (suc (suc (suc (suc m)))) within = absurd (omega arith)

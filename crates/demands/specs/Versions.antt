@@ -7,7 +7,7 @@ use lib.ListN.{length}
 use Rattle.octets.specs.BigEndian.{octet}
 use Rattle.rules.specs.declared.parameters.Params.{Params}
 use Rattle.rules.specs.declared.state.State.{State}
-use Rattle.rules.specs.Forms.{inSeconds, inTenths, version}
+use Rattle.rules.specs.Forms.{versionOne, versionTwo, version}
 use Rattle.rules.specs.Parameters.{delay}
 use Rattle.rules.specs.Lists.{Played}
 use Rattle.rules.specs.Files.{actuators, parametersOffset, inputCount, inputsOffset, endTime, parametersIn}
@@ -42,7 +42,7 @@ pub record SameShow (old new : List ℕ) : Type 0 where
   pub inputs : inputsOffset new ≡ inputsOffset old + 8
   pub end : endTime new ≡ endTime old
   pub size : length new ≡ length old + 8
-  pub times : (n : ℕ) → n < 4 → delay inTenths (parametersIn new) n ≡ delay inSeconds (parametersIn old) n
+  pub times : (n : ℕ) → n < 4 → delay versionTwo (parametersIn new) n ≡ delay versionOne (parametersIn old) n
   -- modes and scenes, from octet 28 of the one and 36 of the other; then the inputs
   pub rest : (j : ℕ) → octet new (36 + j) ≡ octet old (28 + j)
 

@@ -4,7 +4,7 @@ ghost use mathlib.Core.Path.{_≡_};
 ghost use Prim.Native.Nat.{_+_, _*_, _≤_, _<_};
 ghost use lib.ListN.{length};
 ghost use Rattle.rules.specs.Forms.{width, formOf, isVersion, formIn};
-ghost use Rattle.rules.specs.Layout.{timePlace, modesAt, scenesAt, scenePlace, flagsPlace, parametersSize, formAlone, inputsAt, inputSize};
+ghost use Rattle.rules.specs.Layout.{timePlace, modesAt, scenesAt, scenePlace, flagsPlace, parametersSize, formAlone, inputsAt, placeBy};
 ghost use Rattle.rules.specs.Files.{parametersIn};
 use rules::form::Form;
 use rules::form::Scale;
@@ -47,8 +47,9 @@ pub fn is_version(version: u32) -> bool
 pub fn form_alone(octets: &[u8]) -> Form
     ensures { λ r. ⌜ r ≡ formAlone (now (octets .entry)) ⌝ }
 {
-    if octets.len() == 40 {
-        form_of(2)
+    let longer = form_of(2);
+    if octets.len() == parameters_size(longer) {
+        longer
     } else {
         form_of(1)
     }
@@ -132,7 +133,7 @@ pub fn parameters_in(file: &[u8], form: Form) -> &[u8]
 
 // Where input i stands; for the count of all inputs, where the file ends.
 pub fn input_place(form: Form, i: u32) -> usize
-    ensures { λ r. ⌜ r ≡ inputsAt form + inputSize * i ⌝ }
+    ensures { λ r. ⌜ r ≡ placeBy form i ⌝ }
 {
     inputs_at(form) + INPUT_SIZE * (i as usize)
 }

@@ -1,6 +1,6 @@
 // Which octets of the parameters are out of range. Their length is tested before: every slice here is as long as the parameters.
 ghost use mathlib.Core.Path.{_≡_};
-ghost use Prim.Native.Nat.{_-_, _≤_, _<_};
+ghost use Prim.Native.Nat.{_≤_, _<_};
 ghost use mathlib.Core.Bool.{false, cond};
 ghost use lib.Dec.{leb};
 ghost use lib.ListN.{length, getD};

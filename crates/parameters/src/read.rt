@@ -1,6 +1,6 @@
 // The parameters and the scene table: whether octets are accepted as such, and what they say.
 ghost use mathlib.Core.Path.{_≡_};
-ghost use Prim.Native.Nat.{_+_, _≤_, _<_};
+ghost use Prim.Native.Nat.{_<_};
 ghost use lib.ListN.{length};
 ghost use Rattle.rules.specs.Layout.{parametersSize, scenePlace};
 ghost use Rattle.rules.specs.Parameters.{delay, paramsOf, sceneAt, scenesOf, checkParameters};

@@ -1,10 +1,10 @@
 -- The start and the end of a run: what is read of a file without fault, and the whole that the start record, the items and the move to the
 -- end time come to.
-use Prim.Native.Nat.{ℕ, _+_, _*_, _≤_, _<_}
+use Prim.Native.Nat.{ℕ, _+_, _*_, _≤_}
 use mathlib.Core.List.{List, [], _∷_, _++_, append-nil}
 use mathlib.Core.Path.{_≡_, refl, sym, ap, _∙_}
 use native.Mathlib.Omega.{arith}
-use lib.ListN.{length, getD, take, length-append}
+use lib.ListN.{length, take, length-append}
 use Rattle.octets.specs.Splice.{splice}
 use Rattle.rules.specs.declared.form.Form.{Form}
 use Rattle.rules.specs.declared.state.State.{State}

@@ -95,7 +95,8 @@ unfoldable pub singleMeant : State → ℕ → Decoded → Single
 singleMeant s stamp Wrong = singleRefused s BadInput
 singleMeant s stamp (Meant i) = cond (stampInRange (s .clock) stamp) (singleDone (step s i stamp)) (singleRefused s BadStamp)
 
--- "For a single input 9, 6, 7, place 0."
+-- "For a single input 9, 6, 7, place 0."; 02, [2]: "A state keeps its version .., and single inputs follow it" (proofs/Refusals/Calls.antt,
+-- `single-call-keeps-version`; the eight octets are the same in either)
 unfoldable pub singleCall : State → List ℕ → Single
 singleCall s octets = cond (sound s) (singleMeant s (stampAt octets 0) (inputAt octets 0)) (singleRefused s UnsoundState)
 

@@ -1,6 +1,7 @@
--- What the definitions test or compute, said a second time as facts: ranges, the scene table, which octet is out of range, a sound state, the
--- status octets, the inputs of the promises. That both say the same is proved (proofs/Laws/Deadlines.antt, Scenes.antt, BadOctets.antt,
--- Facts.antt, Status.antt, proofs/Promises/Inputs.antt), so that a slip in one of them does not pass.
+-- What the definitions test or compute, said a second time as facts: the rows of the versions, ranges, the scene table, which octet is out of
+-- range, a sound state, the status octets, the inputs of the promises. That both say the same is proved (proofs/Laws/Forms.antt,
+-- Deadlines.antt, Scenes.antt, BadOctets.antt, Facts.antt, Status.antt, proofs/Promises/Inputs.antt), so that a slip in one of them does not
+-- pass.
 use Prim.Native.Nat.{ℕ, _+_, _*_, _/_, _%_, _≤_, _<_}
 use mathlib.Core.Bool.{Bool, true, false}
 use mathlib.Core.Path.{_≡_}
@@ -21,7 +22,7 @@ use Rattle.rules.specs.declared.input.Input.the-variants.{SwitchOnOff, T
 use Rattle.rules.specs.declared.state.Link.the-variants.{Up, BusDown, PowerDown}
 use Rattle.rules.specs.declared.state.State.{State}
 use Rattle.rules.specs.Inputs.{kind}
-use Rattle.rules.specs.Forms.{width, formOf}
+use Rattle.rules.specs.Forms.{width, formOf, HasVersion, version, formIn}
 use Rattle.rules.specs.Layout.{timePlace, modesAt, scenesAt, parametersSize, inputsAt, formAlone}
 use Rattle.rules.specs.Parameters.{delay, badOctet}
 use Rattle.rules.specs.Said.{Held}
@@ -31,10 +32,6 @@ use Rattle.rules.specs.Status.{value, staircase, attributes}
 use Rattle.rules.specs.Calls.{unused}
 
 -- ---- ranges (01, "Time and the cue file")
-
--- "0-1 version (1)"; 02, [2]: "2 now means neither version"
-abbrev pub HasVersion : ℕ → Type 0
-HasVersion version = (version ≡ 1) ⊎ (version ≡ 2)
 
 -- a row in numbers: the version, where the four times, the modes and the scenes stand in the parameters, how many octets these are, and
 -- where the inputs stand in a file
@@ -59,6 +56,7 @@ inNumbers f =
 pub record FormsInNumbers : Type 0 where
   pub first : inNumbers (formOf 1) ≡ record { version = 1; ondelay = 0; offdelay = 2; timedon = 4; prewarning = 6; modes = 8; scenes = 16; size = 32; inputs = 52 }
   pub second : inNumbers (formOf 2) ≡ record { version = 2; ondelay = 0; offdelay = 4; timedon = 8; prewarning = 12; modes = 16; scenes = 24; size = 40; inputs = 60 }
+  pub of-a-file : (file : List ℕ) → formIn file ≡ formOf (version file)
   pub told-first : (octets : List ℕ) → length octets ≡ 32 → formAlone octets ≡ formOf 1
   pub told-second : (octets : List ℕ) → length octets ≡ 40 → formAlone octets ≡ formOf 2
   pub told-by-no-other : (octets : List ℕ) → length octets ≡ parametersSize (formAlone octets) → (length octets ≡ 32) ⊎ (length octets ≡ 40)
@@ -68,7 +66,7 @@ pub record Delay (version t : ℕ) : Type 0 where
   pub limit : t ≤ 655_350
   pub seconds : version ≡ 1 → (s : ℕ) × (t ≡ 10 * s)
 
--- "TimedOnDuration, 1 or more"; "8 BehaviourAtLocking (0 keep, 1 off, 2 on); 9 BehaviourAtUnlocking (0 to 2 alike, 3 as before
+-- 02, [2]: "A state keeps its version"; "TimedOnDuration, 1 or more"; "8 BehaviourAtLocking (0 keep, 1 off, 2 on); 9 BehaviourAtUnlocking (0 to 2 alike, 3 as before
 -- locking); 10 BusFailureMode, 11 BusReturnMode (0 keep, 1 off, 2 on); 12 PowerReturnMode (0 as before the failure, 1 off, 2 on)"
 pub record ParamsFit (p : Params) : Type 0 where
   pub version : HasVersion (p .version)

@@ -1,4 +1,4 @@
--- The cue file (01, "Time and the cue file"), and what it is refused for (01, "Refusal numbers").
+-- The cue file (01, "Time and the cue file"; 02, [2]), and what it is refused for (01, "Refusal numbers").
 use Prim.Native.Nat.{ℕ}
 use mathlib.Core.Bool.{Bool, cond, _&&_}
 use mathlib.Core.List.{List}

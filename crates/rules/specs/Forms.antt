@@ -3,6 +3,8 @@
 use Prim.Native.Nat.{ℕ}
 use mathlib.Core.Bool.{Bool, cond}
 use mathlib.Core.List.{List}
+use mathlib.Core.Logic.{_⊎_}
+use mathlib.Core.Path.{_≡_}
 use lib.Dec.{eqb}
 use Rattle.octets.specs.BigEndian.{be16}
 use Rattle.base.specs.Time.{tenths}
@@ -25,20 +27,24 @@ unit Tenths = 1
 -- ---- the rows
 
 -- 01: "0-1 version (1)"
-abbrev pub inSeconds : Form
-inSeconds = record { version = 1; scale = Seconds }
+abbrev pub versionOne : Form
+versionOne = record { version = 1; scale = Seconds }
 
 -- 02: "Version 2 files hold the four times as U32 tenths"
-abbrev pub inTenths : Form
-inTenths = record { version = 2; scale = Tenths }
+abbrev pub versionTwo : Form
+versionTwo = record { version = 2; scale = Tenths }
 
 -- the row of a version
 unfoldable pub formOf : ℕ → Form
-formOf version = cond (eqb version 2) inTenths inSeconds
+formOf v = cond (eqb v 2) versionTwo versionOne
 
 -- 02: "2 now means neither version": a version that has a row
 unfoldable pub isVersion : ℕ → Bool
-isVersion version = eqb (formOf version .version) version
+isVersion v = eqb (formOf v .version) v
+
+-- that is, one of these (proofs/Laws/Forms.antt, `has-version`)
+abbrev pub HasVersion : ℕ → Type 0
+HasVersion v = (v ≡ 1) ⊎ (v ≡ 2)
 
 -- ---- the row of a file: "Header, 20 octets of counts and offsets: 0-1 version"
 

@@ -8,7 +8,7 @@ use lib.ListN.{length}
 use lib.Dec.{eqb}
 use Rattle.octets.specs.Groups.{groupSize}
 use Rattle.rules.specs.declared.form.Form.{Form}
-use Rattle.rules.specs.Forms.{width, inSeconds, inTenths, formIn}
+use Rattle.rules.specs.Forms.{width, versionOne, versionTwo, formIn}
 
 -- "Header, 20 octets of counts and offsets"; "offset of parameters (20)"
 abbrev pub parametersAt : ℕ
@@ -42,7 +42,7 @@ parametersSize f = scenesAt f + 16
 
 -- the row of parameters that are offered alone: 02, "parameters alone are told by 32 or 40 octets"
 unfoldable pub formAlone : List ℕ → Form
-formAlone octets = cond (eqb (length octets) (parametersSize inTenths)) inTenths inSeconds
+formAlone octets = cond (eqb (length octets) (parametersSize versionTwo)) versionTwo versionOne
 
 -- ---- the inputs
 
@@ -52,7 +52,7 @@ inputsAt f = parametersAt + parametersSize f
 
 -- "Refusal numbers": "file under 52 octets"; 02: "version is tested on files of at least 52 octets"
 abbrev pub leastFile : ℕ
-leastFile = inputsAt inSeconds
+leastFile = inputsAt versionOne
 
 -- "Input, 8 octets"
 abbrev pub inputSize : ℕ
@@ -62,9 +62,12 @@ inputSize = groupSize
 abbrev pub mostInputs : ℕ
 mostInputs = 2048
 
--- where input i of a file stands, and so, for the count of all inputs, where the file ends: "The file is exactly 52+8n octets."
+-- where input i stands, and so, for the count of all inputs, where the file ends: "The file is exactly 52+8n octets."
+abbrev pub placeBy : Form → ℕ → ℕ
+placeBy f i = inputsAt f + inputSize * i
+
 abbrev pub inputPlace : List ℕ → ℕ → ℕ
-inputPlace file i = inputsAt (formIn file) + inputSize * i
+inputPlace file i = placeBy (formIn file) i
 
 -- ---- the records
 

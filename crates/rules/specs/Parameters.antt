@@ -1,4 +1,4 @@
--- The parameters (01, "Time and the cue file"): what their octets say, which of them are in range, and what they are refused for.
+-- The parameters (01, "Time and the cue file"; 02, [2]): what their octets say, which of them are in range, and what they are refused for.
 use Prim.Native.Nat.{ℕ, zero, suc, _+_, _-_, _/_, _%_}
 use mathlib.Core.Bool.{Bool, false, cond, not, _&&_, _||_}
 use mathlib.Core.List.{List, [], _∷_}
@@ -133,11 +133,13 @@ timesInRange scale p =
     (timeInRange scale (p .timedon) && timeInRange scale (p .prewarning)) &&
     leb (unit scale) (p .timedon)
 
+-- BehaviourAtLocking "0 keep, 1 off, 2 on", BehaviourAtUnlocking "0 to 2 alike, 3 as before locking", BusFailureMode, BusReturnMode, PowerReturnMode
 unfoldable pub modesInRange : Params → Bool
 modesInRange p =
     (leb (p .locking) 2 && leb (p .unlocking) 3) &&
     (leb (p .busfailure) 2 && leb (p .busreturn) 2) &&
     leb (p .powerreturn) 2
 
+-- 02, [2]: "A state keeps its version": no other version is in range, and the times are in range for this one
 unfoldable pub paramsInRange : Params → Bool
 paramsInRange p = isVersion (p .version) && timesInRange (formOf (p .version) .scale) p && modesInRange p

@@ -1,6 +1,7 @@
 -- Demand 3: "Nobody waits for ever, for any accepted list." The two promises, Dark and Light, in the customer's words, and what a
 -- reader of the records sees of them. They are proved in proofs/Promises/, and for every accepted cue file and as the records show
--- them in the crate demands (EveryFile, Shown).
+-- them in the crate demands (EveryFile, Shown). 02, [2]: "Timers and demand 3 are proved once, in tenths, over both": times are tenths here, whatever
+-- the version.
 use Prim.Native.Nat.{ℕ, _+_, _-_, _≤_, _<_}
 use mathlib.Core.Bool.{Bool, true, false, cond, not}
 use mathlib.Core.Path.{_≡_}

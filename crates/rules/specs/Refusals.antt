@@ -17,12 +17,11 @@ use Rattle.base.specs.declared.refusal.Refusal.the-variants.{WrongLength, Wrong
 use Rattle.base.specs.declared.refusal.Check.{Check}
 use Rattle.base.specs.declared.refusal.Check.the-variants.{Passed, Refused}
 use Rattle.base.specs.Refusals.{Only, Then, Codes, Timely, CallCodes}
-use Rattle.rules.specs.Forms.{version, formIn}
+use Rattle.rules.specs.Forms.{version, formIn, HasVersion}
 use Rattle.rules.specs.Layout.{parametersSize, formAlone, inputsAt, inputPlace}
 use Rattle.rules.specs.Parameters.{badOctet, checkParameters}
 use Rattle.rules.specs.Inputs.{inputAt}
 use Rattle.octets.specs.Groups.{stampAt}
-use Rattle.rules.specs.Facts.{HasVersion}
 use Rattle.rules.specs.Files.{actuators, parametersOffset, inputCount, inputsOffset, endTime, parametersIn, cueAt}
 use Rattle.rules.specs.Soundness.{sound}
 

@@ -1,4 +1,4 @@
--- How parameters, a header and an input are written (01, "Time and the cue file"): the other way round than Parameters.antt, Inputs.antt and
+-- How parameters, a header and an input are written (01, "Time and the cue file"; 02, [2]): the other way round than Parameters.antt, Inputs.antt and
 -- Files.antt read them. proofs/Laws/Written.antt proves that what is written so is accepted and read back as itself, and that accepted
 -- parameters and inputs are written in no other way.
 use Prim.Native.Nat.{ℕ, _+_, _/_, _≤_}
@@ -23,13 +23,14 @@ abbrev pub delayOctets : Scale → ℕ → List ℕ
 delayOctets Seconds t = octets16 (t / 10)
 delayOctets Tenths t = octets32 t
 
--- "0-1 OnDelay; 2-3 OffDelay; 4-5 TimedOnDuration, 1 or more; 6-7 PrewarningDuration; 8 BehaviourAtLocking ..; 9 BehaviourAtUnlocking ..;
--- 10 BusFailureMode, 11 BusReturnMode ..; 12 PowerReturnMode ..; 13 SceneLearningModeEnable (0, 1); 14-15 zero"
-abbrev pub modeOctets : Params → List ℕ
-modeOctets p = p .locking ∷ p .unlocking ∷ p .busfailure ∷ p .busreturn ∷ p .powerreturn ∷ cond (p .learning) 1 0 ∷ 0 ∷ 0 ∷ []
-
+-- "0-1 OnDelay; 2-3 OffDelay; 4-5 TimedOnDuration, 1 or more; 6-7 PrewarningDuration"; 02, [2]: "in parameter octets 0-15"
 abbrev pub timesOctets : Scale → Params → List ℕ
 timesOctets s p = delayOctets s (p .ondelay) ++ (delayOctets s (p .offdelay) ++ (delayOctets s (p .timedon) ++ delayOctets s (p .prewarning)))
+
+-- "8 BehaviourAtLocking ..; 9 BehaviourAtUnlocking ..; 10 BusFailureMode, 11 BusReturnMode ..; 12 PowerReturnMode ..; 13 SceneLearningModeEnable
+-- (0, 1); 14-15 zero"; 02, [2]: "the rest follows"
+abbrev pub modeOctets : Params → List ℕ
+modeOctets p = p .locking ∷ p .unlocking ∷ p .busfailure ∷ p .busreturn ∷ p .powerreturn ∷ cond (p .learning) 1 0 ∷ 0 ∷ 0 ∷ []
 
 -- "number (0 to 63, or 255 for unused) and flags (bit 0 value, bit 1 taught in, others zero)"
 abbrev pub flagsOctet : Scene → ℕ

@@ -1,6 +1,6 @@
 // The parameters of an actuator and its scene table, as read from the octets of either version.
 
-// The version of the file that they are in range for. The four times are in tenths of a second; the modes have the numbers of the file.
+// The version of the file that they are of, and by which they are judged. The four times are in tenths of a second; the modes have the numbers of the file.
 pub struct Params {
     pub version: u8,
     pub ondelay: u32,

@@ -1,4 +1,3 @@
-use native.Mathlib.Omega.{arith}
 use borrow.Author.Needs.{needs}
 use Rattle.layout.proofs.time_place.Statement.{statement}
 use Rattle.layout.proofs.time_place.Tie as tie

@@ -11,13 +11,13 @@ use Rattle.rules.specs.declared.parameters.Params.{Params}
 use Rattle.rules.specs.declared.phase.Phase.{Phase}
 use Rattle.rules.specs.declared.phase.Phase.the-variants.{Dark, Lit, Starting, Timed, Warning, Ending}
 use Rattle.rules.specs.declared.phase.Deadline.the-variants.{At}
-use Rattle.base.specs.Time.{tenths, longestDelay}
-use Rattle.rules.specs.Forms.{unit, formOf}
+use Rattle.base.specs.Time.{longestDelay}
+use Rattle.rules.specs.Forms.{unit, formOf, HasVersion}
 use Rattle.rules.specs.Parameters.{timeInRange, timesInRange, modesInRange, paramsInRange}
 use Rattle.rules.specs.Phases.{deadline}
 use Rattle.rules.specs.Answers.{due}
 use Rattle.rules.specs.Soundness.{soon}
-use Rattle.rules.specs.Facts.{HasVersion, Delay, ParamsFit}
+use Rattle.rules.specs.Facts.{Delay, ParamsFit}
 use Rattle.base.proofs.Tests.{no, both, cond-case}
 use Rattle.rules.proofs.Laws.Forms.{has-version}
 

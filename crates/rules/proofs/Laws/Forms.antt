@@ -11,15 +11,15 @@ use borrow.Author.Tests.{eqb-true}
 use Rattle.rules.specs.declared.form.Scale.{Scale}
 use Rattle.rules.specs.declared.form.Scale.the-variants.{Seconds, Tenths}
 use Rattle.rules.specs.declared.form.Form.{Form}
-use Rattle.rules.specs.Forms.{width, inSeconds, inTenths, formOf, isVersion, version, formIn}
+use Rattle.rules.specs.Forms.{width, versionOne, versionTwo, formOf, isVersion, version, formIn, HasVersion}
 use Rattle.rules.specs.Layout.{parametersSize, formAlone}
-use Rattle.rules.specs.Facts.{HasVersion, FormsInNumbers}
+use Rattle.rules.specs.Facts.{FormsInNumbers}
 use Rattle.base.proofs.Tests.{cond-case, either-way}
 
 -- what holds of every row holds of the one that a version has
-pub of-every-form : (P : Form → Type 0) → P inSeconds → P inTenths → (v : ℕ) → P (formOf v)
+pub of-every-form : (P : Form → Type 0) → P versionOne → P versionTwo → (v : ℕ) → P (formOf v)
 unfolding formOf
-of-every-form P first second v = cond-case P (eqb v 2) inTenths inSeconds (λ e. second) (λ e. first)
+of-every-form P first second v = cond-case P (eqb v 2) versionTwo versionOne (λ e. second) (λ e. first)
 
 -- a time takes two to four octets
 pub few-octets : (s : Scale) → (2 ≤ width s) × (width s ≤ 4)
@@ -30,7 +30,7 @@ few-octets Tenths = (omega arith, omega arith)
 pub has-version : (v : ℕ) → (isVersion v ≡ true) ↔ HasVersion v
 unfolding isVersion formOf
 has-version v = (
-  λ h. cond-case (λ (f : Form). eqb (f .version) v ≡ true → HasVersion v) (eqb v 2) inTenths inSeconds
+  λ h. cond-case (λ (f : Form). eqb (f .version) v ≡ true → HasVersion v) (eqb v 2) versionTwo versionOne
       (λ two e. inr (eqb-true v 2 two))
       (λ other e. inl (sym (eqb-true 1 v e)))
       h,
@@ -61,7 +61,7 @@ file-row file = version-row (version file)
 
 pub alone-row : (octets : List ℕ) → IsRow (formAlone octets)
 unfolding formAlone formOf
-alone-row octets = either-way IsRow (eqb (length octets) 40) inTenths inSeconds refl refl
+alone-row octets = either-way IsRow (eqb (length octets) 40) versionTwo versionOne refl refl
 
 -- the octets of parameters tell their row
 pub told-by-size : (v : ℕ) (octets : List ℕ) → length octets ≡ parametersSize (formOf v) → formAlone octets ≡ formOf v
@@ -73,15 +73,16 @@ told-by-size v octets =
     v
 
 pub forms-in-numbers : FormsInNumbers
-unfolding formOf formAlone
+unfolding formOf formIn formAlone
 forms-in-numbers =
     record {
       first = refl;
       second = refl;
+      of-a-file = λ file. refl;
       told-first = λ octets size. rw size;
       told-second = λ octets size. rw size;
       told-by-no-other = λ octets. cond-case (λ (f : Form). length octets ≡ parametersSize f → (length octets ≡ 32) ⊎ (length octets ≡ 40))
-          (eqb (length octets) 40) inTenths inSeconds
+          (eqb (length octets) 40) versionTwo versionOne
           (λ e size. inr size)
           (λ e size. inl size);
     }

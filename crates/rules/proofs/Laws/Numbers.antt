@@ -31,7 +31,7 @@ unfolding recordOctets blank octets32
 a-blank-record-is-eight-zeros = refl
 
 -- "a refusal's state is the fresh one with TimedOn 1 second, other times and modes 0, no scenes": as the 32 octets of its parameters
-pub the-least-parameters-in-octets : parametersOctets (formOf 1) leastParams noScenes ≡
+pub the-least-parameters-in-octets : parametersOctets (formOf (leastParams .version)) leastParams noScenes ≡
     0 ∷ 0 ∷ 0 ∷ 0 ∷ 0 ∷ 1 ∷ 0 ∷ 0 ∷ 0 ∷ 0 ∷ 0 ∷ 0 ∷ 0 ∷ 0 ∷ 0 ∷ 0 ∷ 255 ∷ 0 ∷ 255 ∷ 0 ∷ 255 ∷ 0 ∷ 255 ∷ 0 ∷ 255 ∷ 0 ∷ 255 ∷ 0 ∷ 255 ∷ 0 ∷ 255 ∷ 0 ∷ []
 unfolding leastParams noScenes unused formOf
 the-least-parameters-in-octets = refl

@@ -17,13 +17,13 @@ use Rattle.rules.specs.declared.form.Form.{Form}
 use Rattle.rules.specs.declared.parameters.Params.{Params}
 use Rattle.rules.specs.declared.parameters.Scene.{Scene}
 use Rattle.base.specs.declared.refusal.Check.the-variants.{Passed}
-use Rattle.rules.specs.Forms.{width, formOf, version}
+use Rattle.rules.specs.Forms.{width, formOf, version, HasVersion}
 use Rattle.rules.specs.Layout.{modesAt, scenesAt, scenePlace, flagsPlace, parametersSize}
 use Rattle.rules.specs.Parameters.{timeAt, delay, badTime, paramsOf, sceneAt, scenesOf, greatest, numberAbove, badNumber, badFlags, badOctet, checkParameters}
 use Rattle.octets.specs.Groups.{stampAt}
 use Rattle.rules.specs.Files.{actuators, parametersOffset, inputCount, inputsOffset, endTime}
 use Rattle.rules.specs.Written.{delayOctets, timesOctets, modeOctets, flagsOctet, scenesOctets, parametersOctets, headerOctets}
-use Rattle.rules.specs.Facts.{HasVersion, Delay, ParamsFit, entry, ScenesFit}
+use Rattle.rules.specs.Facts.{Delay, ParamsFit, entry, ScenesFit}
 use Rattle.rules.specs.Refusals.{GoodParameters}
 use Rattle.rules.specs.Calls.{unused}
 use Rattle.octets.proofs.BothWays.{what-is-written-is-read-16, what-is-written-is-read}

@@ -502,7 +502,7 @@ module _ (t u end : ℕ) (i : Input) (later : List Cue) (s : State) (past : t �
       no-later t u end past inside (isTimed i) d (omega arith) later (step s i t .state) met t r (rw (step-params s i t) some) (rw (step-clock s i t) (omega arith)) (rw (step-clock s i t) past)
       (rw (step-params s i t) within) (λ so. unless (timed-lights met i lit so)) (inl found) (rw (at-by-way-of u t end later s past (next-is-later t later end r)) without)
 
--- TimedOn is 1 second or more in accepted parameters.
+-- TimedOn is not 0 in accepted parameters.
 pub a-repeated-on-is-never-later : (p : Params) (scenes : List Scene) (list : List Cue) (end : ℕ) → Rises 0 list end → 1 ≤ p .timedon → OnIsNeverLater p scenes list end
 unfolding fresh
 a-repeated-on-is-never-later p scenes list end rises some before t i later e way lit u past inside unless without =

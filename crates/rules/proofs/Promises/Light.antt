@@ -255,7 +255,7 @@ module _ (p : Params) (a : ℕ) (i : Input) (later : List Cue) (end : ℕ) where
       let early = rises-to a i later end before u (r .1) in
       reached before (step s j u .state) u (r .1) (step-params s j u ∙ e) (step-over s j u (a + longestLight p) over (λ way prolongs. rw e (omega arith)))
 
--- TimedOn is 1 second or more in accepted parameters.
+-- TimedOn is not 0 in accepted parameters.
 pub strong-light : (p : Params) (scenes : List Scene) (cues : List Cue) (end : ℕ) → Rises 0 cues end → 1 ≤ p .timedon → StrongLightPromise p scenes cues end
 unfolding fresh
 strong-light p scenes cues end rises some before a i later whole due =

@@ -26,7 +26,7 @@ use Rattle.rules.specs.Calls.{freshBy, freshCall, places, singleDone, si
 use Rattle.rules.specs.Refusals.{FoundWhen, FreshCodes, SingleCodes, MoveCodes}
 use Rattle.base.proofs.Tests.{no}
 use Rattle.base.proofs.Codes.{codes-of-a-check, timely-exactly-when, call-codes}
-use Rattle.rules.proofs.Laws.Soundness.{own-state-is-sound, move-is-sound, step-is-sound}
+use Rattle.rules.proofs.Laws.Soundness.{own-state-is-sound, move-is-sound, move-params, step-is-sound, step-params}
 use Rattle.rules.proofs.Laws.Inputs.{not-meant, input-number}
 use Rattle.rules.proofs.Laws.Forms.{alone-row}
 use Rattle.rules.proofs.Laws.Parameters.{lowest-bad-octet, passed-is-sound}
@@ -191,6 +191,24 @@ unfolding freshCall freshBy checkAlone
 fresh-refused-exactly-when octets =
     let f : Form = formAlone octets in
     codes-of-a-check {Given = λ why p. FoundWhen f octets (Refused why p)} (checkParameters f octets) (record { refused = λ why p. lowest-bad-octet f octets (Refused why p); passed = lowest-bad-octet f octets Passed })
+
+-- 02, [2]: "A state keeps its version .., and single inputs follow it": no call changes the parameters, and so the version, accepted or refused
+pub single-call-keeps-version : (s : State) (octets : List ℕ) → singleCall s octets .state .params ≡ s .params
+single-call-keeps-version s octets = by (single-finds s octets)
+  where
+    by : {r : Single} → SingleFinds s octets r → r .state .params ≡ s .params
+    by (SingleFinds.not-sound h) = unfold singleRefused in refl
+    by (wrong h m) = unfold singleRefused in refl
+    by (SingleFinds.untimely i h m t) = unfold singleRefused in refl
+    by (plays i h m t) = unfold singleDone in step-params s i (stampAt octets 0)
+
+pub move-call-keeps-version : (s : State) (stamp : ℕ) → moveCall s stamp .state .params ≡ s .params
+move-call-keeps-version s stamp = by (move-finds s stamp)
+  where
+    by : {r : Move} → MoveFinds s stamp r → r .state .params ≡ s .params
+    by (MoveFinds.not-sound h) = unfold moveRefused in refl
+    by (MoveFinds.untimely h t) = unfold moveRefused in refl
+    by (moves h t) = unfold moveDone in move-params s stamp
 
 -- "place 0", accepted or refused
 pub single-place-is-zero : (s : State) (octets : List ℕ) → singleCall s octets .place ≡ 0

@@ -26,9 +26,8 @@ use Rattle.rules.specs.Lists.{Cue, cue}
 use Rattle.rules.specs.Parameters.{checkParameters}
 use Rattle.rules.specs.Layout.{parametersSize, formAlone, inputsAt, inputPlace}
 use Rattle.rules.specs.Readings.{cues, bad, verdict, found, readInputs}
-use Rattle.rules.specs.Forms.{isVersion, version, formIn}
+use Rattle.rules.specs.Forms.{isVersion, version, formIn, HasVersion}
 use Rattle.rules.specs.Files.{actuators, parametersOffset, inputCount, inputsOffset, endTime, parametersIn, layoutRight, checkRest, checkStart, stamped, cueAt, readFile}
-use Rattle.rules.specs.Facts.{HasVersion}
 use Rattle.rules.specs.Refusals.{LongEnough, FoundWhen, GoodLayout, GoodHeader, GoodStart, StartWhen, GivenWhen, GoodFile}
 use Rattle.base.proofs.Tests.{no, both, cond-case, either-way}
 use Rattle.base.proofs.Codes.{then-decides}

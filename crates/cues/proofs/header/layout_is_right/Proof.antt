@@ -1,5 +1,4 @@
 use mathlib.Core.Path.{_∙_, ap}
-use Rattle.rules.specs.declared.form.Form.{Form}
 use Rattle.rules.specs.Layout.{inputsAt}
 use Rattle.rules.specs.Files.{layoutRight}
 use borrow.Author.Needs.{needs}
