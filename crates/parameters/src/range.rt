@@ -72,7 +72,7 @@ fn bad_flags(octets: &[u8], form: Form, entry: usize) -> bool
 
 // The refusal of the octet at a place.
 fn bad_at(at: usize) -> Check
-    requires { ⌜ at < 40 ⌝ }
+    requires { ⌜ at < 65536 ⌝ }
     ensures { λ r. ⌜ r ≡ Refused BadParameter at ⌝ }
 {
     Check::Refused {
