@@ -11,6 +11,7 @@ use layout::flags_place;
 use layout::modes_at;
 use layout::parameters_size;
 use layout::scene_place;
+use layout::time_place;
 use octets::read16;
 use octets::read32;
 use rules::form::Form;
@@ -37,10 +38,11 @@ pub(crate) fn delay_of(octets: &[u8], form: Form, n: usize) -> u32
     requires { ⌜ (length (now octets) ≡ parametersSize form) × (n < 4) ⌝ }
     ensures { λ r. ⌜ r ≡ delay form (now (octets .entry)) n ⌝ }
 {
+    let at = time_place(form, n);
     let scale = form.scale;
     match scale {
-        Scale::Seconds => 10 * read16(octets, 2 * n),
-        Scale::Tenths => read32(octets, 4 * n),
+        Scale::Seconds => 10 * read16(octets, at),
+        Scale::Tenths => read32(octets, at),
     }
 }
 
