@@ -13,6 +13,7 @@ pub mod EveryWall
 pub mod WallJoined
 pub mod WallShown
 pub mod WallMeets
+pub mod WallVersions
 pub mod PairMeets
 pub mod Computing
 pub mod WrongWalls

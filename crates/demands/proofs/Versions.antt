@@ -215,7 +215,7 @@ module _ (v : ℕ) where
   unfolding written sameStatus value attributes recordOf
   alike-written cause a b = refl
 
-  alike-move : (s : State) (t : ℕ) → (clockMove (like s) t .state ≡ like (clockMove s t .state)) × (clockMove (like s) t .records ≡ clockMove s t .records)
+  pub alike-move : (s : State) (t : ℕ) → (clockMove (like s) t .state ≡ like (clockMove s t .state)) × (clockMove (like s) t .records ≡ clockMove s t .records)
   unfolding clockMove ticked
   alike-move s t =
       let one = alike-tick s t in
@@ -224,17 +224,17 @@ module _ (v : ℕ) where
       (rw three, rw (three, two, one, alike-written byItself s (tick s t), alike-written byItself (tick s t) (tick (tick s t) t), alike-written byItself (tick (tick s t) t) (tick (tick (tick s t) t) t)))
 
   -- a step of one, and the same step of the other
-  abbrev StepsAlike : Stepped → Stepped → Type 0
+  abbrev pub StepsAlike : Stepped → Stepped → Type 0
   StepsAlike old new = (new .state ≡ like (old .state)) × (new .answer ≡ old .answer) × (new .records ≡ old .records)
 
-  alike-meet : (b : Barrier) (m n : Moved) (i : Input) → n .state ≡ like (m .state) → n .records ≡ m .records → StepsAlike (meet b m i) (meet b n i)
+  pub alike-meet : (b : Barrier) (m n : Moved) (i : Input) → n .state ≡ like (m .state) → n .records ≡ m .records → StepsAlike (meet b m i) (meet b n i)
   unfolding meet taken
   alike-meet (Stopped why) m n i state records = (state, refl, records)
   alike-meet Open m n i state records =
       let after : order (n .state) i ≡ like (order (m .state) i) = ap (λ (x : State). order x i) state ∙ alike-order (m .state) i in
       (after, rw (after, state) (unfold sameButClock sameFlags in refl), rw (after, state, records, alike-written (kind i) (m .state) (order (m .state) i)))
 
-  alike-step : (s : State) (i : Input) (t : ℕ) → StepsAlike (step s i t) (step (like s) i t)
+  pub alike-step : (s : State) (i : Input) (t : ℕ) → StepsAlike (step s i t) (step (like s) i t)
   unfolding step act
   alike-step s i t =
       let m = alike-move s t in
@@ -291,7 +291,7 @@ module _ (old new : List ℕ) (same : SameShow old new) where
   same-place : (i : ℕ) → (inputPlace old i ≡ 52 + 8 * i) × (inputPlace new i ≡ 60 + 8 * i)
   same-place i = (rw old-row (omega arith), rw new-row (omega arith))
 
-  same-octet : (i j : ℕ) → octet new (inputPlace new i + j) ≡ octet old (inputPlace old i + j)
+  pub same-octet : (i j : ℕ) → octet new (inputPlace new i + j) ≡ octet old (inputPlace old i + j)
   same-octet i j =
       let here : 60 + 8 * i + j ≡ 36 + (24 + 8 * i + j) = omega arith in
       let there : 52 + 8 * i + j ≡ 28 + (24 + 8 * i + j) = omega arith in
@@ -305,7 +305,7 @@ module _ (old new : List ℕ) (same : SameShow old new) where
       let b3 : b + 2 + 1 ≡ b + 3 = omega arith in
       rw (a3, b3, each 1, each 2, each 3, rw (a0, b0) at (each 0))
 
-  same-stamp : (i : ℕ) → stampAt new (inputPlace new i) ≡ stampAt old (inputPlace old i)
+  pub same-stamp : (i : ℕ) → stampAt new (inputPlace new i) ≡ stampAt old (inputPlace old i)
   unfolding stampAt
   same-stamp i = same-number (inputPlace new i) (inputPlace old i) (same-octet i)
 
@@ -327,7 +327,7 @@ module _ (old new : List ℕ) (same : SameShow old new) where
       let there : 20 + (8 + j) ≡ 28 + j = omega arith in
       parameters-stand-at-20 new (16 + j) (rw new-row (omega arith)) ∙ (rw (here, there) (same .rest j) ∙ sym (parameters-stand-at-20 old (8 + j) (rw old-row (omega arith))))
 
-  same-params : paramsIn new ≡ ofVersion 2 (paramsIn old)
+  pub same-params : paramsIn new ≡ ofVersion 2 (paramsIn old)
   unfolding paramsOf
   same-params =
       rw (old-row, new-row)
@@ -350,7 +350,7 @@ module _ (old new : List ℕ) (same : SameShow old new) where
   same-entries zero n end = refl
   same-entries (suc left) n end = rw (same-scene-number n (omega arith), same-scene-flags n (omega arith), same-entries left (n + 1) (omega arith))
 
-  same-scenes : scenesIn new ≡ scenesIn old
+  pub same-scenes : scenesIn new ≡ scenesIn old
   unfolding scenesOf entries
   same-scenes = rw (old-row, new-row) (same-entries 8 0 refl)
 
@@ -404,7 +404,7 @@ module _ (old new : List ℕ) (same : SameShow old new) where
             (λ n within. sym (same-flags n within) ∙ (sym (flags-octet versionTwo (parametersIn new) n) ∙ g .good (flagsPlace versionTwo n) (omega arith)));
       }
 
-  good-start-of-new : GoodStart old → GoodStart new
+  pub good-start-of-new : GoodStart old → GoodStart new
   good-start-of-new g =
       let layout = g .header .layout in
       let place : inputsOffset old ≡ 52 = rw old-row at (layout .inputs) in
@@ -425,7 +425,7 @@ module _ (old new : List ℕ) (same : SameShow old new) where
         passed = rw new-row (lowest-bad-octet versionTwo (parametersIn new) Passed .1 (good-parameters long (lowest-bad-octet versionOne (parametersIn old) Passed .0 (rw old-row at (g .passed)))));
       }
 
-  good-start-of-old : GoodStart new → GoodStart old
+  pub good-start-of-old : GoodStart new → GoodStart old
   good-start-of-old g =
       let layout = g .header .layout in
       let place : inputsOffset new ≡ 60 = rw new-row at (layout .inputs) in

@@ -12,6 +12,9 @@ use Rattle.rules.specs.Parameters.{delay}
 use Rattle.rules.specs.Lists.{Played}
 use Rattle.rules.specs.Files.{actuators, parametersOffset, inputCount, inputsOffset, endTime, parametersIn}
 use Rattle.rules.specs.Runs.{Whole}
+use Rattle.pairs.specs.Pairs.{Pair, pairOf}
+use Rattle.pairs.specs.Lists.{PairPlayed}
+use Rattle.pairs.specs.Walls.{WallWhole}
 
 -- ---- all but the version
 
@@ -28,6 +31,16 @@ pub record PlayedAlike (v : ℕ) (old new : Played) : Type 0 where
   pub state : new .state ≡ inVersion v (old .state)
   pub answers : new .answers ≡ old .answers
   pub records : new .records ≡ old .records
+
+-- the same of an actuator with a sensor beside it
+abbrev pub pairInVersion : ℕ → Pair → Pair
+pairInVersion v p = pairOf (inVersion v (p .actuator)) (p .sensor)
+
+pub record PairPlayedAlike (v : ℕ) (old new : PairPlayed) : Type 0 where
+  pub pair : new .pair ≡ pairInVersion v (old .pair)
+  pub answers : new .answers ≡ old .answers
+  pub records : new .records ≡ old .records
+  pub telegrams : new .telegrams ≡ old .telegrams
 
 -- ---- files
 
@@ -49,6 +62,15 @@ pub record SameShow (old new : List ℕ) : Type 0 where
 -- the same run but for the version of its state: code, place, record count, and both buffers
 pub record RanAlike (v : ℕ) (old new : Whole) : Type 0 where
   pub state : new .report .state ≡ inVersion v (old .report .state)
+  pub code : new .report .code ≡ old .report .code
+  pub place : new .report .place ≡ old .report .place
+  pub count : new .report .count ≡ old .report .count
+  pub records : new .records ≡ old .records
+  pub answers : new .answers ≡ old .answers
+
+pub record WallRanAlike (v : ℕ) (old new : WallWhole) : Type 0 where
+  pub state : new .report .state ≡ inVersion v (old .report .state)
+  pub sensor : new .report .sensor ≡ old .report .sensor
   pub code : new .report .code ≡ old .report .code
   pub place : new .report .place ≡ old .report .place
   pub count : new .report .count ≡ old .report .count
