@@ -7,6 +7,7 @@ pub mod Joined
 pub mod Unique
 pub mod Meets
 pub mod WrongModels
+pub mod Alike
 pub mod Versions
 -- with a sensor beside the actuator: for every accepted wall list, of any model, by value and over a list
 pub mod EveryWall

@@ -1,43 +1,16 @@
--- No rule looks at the version, so two versions of one show have one run: the same answers and records, and the same end state but for its version.
+-- Two versions of one show are accepted alike and have one run: the same answers and records, and the same end state but for its version.
 use Prim.Native.Nat.{ℕ, zero, suc, _+_, _-_, _*_, _≤_, _<_}
-use mathlib.Core.Bool.{Bool, true, false, cond, _||_}
+use mathlib.Core.Bool.{true}
+use mathlib.Core.Option.{Option}
 use mathlib.Core.List.{List, [], _∷_, _++_}
 use mathlib.Core.Logic.{_↔_, inl, inr}
-use mathlib.Core.Path.{_≡_, refl, sym, ap, _∙_}
+use mathlib.Core.Path.{_≡_, refl, sym, _∙_}
 use native.Mathlib.Omega.{arith}
 use lib.ListN.{length}
 use lib.Seq.{getD-append-add}
-use lib.Dec.{eqb, leb}
 use Rattle.octets.specs.BigEndian.{octet, be32}
-use Rattle.rules.specs.declared.parameters.Params.{Params}
-use Rattle.rules.specs.declared.parameters.Scene.{Scene}
-use Rattle.rules.specs.declared.parameters.Recalled.{Recalled}
-use Rattle.rules.specs.declared.parameters.Recalled.the-variants.{Nothing, Output}
-use Rattle.rules.specs.declared.phase.Phase.{Phase}
-use Rattle.rules.specs.declared.phase.Phase.the-variants.{Dark, Lit, Starting, Timed, Warning, Ending}
-use Rattle.rules.specs.declared.phase.Deadline.{Deadline}
-use Rattle.rules.specs.declared.phase.Deadline.the-variants.{Never, At}
-use Rattle.rules.specs.declared.input.Force.{Force}
-use Rattle.rules.specs.declared.input.Force.the-variants.{Free, Off, On}
-use Rattle.rules.specs.declared.input.Event.{Event}
-use Rattle.rules.specs.declared.input.Event.the-variants.{Failure, Return}
-use Rattle.rules.specs.declared.input.Input.{Input}
-use Rattle.rules.specs.declared.input.Input.the-variants.{SwitchOnOff, TimedStartStop, NumberedSceneControl, SwitchOnOffForced, LockDevice, NightMode, Bus, Power}
-use Rattle.rules.specs.declared.state.Link.{Link}
-use Rattle.rules.specs.declared.state.Link.the-variants.{Up, BusDown, PowerDown}
-use Rattle.rules.specs.declared.state.State.{State}
 use Rattle.base.specs.declared.refusal.Check.the-variants.{Passed}
-use Rattle.rules.specs.declared.barrier.Barrier.{Barrier}
-use Rattle.rules.specs.declared.barrier.Barrier.the-variants.{Open, Stopped}
-use Rattle.rules.specs.Phases.{output, deadline, litAt, atDeadline, setOn}
-use Rattle.rules.specs.Scenes.{recalled}
-use Rattle.rules.specs.Orders.{on, timedStart, offAfterDelay, off, timedStop, nightFalls, withPhase, withForce, held, standing, settle, switch, timed, recall, learn, scene, nightMode, forced, locked, unlockingOutput, unlocked, lockDevice, busMode, bus, powerFails, powerReturns, power, order}
-use Rattle.rules.specs.Barriers.{barrier}
-use Rattle.rules.specs.Inputs.{kind}
-use Rattle.rules.specs.Status.{value, attributes, recordOf, byItself, sameStatus, written}
-use Rattle.rules.specs.Answers.{sameFlags, sameButClock}
-use Rattle.rules.specs.Steps.{Moved, Stepped, fresh, tickAt, tick, ticked, clockMove, taken, meet, act, step}
-use Rattle.rules.specs.Lists.{Cue, cue, Played, andThen, moved, stepped, plays, playsTo, start, playList}
+use Rattle.rules.specs.Lists.{Cue}
 use Rattle.octets.specs.Groups.{stampAt}
 use Rattle.rules.specs.Inputs.{inputAt}
 use Rattle.rules.specs.Forms.{versionOne, versionTwo, formOf, version, formIn}
@@ -50,232 +23,8 @@ use Rattle.rules.specs.Runs.{playFile, accepted, runCall}
 use Rattle.rules.proofs.Refusals.Files.{parameters-stand-at-20, parameters-whole, good-start, good-file}
 use Rattle.rules.proofs.Refusals.Runs.{a-good-file-is-played}
 use Rattle.rules.proofs.Laws.Parameters.{lowest-bad-octet, good-time, mode-octet, number-octet, flags-octet, every-octet-good, entries}
-use Rattle.demands.specs.Versions.{ofVersion, inVersion, PlayedAlike, SameShow, RanAlike}
-
-module _ (v : ℕ) where
-  abbrev like : State → State
-  like s = inVersion v s
-
-  -- ---- the phases
-
-  alike-on : (p : Params) (night held : Bool) (t : ℕ) (ph : Phase) → on (ofVersion v p) night held t ph ≡ on p night held t ph
-  unfolding on setOn litAt
-  alike-on p night held t Dark = refl
-  alike-on p night held t Lit = refl
-  alike-on p night held t (Starting timed d) = refl
-  alike-on p night held t (Timed d) = refl
-  alike-on p night held t (Warning d) = refl
-  alike-on p night held t (Ending d) = refl
-
-  alike-start : (p : Params) (t : ℕ) (ph : Phase) → timedStart (ofVersion v p) t ph ≡ timedStart p t ph
-  unfolding timedStart
-  alike-start p t Dark = refl
-  alike-start p t Lit = refl
-  alike-start p t (Starting timed d) = refl
-  alike-start p t (Timed d) = refl
-  alike-start p t (Warning d) = refl
-  alike-start p t (Ending d) = refl
-
-  alike-delayed : (p : Params) (t : ℕ) (ph : Phase) → offAfterDelay (ofVersion v p) t ph ≡ offAfterDelay p t ph
-  unfolding offAfterDelay
-  alike-delayed p t Dark = refl
-  alike-delayed p t Lit = refl
-  alike-delayed p t (Starting timed d) = refl
-  alike-delayed p t (Timed d) = refl
-  alike-delayed p t (Warning d) = refl
-  alike-delayed p t (Ending d) = refl
-
-  alike-off : (p : Params) (t : ℕ) (ph : Phase) → off (ofVersion v p) t ph ≡ off p t ph
-  unfolding off
-  alike-off p t ph = rw (alike-delayed p t ph)
-
-  alike-stop : (p : Params) (t : ℕ) (ph : Phase) → timedStop (ofVersion v p) t ph ≡ timedStop p t ph
-  unfolding timedStop
-  alike-stop p t Dark = refl
-  alike-stop p t Lit = refl
-  alike-stop p t (Starting timed d) = rw (alike-off p t (Starting timed d))
-  alike-stop p t (Timed d) = alike-off p t (Timed d)
-  alike-stop p t (Warning d) = alike-off p t (Warning d)
-  alike-stop p t (Ending d) = refl
-
-  alike-nightfall : (p : Params) (t : ℕ) (ph : Phase) → nightFalls (ofVersion v p) t ph ≡ nightFalls p t ph
-  unfolding nightFalls
-  alike-nightfall p t Dark = refl
-  alike-nightfall p t Lit = refl
-  alike-nightfall p t (Starting timed d) = refl
-  alike-nightfall p t (Timed d) = refl
-  alike-nightfall p t (Warning d) = refl
-  alike-nightfall p t (Ending d) = refl
-
-  alike-deadline : (p : Params) (night : Bool) (ph : Phase) → atDeadline (ofVersion v p) night ph ≡ atDeadline p night ph
-  unfolding atDeadline litAt
-  alike-deadline p night Dark = refl
-  alike-deadline p night Lit = refl
-  alike-deadline p night (Starting timed d) = refl
-  alike-deadline p night (Timed d) = refl
-  alike-deadline p night (Warning d) = refl
-  alike-deadline p night (Ending d) = refl
-
-  -- ---- the orders
-
-  alike-either : (b : Bool) (x y : State) → cond b (like x) (like y) ≡ like (cond b x y)
-  alike-either true x y = refl
-  alike-either false x y = refl
-
-  alike-settled : (s : State) (b : Bool) → settle (like s) b ≡ like (settle s b)
-  unfolding settle setOn litAt held
-  alike-settled s true = refl
-  alike-settled s false = refl
-
-  alike-switch : (s : State) (b : Bool) → switch (like s) b ≡ like (switch s b)
-  unfolding switch held
-  alike-switch s true = ap (withPhase (like s)) (alike-on (s .params) (s .night) (s .lock || standing (s .force)) (s .clock) (s .phase))
-  alike-switch s false = ap (withPhase (like s)) (alike-off (s .params) (s .clock) (s .phase))
-
-  alike-timed : (s : State) (b : Bool) → timed (like s) b ≡ like (timed s b)
-  unfolding timed
-  alike-timed s true = ap (withPhase (like s)) (alike-start (s .params) (s .clock) (s .phase))
-  alike-timed s false = ap (withPhase (like s)) (alike-stop (s .params) (s .clock) (s .phase))
-
-  alike-recall : (s : State) (r : Recalled) → recall (like s) r ≡ like (recall s r)
-  unfolding recall
-  alike-recall s Nothing = refl
-  alike-recall s (Output value) = alike-switch s value
-
-  alike-scene : (s : State) (learns : Bool) (number : ℕ) → scene (like s) learns number ≡ like (scene s learns number)
-  unfolding scene learn
-  alike-scene s true number = alike-either (s .params .learning) _ s
-  alike-scene s false number = alike-recall s (recalled (s .scenes) number)
-
-  alike-night : (s : State) (b : Bool) → nightMode (like s) b ≡ like (nightMode s b)
-  unfolding nightMode
-  alike-night s true = rw (alike-nightfall (s .params) (s .clock) (s .phase)) (alike-either (s .night) s _)
-  alike-night s false = refl
-
-  alike-forced : (s : State) (f : Force) → forced (like s) f ≡ like (forced s f)
-  unfolding forced
-  alike-forced s Off = refl
-  alike-forced s On = refl
-  alike-forced s Free = rw (alike-settled (withForce s Free) (output (s .phase))) (alike-either (standing (s .force)) _ s)
-
-  alike-unlocked : (s : State) (f : Force) → unlocked (like s) f ≡ like (unlocked s f)
-  unfolding unlocked unlockingOutput
-  alike-unlocked s Off = refl
-  alike-unlocked s On = refl
-  alike-unlocked s Free = alike-settled _ _
-
-  alike-lock : (s : State) (b : Bool) → lockDevice (like s) b ≡ like (lockDevice s b)
-  unfolding lockDevice locked
-  alike-lock s true = alike-either (s .lock) s _
-  alike-lock s false = rw (alike-unlocked s (s .force)) (alike-either (s .lock) _ s)
-
-  alike-mode : (s : State) (mode : ℕ) → busMode (like s) mode ≡ like (busMode s mode)
-  unfolding busMode held
-  alike-mode s mode = rw (alike-settled s (eqb mode 2)) (alike-either (held s || eqb mode 0) s (settle s (eqb mode 2)))
-
-  alike-bus : (s : State) (l : Link) (e : Event) → bus (like s) l e ≡ like (bus s l e)
-  unfolding bus
-  alike-bus s Up Failure = alike-mode _ _
-  alike-bus s Up Return = refl
-  alike-bus s BusDown Failure = refl
-  alike-bus s BusDown Return = alike-mode _ _
-  alike-bus s PowerDown e = refl
-
-  alike-power : (s : State) (l : Link) (e : Event) → power (like s) l e ≡ like (power s l e)
-  unfolding power powerFails powerReturns
-  alike-power s Up Failure = refl
-  alike-power s Up Return = refl
-  alike-power s BusDown Failure = refl
-  alike-power s BusDown Return = refl
-  alike-power s PowerDown Failure = refl
-  alike-power s PowerDown Return = alike-settled _ _
-
-  alike-order : (s : State) (i : Input) → order (like s) i ≡ like (order s i)
-  unfolding order
-  alike-order s (SwitchOnOff value) = alike-switch s value
-  alike-order s (TimedStartStop value) = alike-timed s value
-  alike-order s (NumberedSceneControl learns number) = alike-scene s learns number
-  alike-order s (SwitchOnOffForced force) = alike-forced s force
-  alike-order s (LockDevice value) = alike-lock s value
-  alike-order s (NightMode value) = alike-night s value
-  alike-order s (Bus event) = alike-bus s (s .link) event
-  alike-order s (Power event) = alike-power s (s .link) event
-
-  -- ---- timers, records, steps
-
-  alike-tick : (s : State) (t : ℕ) → tick (like s) t ≡ like (tick s t)
-  unfolding tick tickAt
-  alike-tick s t = by (deadline (s .phase))
-    where
-      by : (d : Deadline) → tickAt (like s) t d ≡ like (tickAt s t d)
-      by Never = refl
-      by (At d) = rw (alike-deadline (s .params) (s .night) (s .phase)) (alike-either (leb d t) _ s)
-
-  alike-written : (cause : ℕ) (a b : State) → written cause (like a) (like b) ≡ written cause a b
-  unfolding written sameStatus value attributes recordOf
-  alike-written cause a b = refl
-
-  pub alike-move : (s : State) (t : ℕ) → (clockMove (like s) t .state ≡ like (clockMove s t .state)) × (clockMove (like s) t .records ≡ clockMove s t .records)
-  unfolding clockMove ticked
-  alike-move s t =
-      let one = alike-tick s t in
-      let two : tick (tick (like s) t) t ≡ like (tick (tick s t) t) = ap (λ (x : State). tick x t) one ∙ alike-tick (tick s t) t in
-      let three : tick (tick (tick (like s) t) t) t ≡ like (tick (tick (tick s t) t) t) = ap (λ (x : State). tick x t) two ∙ alike-tick (tick (tick s t) t) t in
-      (rw three, rw (three, two, one, alike-written byItself s (tick s t), alike-written byItself (tick s t) (tick (tick s t) t), alike-written byItself (tick (tick s t) t) (tick (tick (tick s t) t) t)))
-
-  -- a step of one, and the same step of the other
-  abbrev pub StepsAlike : Stepped → Stepped → Type 0
-  StepsAlike old new = (new .state ≡ like (old .state)) × (new .answer ≡ old .answer) × (new .records ≡ old .records)
-
-  pub alike-meet : (b : Barrier) (m n : Moved) (i : Input) → n .state ≡ like (m .state) → n .records ≡ m .records → StepsAlike (meet b m i) (meet b n i)
-  unfolding meet taken
-  alike-meet (Stopped why) m n i state records = (state, refl, records)
-  alike-meet Open m n i state records =
-      let after : order (n .state) i ≡ like (order (m .state) i) = ap (λ (x : State). order x i) state ∙ alike-order (m .state) i in
-      (after, rw (after, state) (unfold sameButClock sameFlags in refl), rw (after, state, records, alike-written (kind i) (m .state) (order (m .state) i)))
-
-  pub alike-step : (s : State) (i : Input) (t : ℕ) → StepsAlike (step s i t) (step (like s) i t)
-  unfolding step act
-  alike-step s i t =
-      let m = alike-move s t in
-      let same : barrier (clockMove (like s) t .state) i ≡ barrier (clockMove s t .state) i = rw (m .0) (unfold barrier in refl) in
-      rw same (alike-meet (barrier (clockMove s t .state) i) (clockMove s t) (clockMove (like s) t) i (m .0) (m .1))
-
-  -- ---- a list
-
-  alike-then : (old new : Played) (f g : State → Played) → PlayedAlike v old new → PlayedAlike v (f (old .state)) (g (like (old .state))) → PlayedAlike v (andThen old f) (andThen new g)
-  alike-then old new f g a b =
-      record {
-        state = rw (a .state) (b .state);
-        answers = rw (a .state, a .answers, b .answers);
-        records = rw (a .state, a .records, b .records);
-      }
-
-  alike-plays : (list : List Cue) (s : State) → PlayedAlike v (plays list s) (plays list (like s))
-  unfolding plays
-  alike-plays [] s = record { state = refl; answers = refl; records = refl }
-  alike-plays (cue t i ∷ later) s =
-      let d = alike-step s i t in
-      alike-then (stepped (step s i t)) (stepped (step (like s) i t)) (plays later) (plays later)
-      (record { state = d .0; answers = ap (λ (x : ℕ). x ∷ []) (d .1); records = d .2 })
-      (alike-plays later (step s i t .state))
-
-  alike-to-end : (end : ℕ) (list : List Cue) (s : State) → PlayedAlike v (playsTo end list s) (playsTo end list (like s))
-  unfolding playsTo
-  alike-to-end end list s =
-      let last = alike-move (plays list s .state) end in
-      alike-then (plays list s) (plays list (like s)) (λ x. moved (clockMove x end)) (λ x. moved (clockMove x end)) (alike-plays list s)
-      (record { state = last .0; answers = refl; records = last .1 })
-
-  -- no rule looks at the version
-  pub no-rule-looks-at-the-version : (p : Params) (k : List Scene) (list : List Cue) (end : ℕ) → PlayedAlike v (playList p k list end) (playList (ofVersion v p) k list end)
-  unfolding playList fresh
-  no-rule-looks-at-the-version p k list end =
-      alike-then (start p k) (start (ofVersion v p) k) (playsTo end list) (playsTo end list)
-      (record { state = refl; answers = refl; records = unfold recordOf value attributes in refl })
-      (alike-to-end end list (fresh p k))
-
--- ---- two files of one show
+use Rattle.demands.specs.Versions.{ofVersion, PlayedAlike, SameShow, RanAlike}
+use Rattle.demands.proofs.Alike.{no-rule-looks-at-the-version}
 
 module _ (old new : List ℕ) (same : SameShow old new) where
   old-row : formIn old ≡ versionOne
@@ -313,10 +62,14 @@ module _ (old new : List ℕ) (same : SameShow old new) where
   unfolding cueAt inputAt
   same-cue i = rw (same-stamp i, same-octet i 4, same-octet i 5, same-octet i 6, same-octet i 7)
 
-  same-reading : (left i last end : ℕ) → readInputs (cueAt new) new left i last end ≡ readInputs (cueAt old) old left i last end
+  -- whatever is read of an input: where each is the same, so is the whole reading
+  same-reading : {A : Type 0} (new-at old-at : ℕ → Option A) → ((i : ℕ) → new-at i ≡ old-at i) → (left i last end : ℕ) → readInputs new-at new left i last end ≡ readInputs old-at old left i last end
   unfolding readInputs
-  same-reading zero i last end = refl
-  same-reading (suc left) i last end = rw (same-cue i, same-stamp i, same-reading left (i + 1) (stampAt old (inputPlace old i)) end)
+  same-reading new-at old-at each zero i last end = refl
+  same-reading new-at old-at each (suc left) i last end = rw (each i, same-stamp i, same-reading new-at old-at each left (i + 1) (stampAt old (inputPlace old i)) end)
+
+  pub all-read-the-same : {A : Type 0} (new-at old-at : ℕ → Option A) → ((i : ℕ) → new-at i ≡ old-at i) → readInputs new-at new (inputCount new) 0 0 (endTime new) ≡ readInputs old-at old (inputCount old) 0 0 (endTime old)
+  all-read-the-same new-at old-at each = rw (same .count, same .end) (same-reading new-at old-at each (inputCount old) 0 0 (endTime old))
 
   -- ---- the parameters
 
@@ -447,7 +200,7 @@ module _ (old new : List ℕ) (same : SameShow old new) where
       }
 
   same-inputs : readInputs (cueAt new) new (inputCount new) 0 0 (endTime new) ≡ readInputs (cueAt old) old (inputCount old) 0 0 (endTime old)
-  same-inputs = rw (same .count, same .end) (same-reading (inputCount old) 0 0 (endTime old))
+  same-inputs = all-read-the-same (cueAt new) (cueAt old) same-cue
 
   -- a show is accepted in one version exactly when it is in the other, with the same cues
   pub accepted-alike : (list : List Cue) → (readFile old ≡ cues list) ↔ (readFile new ≡ cues list)

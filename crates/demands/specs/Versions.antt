@@ -1,5 +1,5 @@
 -- Two versions of one show (02, [2]): a file of version 1, and the file of version 2 that says the same, its times in tenths. What is claimed
--- of them is proved in proofs/Versions.antt.
+-- of them is proved in proofs/Alike.antt, proofs/Versions.antt and proofs/WallVersions.antt.
 use Prim.Native.Nat.{ℕ, _+_, _<_}
 use mathlib.Core.List.{List}
 use mathlib.Core.Path.{_≡_}

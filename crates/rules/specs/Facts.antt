@@ -139,7 +139,7 @@ abbrev pub TooGreat : Form → List ℕ → ℕ → ℕ → Type 0
 TooGreat f octets at limit = (badOctet f octets at ≡ true) ↔ (limit < octet octets at)
 
 -- which octet is out of range, and so the place of refusal 5: "lowest bad octet in 0-31 (TimedOn 0: 4; a repeated scene: the later
--- entry's number)"; 02, [2]: "5 use[s] the version's .. places (a bad time: its first octet ..)"
+-- entry's number)"; 02, [2]: "1, 4 and 5 use the version's sizes and places (a bad time: its first octet; ..)"
 pub record BadExactly (f : Form) (octets : List ℕ) : Type 0 where
   pub times : (n : ℕ) → n < 4 → (badOctet f octets (timePlace f n) ≡ true) ↔ BadTime f octets n
   pub within-times : (n k : ℕ) → n < 4 → 0 < k → k < width (f .scale) → badOctet f octets (timePlace f n + k) ≡ false
