@@ -7,7 +7,7 @@ use native.Mathlib.Omega.{arith}
 use lib.Dec.{eqb, leb}
 use borrow.Author.Tests.{leb-true, le-leb}
 use Rattle.base.specs.declared.refusal.Refusal.{Refusal}
-use Rattle.base.specs.declared.refusal.Refusal.the-variants.{WrongLength, WrongVersion, WrongActuators, WrongLayout, BadParameter, BadInput, BadStamp, ShortBuffer, UnsoundState, BadAction}
+use Rattle.base.specs.declared.refusal.Refusal.the-variants.{WrongLength, WrongVersion, WrongActuators, WrongLayout, BadParameter, BadInput, BadStamp, ShortBuffer, UnsoundState, BadAction, WrongGroups}
 use Rattle.base.specs.declared.refusal.Check.{Check}
 use Rattle.base.specs.declared.refusal.Check.the-variants.{Passed, Refused}
 use Rattle.base.specs.Refusals.{number, codeOf, placeOf, stampInRange, checkCall, orElse, Decides, Only, Then, Codes, Timely, CallWhen, CallCodes}
@@ -24,6 +24,7 @@ some-number BadStamp = omega arith
 some-number ShortBuffer = omega arith
 some-number UnsoundState = omega arith
 some-number BadAction = omega arith
+some-number WrongGroups = omega arith
 
 -- no two rows of the table have one number
 refusalOf : ℕ → Refusal
@@ -36,7 +37,8 @@ refusalOf n =
     (cond (eqb n 6) BadInput
     (cond (eqb n 7) BadStamp
     (cond (eqb n 8) ShortBuffer
-    (cond (eqb n 9) UnsoundState BadAction))))))))
+    (cond (eqb n 9) UnsoundState
+    (cond (eqb n 11) BadAction WrongGroups)))))))))
 
 number-back : (why : Refusal) → refusalOf (number why) ≡ why
 unfolding refusalOf
@@ -50,6 +52,7 @@ number-back BadStamp = refl
 number-back ShortBuffer = refl
 number-back UnsoundState = refl
 number-back BadAction = refl
+number-back WrongGroups = refl
 
 -- what a check finds is told by its code and its place
 code-tells : (c : Check) (why : Refusal) (p : ℕ) → codeOf c ≡ number why → placeOf c ≡ p → c ≡ Refused why p

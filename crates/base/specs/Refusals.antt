@@ -5,7 +5,7 @@ use mathlib.Core.Logic.{_↔_, _⊎_}
 use mathlib.Core.Path.{_≡_}
 use lib.Dec.{leb}
 use Rattle.base.specs.declared.refusal.Refusal.{Refusal}
-use Rattle.base.specs.declared.refusal.Refusal.the-variants.{WrongLength, WrongVersion, WrongActuators, WrongLayout, BadParameter, BadInput, BadStamp, ShortBuffer, UnsoundState, BadAction}
+use Rattle.base.specs.declared.refusal.Refusal.the-variants.{WrongLength, WrongVersion, WrongActuators, WrongLayout, BadParameter, BadInput, BadStamp, ShortBuffer, UnsoundState, BadAction, WrongGroups}
 use Rattle.base.specs.declared.refusal.Check.{Check}
 use Rattle.base.specs.declared.refusal.Check.the-variants.{Passed, Refused}
 use Rattle.base.specs.Time.{lastStamp}
@@ -23,6 +23,8 @@ number ShortBuffer = 8
 number UnsoundState = 9
 -- 02, [1]: "11, an action above 3, where 5 stands for the sensor's parameters"
 number BadAction = 11
+-- 02, [3]: "12 for more than 256 or a length not a multiple of 8"
+number WrongGroups = 12
 
 -- what a check finds, as a code and a place: "an accepted call has code 0, place 0", a refused one the number and the place of its row
 abbrev pub codeOf : Check → ℕ

@@ -14,6 +14,7 @@ pub enum Refusal {
     ShortBuffer,
     UnsoundState,
     BadAction,
+    WrongGroups,
 }
 
 // What a check finds: nothing wrong, or the first thing that is wrong and where.
@@ -37,5 +38,6 @@ pub fn number_of(why: Refusal) -> u8
         Refusal::ShortBuffer => 8,
         Refusal::UnsoundState => 9,
         Refusal::BadAction => 11,
+        Refusal::WrongGroups => 12,
     }
 }
