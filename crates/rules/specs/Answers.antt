@@ -46,6 +46,16 @@ due (Timed d) = d
 due (Warning d) = d
 due (Ending d) = d
 
+-- the phase of this number that ends then, if it ends by itself (proofs/Laws/Answers.antt, `phase-back`)
+unfoldable pub phaseOf : ℕ → ℕ → Phase
+phaseOf n d =
+    cond (eqb n 0) Dark
+    (cond (eqb n 1) Lit
+    (cond (eqb n 2) (Starting false d)
+    (cond (eqb n 3) (Starting true d)
+    (cond (eqb n 4) (Timed d)
+    (cond (eqb n 5) (Warning d) (Ending d))))))
+
 unfoldable pub samePhase : Phase → Phase → Bool
 samePhase a b = eqb (phaseNumber a) (phaseNumber b) && eqb (due a) (due b)
 
@@ -53,6 +63,10 @@ abbrev pub linkNumber : Link → ℕ
 linkNumber Up = 0
 linkNumber BusDown = 1
 linkNumber PowerDown = 2
+
+-- the link of this number (`link-back`)
+unfoldable pub linkOf : ℕ → Link
+linkOf n = cond (eqb n 0) Up (cond (eqb n 1) BusDown PowerDown)
 
 unfoldable pub sameScene : Scene → Scene → Bool
 sameScene a b = eqb (a .number) (b .number) && Bool·beq (a .value) (b .value) && Bool·beq (a .taught) (b .taught)

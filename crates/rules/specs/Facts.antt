@@ -1,6 +1,6 @@
 -- What the definitions test or compute, said a second time as facts: the rows of the versions, ranges, the scene table, which octet is out of
--- range, a sound state, the status octets, the inputs of the promises. That both say the same is proved (proofs/Laws/Forms.antt,
--- Deadlines.antt, Scenes.antt, BadOctets.antt, Facts.antt, Status.antt, proofs/Promises/Inputs.antt), so that a slip in one of them does not
+-- range, a sound state, its image, the status octets, the inputs of the promises. That both say the same is proved (proofs/Laws/Forms.antt,
+-- Deadlines.antt, Scenes.antt, BadOctets.antt, Facts.antt, Images.antt, Status.antt, proofs/Promises/Inputs.antt), so that a slip in one of them does not
 -- pass.
 use Prim.Native.Nat.{ℕ, _+_, _*_, _/_, _%_, _≤_, _<_}
 use mathlib.Core.Bool.{Bool, true, false}
@@ -8,13 +8,13 @@ use mathlib.Core.Path.{_≡_}
 use mathlib.Core.Logic.{_↔_, _⊎_}
 use mathlib.Core.List.{List}
 use lib.ListN.{length, getD}
-use Rattle.octets.specs.BigEndian.{octet}
+use Rattle.octets.specs.BigEndian.{octet, be32}
 use Rattle.rules.specs.declared.form.Form.{Form}
 use Rattle.rules.specs.declared.parameters.Params.{Params}
 use Rattle.rules.specs.declared.parameters.Scene.{Scene}
 use Rattle.rules.specs.declared.parameters.Recalled.the-variants.{Nothing, Output}
-use Rattle.rules.specs.declared.phase.Phase.the-variants.{Dark, Lit, Timed, Warning}
-use Rattle.rules.specs.declared.phase.Deadline.the-variants.{At}
+use Rattle.rules.specs.declared.phase.Phase.the-variants.{Dark, Lit, Starting, Timed, Warning, Ending}
+use Rattle.rules.specs.declared.phase.Deadline.the-variants.{Never, At}
 use Rattle.rules.specs.declared.input.Force.the-variants.{Free, Off, On}
 use Rattle.rules.specs.declared.input.Event.the-variants.{Failure, Return}
 use Rattle.rules.specs.declared.input.Input.{Input}
@@ -30,6 +30,7 @@ use Rattle.rules.specs.Scenes.{recalled, learnt}
 use Rattle.rules.specs.Phases.{output, deadline}
 use Rattle.rules.specs.Status.{value, staircase, attributes}
 use Rattle.rules.specs.Calls.{unused}
+use Rattle.rules.specs.Images.{image}
 
 -- ---- ranges (01, "Time and the cue file")
 
@@ -167,6 +168,65 @@ pub record SoundState (s : State) : Type 0 where
   pub decided : s .lock ≡ false → (s .force ≡ Off → s .phase ≡ Dark) × (s .force ≡ On → s .phase ≡ Lit)
   pub ends : s .night ≡ true → s .phase ≡ Lit → Held (s .lock) (s .force)
   pub clear : s .link ≡ PowerDown → (s .phase ≡ Dark) × (s .night ≡ false) × (s .lock ≡ false) × (s .force ≡ Free)
+
+-- ---- the image of a state, octet by octet: "every octet with a meaning, numbers most significant octet first, no padding that may differ"
+
+-- an octet that is 1 where this holds, and 0 where it does not
+abbrev pub Tells : ℕ → Bool → Type 0
+Tells n b = (b ≡ true → n ≡ 1) × (b ≡ false → n ≡ 0)
+
+pub record ImageInNumbers (s : State) : Type 0 where
+  pub size : length (image s) ≡ 56
+  pub ondelay : be32 (image s) 0 ≡ s .params .ondelay
+  pub offdelay : be32 (image s) 4 ≡ s .params .offdelay
+  pub timedon : be32 (image s) 8 ≡ s .params .timedon
+  pub prewarning : be32 (image s) 12 ≡ s .params .prewarning
+  pub locking : octet (image s) 16 ≡ s .params .locking
+  pub unlocking : octet (image s) 17 ≡ s .params .unlocking
+  pub busfailure : octet (image s) 18 ≡ s .params .busfailure
+  pub busreturn : octet (image s) 19 ≡ s .params .busreturn
+  pub powerreturn : octet (image s) 20 ≡ s .params .powerreturn
+  pub learning : Tells (octet (image s) 21) (s .params .learning)
+  pub zeros : (octet (image s) 22 ≡ 0) × (octet (image s) 23 ≡ 0)
+  pub numbers : (n : ℕ) → n < 8 → octet (image s) (24 + 2 * n) ≡ entry (s .scenes) n .number
+  pub values : (n : ℕ) → n < 8 → Tells (octet (image s) (25 + 2 * n) % 2) (entry (s .scenes) n .value)
+  pub taught : (n : ℕ) → n < 8 → Tells (octet (image s) (25 + 2 * n) / 2) (entry (s .scenes) n .taught)
+  pub version : octet (image s) 40 ≡ s .params .version
+  pub night : Tells (octet (image s) 41) (s .night)
+  pub lock : Tells (octet (image s) 42) (s .lock)
+  pub free : s .force ≡ Free → octet (image s) 43 ≡ 0
+  pub off : s .force ≡ Off → octet (image s) 43 ≡ 2
+  pub on : s .force ≡ On → octet (image s) 43 ≡ 3
+  pub up : s .link ≡ Up → octet (image s) 44 ≡ 0
+  pub busdown : s .link ≡ BusDown → octet (image s) 44 ≡ 1
+  pub powerdown : s .link ≡ PowerDown → octet (image s) 44 ≡ 2
+  pub atlocking : Tells (octet (image s) 45) (s .atlocking)
+  pub atfailure : Tells (octet (image s) 46) (s .atfailure)
+  pub dark : s .phase ≡ Dark → octet (image s) 47 ≡ 0
+  pub lit : s .phase ≡ Lit → octet (image s) 47 ≡ 1
+  pub starting : (d : ℕ) → s .phase ≡ Starting false d → octet (image s) 47 ≡ 2
+  pub starting-timed : (d : ℕ) → s .phase ≡ Starting true d → octet (image s) 47 ≡ 3
+  pub timed : (d : ℕ) → s .phase ≡ Timed d → octet (image s) 47 ≡ 4
+  pub warning : (d : ℕ) → s .phase ≡ Warning d → octet (image s) 47 ≡ 5
+  pub ending : (d : ℕ) → s .phase ≡ Ending d → octet (image s) 47 ≡ 6
+  pub clock : be32 (image s) 48 ≡ s .clock
+  pub ends : (d : ℕ) → deadline (s .phase) ≡ At d → be32 (image s) 52 ≡ d
+  pub lasts : deadline (s .phase) ≡ Never → be32 (image s) 52 ≡ 0
+
+-- octets as many as an image has, none of which says what no state holds
+pub record OnlyMeant (octets : List ℕ) : Type 0 where
+  pub size : length octets ≡ 56
+  pub learning : octet octets 21 ≤ 1
+  pub zeros : (octet octets 22 ≡ 0) × (octet octets 23 ≡ 0)
+  pub flags : (n : ℕ) → n < 8 → octet octets (25 + 2 * n) ≤ 3
+  pub night : octet octets 41 ≤ 1
+  pub lock : octet octets 42 ≤ 1
+  pub force : (octet octets 43 ≤ 3) × (octet octets 43 ≡ 1 → ⊥)
+  pub link : octet octets 44 ≤ 2
+  pub atlocking : octet octets 45 ≤ 1
+  pub atfailure : octet octets 46 ≤ 1
+  pub phase : octet octets 47 ≤ 6
+  pub due : octet octets 47 ≤ 1 → be32 octets 52 ≡ 0
 
 -- ---- the status (01, "Records and the printout")
 

@@ -15,7 +15,7 @@ use Rattle.base.specs.declared.refusal.Check.{Check}
 use Rattle.base.specs.declared.refusal.Check.the-variants.{Refused}
 use Rattle.base.specs.Time.{lastStamp}
 use Rattle.rules.specs.Forms.{isVersion, version, formIn}
-use Rattle.rules.specs.Layout.{parametersAt, parametersSize, leastFile, inputsAt, mostInputs, inputPlace, recordsRoom}
+use Rattle.rules.specs.Layout.{parametersAt, parametersSize, leastFile, inputsAt, mostInputs, inputPlace, fileSize, recordsRoom}
 use Rattle.rules.specs.Parameters.{paramsOf, scenesOf, checkParameters}
 use Rattle.rules.specs.Inputs.{inputAt}
 use Rattle.octets.specs.Groups.{stampAt}
@@ -45,7 +45,11 @@ endTime file = be32 file 16
 unfoldable pub parametersIn : List ℕ → List ℕ
 parametersIn file = take (parametersSize (formIn file)) (drop parametersAt file)
 
--- the parameters and the scene table that they say
+-- the octets of the inputs
+unfoldable pub inputsIn : List ℕ → List ℕ
+inputsIn file = drop (inputsAt (formIn file)) file
+
+-- the parameters and the scene table that the octets say
 abbrev pub paramsIn : List ℕ → Params
 paramsIn file = paramsOf (formIn file) (parametersIn file)
 
@@ -57,7 +61,7 @@ unfoldable pub layoutRight : List ℕ → Bool
 layoutRight file =
     (eqb (parametersOffset file) parametersAt && leb (inputCount file) mostInputs) &&
     (eqb (inputsOffset file) (inputsAt (formIn file)) && leb (endTime file) lastStamp) &&
-    eqb (length file) (inputPlace file (inputCount file))
+    eqb (length file) (fileSize (formIn file) (inputCount file))
 
 -- ---- the whole file: "Order 1, 2, 3, 4, 5; then the first bad input"
 
@@ -79,21 +83,28 @@ checkStart file =
     (Refused WrongVersion 0))
     (Refused WrongLength 0)
 
--- what input i says: an input with its stamp, or nothing
+-- what input i of a list says: an input with its stamp, or nothing
 abbrev pub stamped : ℕ → Decoded → Option Cue
 stamped stamp (Meant x) = some (cue stamp x)
 stamped stamp Wrong = none
 
 unfoldable pub cueAt : List ℕ → ℕ → Option Cue
-cueAt file i = stamped (stampAt file (inputPlace file i)) (inputAt file (inputPlace file i))
+cueAt inputs i = stamped (stampAt inputs (inputPlace i)) (inputAt inputs (inputPlace i))
+
+-- those of a file
+abbrev pub cuesRead : List ℕ → Reading Cue
+cuesRead file = readInputs (cueAt (inputsIn file)) (inputsIn file) (inputCount file) 0 0 (endTime file)
 
 unfoldable pub readFile : List ℕ → Reading Cue
-readFile file = afterCheck (checkStart file) (readInputs (cueAt file) file (inputCount file) 0 0 (endTime file))
+readFile file = afterCheck (checkStart file) (cuesRead file)
 
 -- ---- the lent buffers: "records, at least 8(3n+3) octets, and answers, at least n"
 
+abbrev pub lentFor : ℕ → List ℕ → List ℕ → Bool
+lentFor n records answers = leb (recordsRoom n) (length records) && leb n (length answers)
+
 unfoldable pub lentEnough : List ℕ → List ℕ → List ℕ → Bool
-lentEnough file records answers = leb (recordsRoom (inputCount file)) (length records) && leb (inputCount file) (length answers)
+lentEnough file records answers = lentFor (inputCount file) records answers
 
 unfoldable pub readCall : List ℕ → List ℕ → List ℕ → Reading Cue
 readCall file records answers = ifLentEnough (lentEnough file records answers) (readFile file)

@@ -31,6 +31,10 @@ forceNumber Free = 0
 forceNumber Off = 2
 forceNumber On = 3
 
+-- the force of this number (proofs/Laws/Answers.antt, `force-back`)
+unfoldable pub forceOf : ℕ → Force
+forceOf n = cond (eqb n 2) Off (cond (eqb n 3) On Free)
+
 -- "7 bus and 8 power: 0 failure, 1 return."
 abbrev pub eventNumber : Event → ℕ
 eventNumber Failure = 0

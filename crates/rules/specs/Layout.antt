@@ -8,7 +8,7 @@ use lib.ListN.{length}
 use lib.Dec.{eqb}
 use Rattle.octets.specs.Groups.{groupSize}
 use Rattle.rules.specs.declared.form.Form.{Form}
-use Rattle.rules.specs.Forms.{width, versionOne, versionTwo, formIn}
+use Rattle.rules.specs.Forms.{width, versionOne, versionTwo}
 
 -- "Header, 20 octets of counts and offsets"; "offset of parameters (20)"
 abbrev pub parametersAt : ℕ
@@ -62,12 +62,13 @@ inputSize = groupSize
 abbrev pub mostInputs : ℕ
 mostInputs = 2048
 
--- where input i stands, and so, for the count of all inputs, where the file ends: "The file is exactly 52+8n octets."
-abbrev pub placeBy : Form → ℕ → ℕ
-placeBy f i = inputsAt f + inputSize * i
+-- where input i stands among the inputs, and so, for the count of all inputs, where they end
+abbrev pub inputPlace : ℕ → ℕ
+inputPlace i = inputSize * i
 
-abbrev pub inputPlace : List ℕ → ℕ → ℕ
-inputPlace file i = placeBy (formIn file) i
+-- "The file is exactly 52+8n octets."
+abbrev pub fileSize : Form → ℕ → ℕ
+fileSize f n = inputsAt f + inputPlace n
 
 -- ---- the records
 

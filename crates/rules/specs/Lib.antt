@@ -17,6 +17,10 @@ pub mod Readings
 pub mod Files
 pub mod Runs
 pub mod Soundness
+-- a whole scene change in one call; a state as octets, and the live calls from C
+pub mod Changes
+pub mod Images
+pub mod Live
 -- what is claimed of them
 pub mod Refusals
 pub mod Promises

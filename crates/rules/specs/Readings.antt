@@ -1,4 +1,5 @@
--- A list of stamped inputs, read one after the other: what each of them says, or the first that is bad and where (01, "Refusal numbers").
+-- A list of stamped inputs, eight octets each, read one after the other: what each of them says, or the first that is bad and where (01, "Refusal
+-- numbers").
 -- What an input may say is left open: `at i` is what the one at index i says, if it says anything.
 use Prim.Native.Nat.{ℕ, zero, suc, _+_}
 use mathlib.Core.Bool.{Bool, true, false, cond, _&&_}
@@ -35,12 +36,12 @@ unfoldable pub readOne : {A : Type 0} → Option A → ℕ → ℕ → ℕ → �
 readOne none stamp last end i later = bad BadInput i
 readOne (some x) stamp last end i later = cond (leb last stamp && leb stamp end) (before x later) (bad BadStamp i)
 
--- "the first bad input, 6 before 7": these many inputs of a file from index i on, where the stamp before them is `last`
+-- "the first bad input, 6 before 7": these many of the inputs from index i on, where the stamp before them is `last`
 unfoldable pub readInputs : {A : Type 0} → (ℕ → Option A) → List ℕ → ℕ → ℕ → ℕ → ℕ → Reading A
-readInputs at file zero i last end = cues []
-readInputs at file (suc left) i last end =
-    let later = readInputs at file left (i + 1) (stampAt file (inputPlace file i)) end in
-    readOne (at i) (stampAt file (inputPlace file i)) last end i later
+readInputs at inputs zero i last end = cues []
+readInputs at inputs (suc left) i last end =
+    let later = readInputs at inputs left (i + 1) (stampAt inputs (inputPlace i)) end in
+    readOne (at i) (stampAt inputs (inputPlace i)) last end i later
 
 -- what is wrong before them comes first
 abbrev pub afterCheck : {A : Type 0} → Check → Reading A → Reading A

@@ -13,7 +13,7 @@ use Rattle.rules.specs.declared.input.Decoded.the-variants.{Meant}
 use Rattle.rules.specs.declared.state.State.{State}
 use Rattle.rules.specs.declared.call.Ran.{Ran}
 use Rattle.base.specs.declared.refusal.Refusal.{Refusal}
-use Rattle.base.specs.declared.refusal.Refusal.the-variants.{WrongLength, WrongVersion, WrongActuators, WrongLayout, BadParameter, BadInput, BadStamp, ShortBuffer, UnsoundState, BadAction}
+use Rattle.base.specs.declared.refusal.Refusal.the-variants.{WrongLength, WrongVersion, WrongActuators, WrongLayout, BadParameter, BadInput, BadStamp, ShortBuffer, UnsoundState, BadAction, WrongGroups}
 use Rattle.base.specs.declared.refusal.Check.{Check}
 use Rattle.base.specs.declared.refusal.Check.the-variants.{Passed, Refused}
 use Rattle.base.specs.Refusals.{Only, Then, Codes, Timely, CallCodes}
@@ -22,7 +22,7 @@ use Rattle.rules.specs.Layout.{parametersSize, formAlone, inputsAt, inpu
 use Rattle.rules.specs.Parameters.{badOctet, checkParameters}
 use Rattle.rules.specs.Inputs.{inputAt}
 use Rattle.octets.specs.Groups.{stampAt}
-use Rattle.rules.specs.Files.{actuators, parametersOffset, inputCount, inputsOffset, endTime, parametersIn, cueAt}
+use Rattle.rules.specs.Files.{actuators, parametersOffset, inputCount, inputsOffset, endTime, parametersIn, inputsIn, cueAt}
 use Rattle.rules.specs.Soundness.{sound}
 
 -- ---- parameters
@@ -52,6 +52,7 @@ FoundWhen f octets (Refused BadStamp place) = ⊥
 FoundWhen f octets (Refused ShortBuffer place) = ⊥
 FoundWhen f octets (Refused UnsoundState place) = ⊥
 FoundWhen f octets (Refused BadAction place) = ⊥
+FoundWhen f octets (Refused WrongGroups place) = ⊥
 
 -- ---- a file
 
@@ -93,61 +94,64 @@ StartWhen file BadStamp place = ⊥
 StartWhen file ShortBuffer place = ⊥
 StartWhen file UnsoundState place = ⊥
 StartWhen file BadAction place = ⊥
+StartWhen file WrongGroups place = ⊥
 
--- ---- the inputs of a file, whatever they may say: `at j` is what the one at index j says, if it says anything
+-- ---- the inputs of a list, whatever they may say: `at j` is what the one at index j says, if it says anything. There are n of them; the first
+-- is not stamped before `from`, none after `to`.
 
--- the stamp before that of an input; before the first it is 0
-abbrev pub stampBefore : List ℕ → ℕ → ℕ
-stampBefore file zero = 0
-stampBefore file (suc j) = stampAt file (inputPlace file j)
+-- the stamp before that of an input
+abbrev pub stampBefore : List ℕ → ℕ → ℕ → ℕ
+stampBefore inputs from zero = from
+stampBefore inputs from (suc j) = stampAt inputs (inputPlace j)
 
 -- an input that neither row 6 nor row 7 holds for
-pub record GoodInput {A : Type 0} (at : ℕ → Option A) (file : List ℕ) (j : ℕ) : Type 0 where
+pub record GoodInput {A : Type 0} (at : ℕ → Option A) (inputs : List ℕ) (from to j : ℕ) : Type 0 where
   pub input : A
   pub means : at j ≡ some input
-  pub risen : stampBefore file j ≤ stampAt file (inputPlace file j)
-  pub timely : stampAt file (inputPlace file j) ≤ endTime file
+  pub risen : stampBefore inputs from j ≤ stampAt inputs (inputPlace j)
+  pub timely : stampAt inputs (inputPlace j) ≤ to
 
-abbrev pub GoodInputs : {A : Type 0} → (ℕ → Option A) → List ℕ → Type 0
-GoodInputs at file = (j : ℕ) → j < inputCount file → GoodInput at file j
+abbrev pub GoodInputs : {A : Type 0} → (ℕ → Option A) → List ℕ → ℕ → ℕ → ℕ → Type 0
+GoodInputs at inputs n from to = (j : ℕ) → j < n → GoodInput at inputs from to j
 
 -- row 6 holds for this input, and no row for any before it
-pub record FirstWrong {A : Type 0} (at : ℕ → Option A) (file : List ℕ) (place : ℕ) : Type 0 where
-  pub within : place < inputCount file
+pub record FirstWrong {A : Type 0} (at : ℕ → Option A) (inputs : List ℕ) (n from to place : ℕ) : Type 0 where
+  pub within : place < n
   pub wrong : at place ≡ none
-  pub good : (j : ℕ) → j < place → GoodInput at file j
+  pub good : (j : ℕ) → j < place → GoodInput at inputs from to j
 
 -- row 7 holds for this input but not row 6, and no row for any before it
-pub record FirstUntimely {A : Type 0} (at : ℕ → Option A) (file : List ℕ) (place : ℕ) : Type 0 where
-  pub within : place < inputCount file
+pub record FirstUntimely {A : Type 0} (at : ℕ → Option A) (inputs : List ℕ) (n from to place : ℕ) : Type 0 where
+  pub within : place < n
   pub input : A
   pub means : at place ≡ some input
-  pub untimely : (stampAt file (inputPlace file place) < stampBefore file place) ⊎ (endTime file < stampAt file (inputPlace file place))
-  pub good : (j : ℕ) → j < place → GoodInput at file j
+  pub untimely : (stampAt inputs (inputPlace place) < stampBefore inputs from place) ⊎ (to < stampAt inputs (inputPlace place))
+  pub good : (j : ℕ) → j < place → GoodInput at inputs from to j
 
--- when a file is refused for one of its inputs
-abbrev pub InputsWhen : {A : Type 0} → (ℕ → Option A) → List ℕ → Refusal → ℕ → Type 0
-InputsWhen at file WrongLength place = ⊥
-InputsWhen at file WrongVersion place = ⊥
-InputsWhen at file WrongActuators place = ⊥
-InputsWhen at file WrongLayout place = ⊥
-InputsWhen at file BadParameter place = ⊥
-InputsWhen at file BadInput place = FirstWrong at file place
-InputsWhen at file BadStamp place = FirstUntimely at file place
-InputsWhen at file ShortBuffer place = ⊥
-InputsWhen at file UnsoundState place = ⊥
-InputsWhen at file BadAction place = ⊥
+-- when a list is refused for one of its inputs
+abbrev pub InputsWhen : {A : Type 0} → (ℕ → Option A) → List ℕ → ℕ → ℕ → ℕ → Refusal → ℕ → Type 0
+InputsWhen at inputs n from to WrongLength place = ⊥
+InputsWhen at inputs n from to WrongVersion place = ⊥
+InputsWhen at inputs n from to WrongActuators place = ⊥
+InputsWhen at inputs n from to WrongLayout place = ⊥
+InputsWhen at inputs n from to BadParameter place = ⊥
+InputsWhen at inputs n from to BadInput place = FirstWrong at inputs n from to place
+InputsWhen at inputs n from to BadStamp place = FirstUntimely at inputs n from to place
+InputsWhen at inputs n from to ShortBuffer place = ⊥
+InputsWhen at inputs n from to UnsoundState place = ⊥
+InputsWhen at inputs n from to BadAction place = ⊥
+InputsWhen at inputs n from to WrongGroups place = ⊥
 
 -- ---- the whole file
 
 -- "Order 1, 2, 3, 4, 5; then the first bad input"
 abbrev pub GivenWhen : List ℕ → Refusal → ℕ → Type 0
-GivenWhen file = Then (StartWhen file) (GoodStart file) (InputsWhen (cueAt file) file)
+GivenWhen file = Then (StartWhen file) (GoodStart file) (InputsWhen (cueAt (inputsIn file)) (inputsIn file) (inputCount file) 0 (endTime file))
 
 -- no row holds
 pub record GoodFile (file : List ℕ) : Type 0 where
   pub start : GoodStart file
-  pub good : GoodInputs (cueAt file) file
+  pub good : GoodInputs (cueAt (inputsIn file)) (inputsIn file) (inputCount file) 0 (endTime file)
 
 -- ---- the public calls: each code with its place, exactly when the table gives it
 
@@ -173,6 +177,28 @@ abbrev pub RunCodes : List ℕ → List ℕ → List ℕ → ℕ → ℕ → Typ
 RunCodes file records answers =
     let Room : Type 0 = RoomFor (inputCount file) records answers in
     Codes (Then (GivenWhen file) (GoodFile file) (Only ShortBuffer 0 (Room → ⊥))) (GoodFile file × Room)
+
+-- ---- a whole scene change
+
+-- 02, [3]: "up to 256 input octet groups", none of them cut short
+pub record GoodGroups (inputs : List ℕ) : Type 0 where
+  pub whole : length inputs % 8 ≡ 0
+  pub few : length inputs / 8 ≤ 256
+
+-- "Refusals: 9, then 12 .., then 8 as for the run (with n groups), then 6 or 7 as met.": n groups, from the clock on
+abbrev pub ChangeCodes : State → List ℕ → List ℕ → List ℕ → ℕ → ℕ → Type 0
+ChangeCodes s inputs records answers =
+    let n : ℕ = length inputs / 8 in
+    let Sound : Type 0 = sound s ≡ true in
+    let Room : Type 0 = RoomFor n records answers in
+    Codes
+    (Then (Only UnsoundState 0 (Sound → ⊥)) Sound
+    (Then (Only WrongGroups 0 (GoodGroups inputs → ⊥)) (GoodGroups inputs)
+    (Then (Only ShortBuffer 0 (Room → ⊥)) Room
+    (InputsWhen (cueAt inputs) inputs n (s .clock) 864_000))))
+    (Sound × (GoodGroups inputs × (Room × GoodInputs (cueAt inputs) inputs n (s .clock) 864_000)))
+
+-- ---- the number for C
 
 -- "To C it answers one 64-bit number": what the header's macros take it apart into, by shifts and masks
 pub record TakenApart (number : ℕ) (r : Ran) : Type 0 where

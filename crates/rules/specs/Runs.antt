@@ -31,6 +31,10 @@ pub record Whole : Type 0 where
   pub records : List ℕ
   pub answers : List ℕ
 
+-- as the code hands them out
+abbrev pub whole : Ran → List ℕ → List ℕ → Whole
+whole r records answers = record { report = r; records = records; answers = answers }
+
 -- what the cues of a file give: its own parameters and scenes, played to its end time
 unfoldable pub playFile : List ℕ → List Cue → Played
 playFile file list = playList (paramsIn file) (scenesIn file) list (endTime file)
@@ -59,8 +63,11 @@ unfoldable pub runCall : List ℕ → List ℕ → List ℕ → Whole
 runCall file records answers = runBy (readCall file records answers) file records answers
 
 -- "To C it answers one 64-bit number, code*2^48 + place*2^32 + record count"
+abbrev pub packing : ℕ → ℕ → ℕ → ℕ
+packing code place count = code * 2 ^ 48 + place * 2 ^ 32 + count
+
 unfoldable pub packed : Ran → ℕ
-packed r = r .code * 2 ^ 48 + r .place * 2 ^ 32 + r .count
+packed r = packing (r .code) (r .place) (r .count)
 
 -- the number, and both buffers
 pub record Answered : Type 0 where

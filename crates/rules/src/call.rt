@@ -28,7 +28,7 @@ pub struct Move {
     pub records: [Record; 2],
 }
 
-// The run over a cue file. The records and the answers are in the lent buffers.
+// The run over a cue file, and a change. The records and the answers are in the lent buffers.
 pub struct Ran {
     pub state: State,
     pub code: u8,
