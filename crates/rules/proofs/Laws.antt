@@ -20,6 +20,7 @@ pub mod Timers
 pub mod Status
 pub mod Records
 pub mod Answers
+pub mod Images
 pub mod Moments
 pub mod Lists
 pub mod Numbers

@@ -3,3 +3,4 @@ pub mod Files
 pub mod Readings
 pub mod Calls
 pub mod Runs
+pub mod Changes

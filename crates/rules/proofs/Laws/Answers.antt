@@ -1,11 +1,9 @@
 -- The answer octet tells exactly whether an input that is taken changed anything but the clock.
-use Prim.Native.Nat.{ℕ}
-use mathlib.Core.Bool.{Bool, true, false, true≢false, cond}
+use mathlib.Core.Bool.{Bool, true, false, true≢false}
 use mathlib.Core.Path.{_≡_, refl, sym}
 use mathlib.Core.Logic.{_↔_, Iff·trans, eq-comm}
 use mathlib.Core.List.{List, [], _∷_}
 use native.Mathlib.Omega.{arith}
-use lib.Dec.{eqb}
 use borrow.Author.Tests.{eqb-true}
 use Rattle.rules.specs.declared.parameters.Scene.{Scene}
 use Rattle.rules.specs.declared.phase.Phase.{Phase}
@@ -20,24 +18,15 @@ use Rattle.rules.specs.declared.barrier.Barrier.{Barrier}
 use Rattle.rules.specs.declared.barrier.Barrier.the-variants.{Open, Stopped}
 use Rattle.rules.specs.Orders.{order}
 use Rattle.rules.specs.Barriers.{barrier}
-use Rattle.rules.specs.Inputs.{forceNumber}
-use Rattle.rules.specs.Answers.{answer, phaseNumber, due, linkNumber, samePhase, sameScene, sameScenes, sameFlags, sameButClock}
+use Rattle.rules.specs.Inputs.{forceNumber, forceOf}
+use Rattle.rules.specs.Answers.{answer, phaseNumber, due, phaseOf, linkNumber, linkOf, samePhase, sameScene, sameScenes, sameFlags, sameButClock}
 use Rattle.rules.specs.Steps.{atMoment, Moved, taken, meet, act}
 use Rattle.base.proofs.Tests.{and-left, and-right, beq-true, beq-same, eqb-same}
 use Rattle.rules.proofs.Laws.Orders.{order-leaves}
 
 -- a phase, a force and a link can be read back from their numbers, so equal numbers mean equal things
 
-phaseOf : ℕ → ℕ → Phase
-phaseOf n d =
-    cond (eqb n 0) Dark
-    (cond (eqb n 1) Lit
-    (cond (eqb n 2) (Starting false d)
-    (cond (eqb n 3) (Starting true d)
-    (cond (eqb n 4) (Timed d)
-    (cond (eqb n 5) (Warning d) (Ending d))))))
-
-phase-back : (p : Phase) → phaseOf (phaseNumber p) (due p) ≡ p
+pub phase-back : (p : Phase) → phaseOf (phaseNumber p) (due p) ≡ p
 unfolding phaseOf
 phase-back Dark = refl
 phase-back Lit = refl
@@ -47,19 +36,13 @@ phase-back (Timed d) = refl
 phase-back (Warning d) = refl
 phase-back (Ending d) = refl
 
-forceOf : ℕ → Force
-forceOf n = cond (eqb n 0) Free (cond (eqb n 2) Off On)
-
-force-back : (f : Force) → forceOf (forceNumber f) ≡ f
+pub force-back : (f : Force) → forceOf (forceNumber f) ≡ f
 unfolding forceOf
 force-back Free = refl
 force-back Off = refl
 force-back On = refl
 
-linkOf : ℕ → Link
-linkOf n = cond (eqb n 0) Up (cond (eqb n 1) BusDown PowerDown)
-
-link-back : (l : Link) → linkOf (linkNumber l) ≡ l
+pub link-back : (l : Link) → linkOf (linkNumber l) ≡ l
 unfolding linkOf
 link-back Up = refl
 link-back BusDown = refl

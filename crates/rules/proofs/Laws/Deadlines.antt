@@ -10,7 +10,7 @@ use Rattle.rules.specs.declared.form.Scale.the-variants.{Seconds, Tenths
 use Rattle.rules.specs.declared.parameters.Params.{Params}
 use Rattle.rules.specs.declared.phase.Phase.{Phase}
 use Rattle.rules.specs.declared.phase.Phase.the-variants.{Dark, Lit, Starting, Timed, Warning, Ending}
-use Rattle.rules.specs.declared.phase.Deadline.the-variants.{At}
+use Rattle.rules.specs.declared.phase.Deadline.the-variants.{Never, At}
 use Rattle.base.specs.Time.{longestDelay}
 use Rattle.rules.specs.Forms.{unit, formOf, HasVersion}
 use Rattle.rules.specs.Parameters.{timeInRange, timesInRange, modesInRange, paramsInRange}
@@ -153,3 +153,12 @@ due-is (Starting timed x) d e = cc
 due-is (Timed x) d e = cc
 due-is (Warning x) d e = cc
 due-is (Ending x) d e = cc
+
+-- and 0 where there is none
+pub due-none : (phase : Phase) → deadline phase ≡ Never → due phase ≡ 0
+due-none Dark e = refl
+due-none Lit e = refl
+due-none (Starting timed x) e = cc
+due-none (Timed x) e = cc
+due-none (Warning x) e = cc
+due-none (Ending x) e = cc

@@ -24,7 +24,6 @@ use Rattle.octets.specs.Groups.{stampAt}
 use Rattle.rules.specs.Files.{actuators, parametersOffset, inputCount, inputsOffset, endTime}
 use Rattle.rules.specs.Written.{delayOctets, timesOctets, modeOctets, flagsOctet, scenesOctets, parametersOctets, headerOctets}
 use Rattle.rules.specs.Facts.{Delay, ParamsFit, entry, ScenesFit}
-use Rattle.rules.specs.Refusals.{GoodParameters}
 use Rattle.rules.specs.Calls.{unused}
 use Rattle.octets.proofs.BothWays.{what-is-written-is-read-16, what-is-written-is-read}
 use Rattle.base.proofs.Tests.{cond-case, either-way}
@@ -34,11 +33,11 @@ use Rattle.rules.proofs.Laws.Parameters.{lowest-bad-octet, mode-octet, 
 -- ---- accepted parameters are written in one way
 
 -- the octets from a place on, this many
-unfoldable from : List ℕ → ℕ → ℕ → List ℕ
+unfoldable pub from : List ℕ → ℕ → ℕ → List ℕ
 from octets zero n = []
 from octets (suc left) n = octet octets n ∷ from octets left (n + 1)
 
-from-drop : (octets : List ℕ) (left n : ℕ) → n + left ≤ length octets → from octets left n ++ drop (n + left) octets ≡ drop n octets
+pub from-drop : (octets : List ℕ) (left n : ℕ) → n + left ≤ length octets → from octets left n ++ drop (n + left) octets ≡ drop n octets
 unfolding from
 from-drop octets zero n within =
     let same : n + 0 ≡ n = omega arith in
@@ -49,7 +48,7 @@ from-drop octets (suc left) n within =
     rw (drop-cons octets n 0 (omega arith), one) (rw next (ap (λ (x : List ℕ). octet octets n ∷ x) (from-drop octets left (n + 1) (omega arith))))
 
 -- octets below 256, from the time that they say
-time-octets : (octets : List ℕ) → ((i : ℕ) → octet octets i < 256) → (s : Scale) (at : ℕ) → delayOctets s (timeAt s octets at) ≡ from octets (width s) at
+pub time-octets : (octets : List ℕ) → ((i : ℕ) → octet octets i < 256) → (s : Scale) (at : ℕ) → delayOctets s (timeAt s octets at) ≡ from octets (width s) at
 unfolding timeAt from octets32
 time-octets octets small Seconds at =
     let first : 10 * (256 * octet octets at + octet octets (at + 1)) / 10 / 256 ≡ octet octets at = omega (arith, small (at + 1)) in
@@ -70,11 +69,11 @@ time-octets octets small Tenths at =
         let e4 : n % 256 ≡ d = omega arith in
         rw (e1, e2, e3, e4)
 
-joined : {a b x y : List ℕ} → a ≡ x → b ≡ y → a ++ b ≡ x ++ y
+pub joined : {a b x y : List ℕ} → a ≡ x → b ≡ y → a ++ b ≡ x ++ y
 joined first second = rw (first, second)
 
 -- an octet that is 0 or 1
-zero-or-one : (n : ℕ) → n ≤ 1 → cond (eqb n 1) 1 0 ≡ n
+pub zero-or-one : (n : ℕ) → n ≤ 1 → cond (eqb n 1) 1 0 ≡ n
 zero-or-one n few = cond-case (λ (x : ℕ). x ≡ n) (eqb n 1) 1 0 (λ e. sym (eqb-true _ _ e)) (λ e. omega (arith, eqb-false n 1 e))
 
 -- flags that are at most 3 are their two bits
@@ -86,19 +85,14 @@ two-bits n few =
     in
     rw (low, high) (omega arith)
 
--- flags that are not refused are at most 3: those of an unused entry are 0
-flags-few : (f : Form) (octets : List ℕ) (n : ℕ) → badFlags f octets n ≡ false → octet octets (flagsPlace f n) ≤ 3
-unfolding badFlags
-flags-few f octets n good =
-    cond-case (λ (b : Bool). b ≡ false → octet octets (flagsPlace f n) ≤ 3) (eqb (octet octets (scenePlace f n)) 255) _ _
-    (λ unused none. omega (arith, eqb-true (octet octets (flagsPlace f n)) 0 (not-false _ none)))
-    (λ used few. ltb-false _ _ few)
-    good
+-- octets in which nothing stands but what parameters and scenes say
+pub record Plain (f : Form) (octets : List ℕ) : Type 0 where
+  pub whole : length octets ≡ parametersSize f
+  pub learning : octet octets (modesAt f + 5) ≤ 1
+  pub zeros : (octet octets (modesAt f + 6) ≡ 0) × (octet octets (modesAt f + 7) ≡ 0)
+  pub flags : (n : ℕ) → n < 8 → octet octets (flagsPlace f n) ≤ 3
 
-module _ (f : Form) (octets : List ℕ) (small : (i : ℕ) → octet octets i < 256) (passed : checkParameters f octets ≡ Passed) where
-  good : GoodParameters f octets
-  good = lowest-bad-octet f octets Passed .0 passed
-
+module _ (f : Form) (octets : List ℕ) (small : (i : ℕ) → octet octets i < 256) (plain : Plain f octets) where
   times-as-written : timesOctets (f .scale) (paramsOf f octets) ≡ from octets (modesAt f) 0
   unfolding paramsOf delay
   times-as-written = by (f .scale)
@@ -108,13 +102,10 @@ module _ (f : Form) (octets : List ℕ) (small : (i : ℕ) → octet octets i < 
       by Tenths = unfold from in joined (time-octets octets small Tenths 0) (joined (time-octets octets small Tenths 4) (joined (time-octets octets small Tenths 8) (time-octets octets small Tenths 12)))
 
   modes-as-written : modeOctets (paramsOf f octets) ≡ from octets 8 (modesAt f)
-  unfolding paramsOf from greatest
+  unfolding paramsOf from
   modes-as-written =
-      let mode : (m : ℕ) → m < 8 → octet octets (modesAt f + m) ≤ getD greatest m 0 = mode-in-range f octets good in
-      let first : octet octets (modesAt f + 6) ≡ 0 = omega (arith, mode 6 (omega arith)) in
-      let second : octet octets (modesAt f + 7) ≡ 0 = omega (arith, mode 7 (omega arith)) in
-      rw (zero-or-one (octet octets (modesAt f + 5)) (mode 5 (omega arith)))
-      (places (modesAt f) first second)
+      rw (zero-or-one (octet octets (modesAt f + 5)) (plain .learning))
+      (places (modesAt f) (plain .zeros .0) (plain .zeros .1))
     where
       places : (at : ℕ) → octet octets (at + 6) ≡ 0 → octet octets (at + 7) ≡ 0 →
           octet octets at ∷ octet octets (at + 1) ∷ octet octets (at + 2) ∷ octet octets (at + 3) ∷ octet octets (at + 4) ∷ octet octets (at + 5) ∷ 0 ∷ 0 ∷ [] ≡ from octets 8 at
@@ -134,48 +125,81 @@ module _ (f : Form) (octets : List ℕ) (small : (i : ℕ) → octet octets i < 
       let two : 2 * suc left ≡ suc (suc (2 * left)) = omega arith in
       let next : scenePlace f n + 1 + 1 ≡ scenePlace f (n + 1) = omega arith in
       let place : scenePlace f n + 1 ≡ flagsPlace f n = omega arith in
-      let flags = two-bits (octet octets (flagsPlace f n)) (flags-few f octets n (sym (flags-octet f octets n) ∙ good .good (flagsPlace f n) (omega arith))) in
+      let flags = two-bits (octet octets (flagsPlace f n)) (plain .flags n (omega arith)) in
       rw (two, next, place, flags, scenes-as-written left (n + 1) (omega arith))
 
-  -- parameters that are accepted are the octets that 01 and 02 write for what they say, and no others
-  pub accepted-as-written : parametersOctets f (paramsOf f octets) (scenesOf f octets) ≡ octets
+  -- they are written as they stand
+  pub plain-as-written : parametersOctets f (paramsOf f octets) (scenesOf f octets) ≡ octets
   unfolding scenesOf entries
-  accepted-as-written =
-      let past : drop (parametersSize f) octets ≡ [] = rw (← good .whole) (drop-length octets) in
+  plain-as-written =
+      let past : drop (parametersSize f) octets ≡ [] = rw (← plain .whole) (drop-length octets) in
       let first : scenePlace f 0 ≡ scenesAt f = omega arith in
       let table : scenesOctets (entries f octets 8 0) ≡ from octets 16 (scenesAt f) = scenes-as-written 8 0 refl ∙ rw first in
       let scenes : scenesOctets (entries f octets 8 0) ≡ drop (scenesAt f) octets =
       table ∙
       (sym (append-nil (from octets 16 (scenesAt f))) ∙
-      (ap (λ (x : List ℕ). from octets 16 (scenesAt f) ++ x) (sym past) ∙ from-drop octets 16 (scenesAt f) (omega (arith, good .whole))))
+      (ap (λ (x : List ℕ). from octets 16 (scenesAt f) ++ x) (sym past) ∙ from-drop octets 16 (scenesAt f) (omega (arith, plain .whole))))
       in
       let modes : modeOctets (paramsOf f octets) ++ scenesOctets (entries f octets 8 0) ≡ drop (modesAt f) octets =
-      joined modes-as-written scenes ∙ from-drop octets 8 (modesAt f) (omega (arith, good .whole))
+      joined modes-as-written scenes ∙ from-drop octets 8 (modesAt f) (omega (arith, plain .whole))
       in
       let start : 0 + modesAt f ≡ modesAt f = omega arith in
-      joined times-as-written modes ∙ rw start at (from-drop octets (modesAt f) 0 (omega (arith, good .whole)))
+      joined times-as-written modes ∙ rw start at (from-drop octets (modesAt f) 0 (omega (arith, plain .whole)))
 
--- ---- what is written is accepted and read back
+-- flags that are not refused are at most 3: those of an unused entry are 0
+flags-few : (f : Form) (octets : List ℕ) (n : ℕ) → badFlags f octets n ≡ false → octet octets (flagsPlace f n) ≤ 3
+unfolding badFlags
+flags-few f octets n good =
+    cond-case (λ (b : Bool). b ≡ false → octet octets (flagsPlace f n) ≤ 3) (eqb (octet octets (scenePlace f n)) 255) _ _
+    (λ unused none. omega (arith, eqb-true (octet octets (flagsPlace f n)) 0 (not-false _ none)))
+    (λ used few. ltb-false _ _ few)
+    good
 
--- the four times of version 1, whole seconds, and of version 2
-times-back : (p : Params) (later : List ℕ) → ParamsFit p → let f : Form = formOf (p .version) in let octets : List ℕ = timesOctets (f .scale) p ++ later in
+-- parameters that are accepted are the octets that 01 and 02 write for what they say, and no others
+pub accepted-as-written : (f : Form) (octets : List ℕ) → ((i : ℕ) → octet octets i < 256) → checkParameters f octets ≡ Passed → parametersOctets f (paramsOf f octets) (scenesOf f octets) ≡ octets
+unfolding greatest
+accepted-as-written f octets small passed =
+    let good = lowest-bad-octet f octets Passed .0 passed in
+    let mode : (m : ℕ) → m < 8 → octet octets (modesAt f + m) ≤ getD greatest m 0 = mode-in-range f octets good in
+    plain-as-written f octets small
+    record {
+      whole = good .whole;
+      learning = mode 5 (omega arith);
+      zeros = (omega (arith, mode 6 (omega arith)), omega (arith, mode 7 (omega arith)));
+      flags = λ n within. flags-few f octets n (sym (flags-octet f octets n) ∙ good .good (flagsPlace f n) (omega arith));
+    }
+
+-- ---- what is written is read back
+
+-- the four times, whatever follows them
+abbrev pub TimesBack : Form → Params → Type 0
+TimesBack f p =
+    (later : List ℕ) → let octets : List ℕ = timesOctets (f .scale) p ++ later in
     (delay f octets 0 ≡ p .ondelay) × (delay f octets 1 ≡ p .offdelay) × (delay f octets 2 ≡ p .timedon) × (delay f octets 3 ≡ p .prewarning)
-unfolding delay timeAt formOf octets32
-times-back p later f = by (f .version)
+
+-- in tenths, any
+pub tenths-back : (v : ℕ) (p : Params) → TimesBack (record { version = v; scale = Tenths }) p
+unfolding delay timeAt octets32
+tenths-back v p later = (what-is-written-is-read (p .ondelay) [], what-is-written-is-read (p .offdelay) [], what-is-written-is-read (p .timedon) [], what-is-written-is-read (p .prewarning) [])
+
+-- of version 1, whole seconds
+times-back : (p : Params) → ParamsFit p → TimesBack (formOf (p .version)) p
+unfolding formOf
+times-back p f = by (f .version)
   where
     seconds : (t : ℕ) → Delay (p .version) t → p .version ≡ 1 → 10 * (256 * (t / 10 / 256) + t / 10 % 256) ≡ t
     seconds t d one = omega (arith, d .seconds one .1)
 
-    by : HasVersion (p .version) → let f : Form = formOf (p .version) in let octets : List ℕ = timesOctets (f .scale) p ++ later in
-        (delay f octets 0 ≡ p .ondelay) × (delay f octets 1 ≡ p .offdelay) × (delay f octets 2 ≡ p .timedon) × (delay f octets 3 ≡ p .prewarning)
-    by (inl one) = rw one (seconds (p .ondelay) (f .ondelay) one, seconds (p .offdelay) (f .offdelay) one, seconds (p .timedon) (f .timedon) one, seconds (p .prewarning) (f .prewarning) one)
-    by (inr two) = rw two (what-is-written-is-read (p .ondelay) [], what-is-written-is-read (p .offdelay) [], what-is-written-is-read (p .timedon) [], what-is-written-is-read (p .prewarning) [])
+    by : HasVersion (p .version) → TimesBack (formOf (p .version)) p
+    by (inl one) = unfold delay timeAt in rw one (λ later. (seconds (p .ondelay) (f .ondelay) one, seconds (p .offdelay) (f .offdelay) one, seconds (p .timedon) (f .timedon) one, seconds (p .prewarning) (f .prewarning) one))
+    by (inr two) = rw two (tenths-back 2 p)
 
-learning-back : (b : Bool) → eqb (cond b 1 0) 1 ≡ b
-learning-back true = refl
-learning-back false = refl
+-- a bit, as octet
+pub bit-back : (b : Bool) → eqb (cond b 1 0) 1 ≡ b
+bit-back true = refl
+bit-back false = refl
 
-flags-back : (value taught : Bool) →
+pub flags-back : (value taught : Bool) →
     (eqb ((cond value 1 0 + cond taught 2 0) % 2) 1 ≡ value) × (eqb ((cond value 1 0 + cond taught 2 0) / 2 % 2) 1 ≡ taught) × (cond value 1 0 + cond taught 2 0 ≤ 3)
 flags-back true true = (refl, refl, omega arith)
 flags-back true false = (refl, refl, omega arith)
@@ -191,6 +215,70 @@ entry-octets (e ∷ later) (suc n) within =
     let flags : 2 * suc n + 1 ≡ suc (suc (2 * n + 1)) = omega arith in
     let rest = entry-octets later n (omega arith) in
     (rw number (rest .0), rw flags (rest .1))
+
+-- the four times take the octets before the modes
+times-length : (s : Scale) (p : Params) → length (timesOctets s p) ≡ width s * 4
+unfolding octets32
+times-length Seconds p = refl
+times-length Tenths p = refl
+
+-- an entry takes two
+pub scenes-length : (k : List Scene) → length (scenesOctets k) ≡ 2 * length k
+scenes-length [] = refl
+scenes-length (e ∷ later) = rw (scenes-length later) (omega arith)
+
+-- by any row
+module _ (f : Form) (p : Params) (k : List Scene) (eight : length k ≡ 8) where
+  abbrev octets : List ℕ
+  octets = parametersOctets f p k
+
+  pub parameters-length : length octets ≡ parametersSize f
+  parameters-length = length-append (timesOctets (f .scale) p) (modeOctets p ++ scenesOctets k) ∙ rw (times-length (f .scale) p, scenes-length k, eight) (omega arith)
+
+  pub behind-times : (m : ℕ) → octet octets (modesAt f + m) ≡ octet (modeOctets p ++ scenesOctets k) m
+  behind-times m = rw (← times-length (f .scale) p) (getD-append-add (timesOctets (f .scale) p) (modeOctets p ++ scenesOctets k) m 0)
+
+  behind-modes : (m : ℕ) → octet octets (scenesAt f + m) ≡ octet (scenesOctets k) m
+  behind-modes m =
+      let place : scenesAt f + m ≡ modesAt f + (8 + m) = omega arith in
+      rw place (behind-times (8 + m) ∙ getD-append-add (modeOctets p) (scenesOctets k) m 0)
+
+  pub number-at : (n : ℕ) → n < 8 → octet octets (scenePlace f n) ≡ entry k n .number
+  number-at n within = behind-modes (2 * n) ∙ entry-octets k n (omega arith) .0
+
+  pub flags-at : (n : ℕ) → n < 8 → octet octets (flagsPlace f n) ≡ flagsOctet (entry k n)
+  flags-at n within =
+      let place : flagsPlace f n ≡ scenesAt f + (2 * n + 1) = omega arith in
+      rw place (behind-modes (2 * n + 1) ∙ entry-octets k n (omega arith) .1)
+
+  scene-back : (n : ℕ) → n < 8 → sceneAt octets (scenePlace f n) ≡ entry k n
+  unfolding sceneAt
+  scene-back n within =
+      let place : scenePlace f n + 1 ≡ flagsPlace f n = omega arith in
+      let flags = flags-back (entry k n .value) (entry k n .taught) in
+      rw (place, number-at n within, flags-at n within, flags .0, flags .1)
+
+  scenes-back : (left n : ℕ) → n + left ≡ 8 → entries f octets left n ≡ drop n k
+  unfolding entries
+  scenes-back zero n end =
+      let all : n ≡ length k = omega arith in
+      rw all (sym (drop-length k))
+  scenes-back (suc left) n end =
+      let next : n + 1 ≡ suc n = omega arith in
+      rw (scene-back n (omega arith), scenes-back left (n + 1) (omega arith), next) (sym (drop-cons k n unused (omega arith)))
+
+  params-back : f .version ≡ p .version → TimesBack f p → paramsOf f octets ≡ p
+  unfolding paramsOf
+  params-back own back =
+      let first : modesAt f + 0 ≡ modesAt f = omega arith in
+      let times = back (modeOctets p ++ scenesOctets k) in
+      rw (times .0, times .1, times .2, times .3, rw first at (behind-times 0), behind-times 1, behind-times 2, behind-times 3, behind-times 4, behind-times 5, bit-back (p .learning), own)
+
+  pub read-back-by-a-row : f .version ≡ p .version → TimesBack f p → (paramsOf f octets ≡ p) × (scenesOf f octets ≡ k)
+  unfolding scenesOf entries
+  read-back-by-a-row own back = (params-back own back, scenes-back 8 0 refl)
+
+-- ---- and accepted, by the row of its version
 
 -- each mode is at most the greatest of its octet
 modes-within : (p : Params) → ParamsFit p → (later : List ℕ) (m : ℕ) → m < 8 → ltb (getD greatest m 0) (octet (modeOctets p ++ later) m) ≡ false
@@ -211,12 +299,6 @@ unfolding numberAbove
 new-number f octets number zero none = refl
 new-number f octets number (suc n) none = simp (ne-eqb (octet octets (scenePlace f n)) number (none n (omega arith)), new-number f octets number n (λ m before. none m (omega arith)))
 
--- the four times take the octets before the modes
-times-length : (s : Scale) (p : Params) → length (timesOctets s p) ≡ width s * 4
-unfolding octets32
-times-length Seconds p = refl
-times-length Tenths p = refl
-
 module _ (p : Params) (k : List Scene) (fit : ParamsFit p) (g : ScenesFit k) (eight : length k ≡ 8) where
   abbrev f : Form
   f = formOf (p .version)
@@ -224,39 +306,26 @@ module _ (p : Params) (k : List Scene) (fit : ParamsFit p) (g : ScenesFit k) (ei
   abbrev written : List ℕ
   written = parametersOctets f p k
 
-  behind-times : (m : ℕ) → octet written (modesAt f + m) ≡ octet (modeOctets p ++ scenesOctets k) m
-  behind-times m = rw (← times-length (f .scale) p) (getD-append-add (timesOctets (f .scale) p) (modeOctets p ++ scenesOctets k) m 0)
-
-  behind-modes : (m : ℕ) → octet written (scenesAt f + m) ≡ octet (scenesOctets k) m
-  behind-modes m =
-      let place : scenesAt f + m ≡ modesAt f + (8 + m) = omega arith in
-      rw place (behind-times (8 + m) ∙ getD-append-add (modeOctets p) (scenesOctets k) m 0)
-
-  number-at : (n : ℕ) → n < 8 → octet written (scenePlace f n) ≡ entry k n .number
-  number-at n within = behind-modes (2 * n) ∙ entry-octets k n (omega arith) .0
-
-  flags-at : (n : ℕ) → n < 8 → octet written (flagsPlace f n) ≡ flagsOctet (entry k n)
-  flags-at n within =
-      let place : flagsPlace f n ≡ scenesAt f + (2 * n + 1) = omega arith in
-      rw place (behind-modes (2 * n + 1) ∙ entry-octets k n (omega arith) .1)
-
   times : (delay f written 0 ≡ p .ondelay) × (delay f written 1 ≡ p .offdelay) × (delay f written 2 ≡ p .timedon) × (delay f written 3 ≡ p .prewarning)
-  times = times-back p (modeOctets p ++ scenesOctets k) fit
+  times = times-back p fit (modeOctets p ++ scenesOctets k)
+
+  abbrev number : (n : ℕ) → n < 8 → octet written (scenePlace f n) ≡ entry k n .number
+  number = number-at f p k eight
 
   number-good : (n : ℕ) → n < 8 → badNumber f written n ≡ false
   unfolding badNumber
   number-good n within =
-      rw (number-at n within)
+      rw (number n within)
       (⊎-elim
       (λ few. rw (le-leb (entry k n .number) 63 few) (new-number f written (entry k n .number) n
-      (λ m before same. omega (arith, few, g .distinct m n before (sym (number-at m (omega arith)) ∙ same)))))
+      (λ m before same. omega (arith, few, g .distinct m n before (sym (number m (omega arith)) ∙ same)))))
       (λ none. rw (none .0))
       (g .entries n))
 
   flags-good : (n : ℕ) → n < 8 → badFlags f written n ≡ false
   unfolding badFlags
   flags-good n within =
-      rw (number-at n within, flags-at n within)
+      rw (number n within, flags-at f p k eight n within)
       (⊎-elim
       (λ few. rw (ne-eqb (entry k n .number) 255 (λ e. omega arith)) (le-ltb _ _ (flags-back (entry k n .value) (entry k n .taught) .2)))
       (λ none. rw (none .0, none .1, none .2))
@@ -271,43 +340,16 @@ module _ (p : Params) (k : List Scene) (fit : ParamsFit p) (g : ScenesFit k) (ei
   time-good (suc (suc (suc (suc n)))) within = absurd (omega arith)
 
   mode-good : (m : ℕ) → m < 8 → badOctet f written (modesAt f + m) ≡ false
-  mode-good m within = mode-octet f written m within ∙ rw (behind-times m) (modes-within p fit (scenesOctets k) m within)
-
-  scene-back : (n : ℕ) → n < 8 → sceneAt written (scenePlace f n) ≡ entry k n
-  unfolding sceneAt
-  scene-back n within =
-      let place : scenePlace f n + 1 ≡ flagsPlace f n = omega arith in
-      let flags = flags-back (entry k n .value) (entry k n .taught) in
-      rw (place, number-at n within, flags-at n within, flags .0, flags .1)
-
-  scenes-back : (left n : ℕ) → n + left ≡ 8 → entries f written left n ≡ drop n k
-  unfolding entries
-  scenes-back zero n end =
-      let all : n ≡ length k = omega arith in
-      rw all (sym (drop-length k))
-  scenes-back (suc left) n end =
-      let next : n + 1 ≡ suc n = omega arith in
-      rw (scene-back n (omega arith), scenes-back left (n + 1) (omega arith), next) (sym (drop-cons k n unused (omega arith)))
-
-  length-as-written : (l : List Scene) → length (scenesOctets l) ≡ 2 * length l
-  length-as-written [] = refl
-  length-as-written (e ∷ later) = rw (length-as-written later) (omega arith)
+  mode-good m within = mode-octet f written m within ∙ rw (behind-times f p k eight m) (modes-within p fit (scenesOctets k) m within)
 
   -- parameters and a table in range, written as 01 and 02 say, are accepted and read back as themselves
   pub written-is-accepted : checkParameters f written ≡ Passed
   written-is-accepted =
       lowest-bad-octet f written Passed .1
-      record { whole = length-append (timesOctets (f .scale) p) (modeOctets p ++ scenesOctets k) ∙ rw (times-length (f .scale) p, length-as-written k, eight) (omega arith); good = every-octet-good f written time-good mode-good number-good flags-good }
-
-  params-back : paramsOf f written ≡ p
-  unfolding paramsOf
-  params-back =
-      let first : modesAt f + 0 ≡ modesAt f = omega arith in
-      rw (times .0, times .1, times .2, times .3, rw first at (behind-times 0), behind-times 1, behind-times 2, behind-times 3, behind-times 4, behind-times 5, learning-back (p .learning), own-row (p .version) (fit .version))
+      record { whole = parameters-length f p k eight; good = every-octet-good f written time-good mode-good number-good flags-good }
 
   pub written-is-read-back : (paramsOf f written ≡ p) × (scenesOf f written ≡ k)
-  unfolding paramsOf scenesOf entries
-  written-is-read-back = (params-back, scenes-back 8 0 refl)
+  written-is-read-back = read-back-by-a-row f p k eight (own-row (p .version) (fit .version)) (times-back p fit)
 
 -- ---- the header and a stamp
 

@@ -1,5 +1,5 @@
 -- What a cue file is refused for, exactly; and what an accepted one says.
-use Prim.Native.Nat.{ℕ, suc, _+_, _≤_, _<_}
+use Prim.Native.Nat.{ℕ, suc, _+_, _*_, _≤_, _<_}
 use mathlib.Core.Bool.{Bool, true, false, cond, _&&_}
 use mathlib.Core.List.{List, _∷_}
 use mathlib.Core.Logic.{_↔_, inl, inr, ⊎-elim}
@@ -24,10 +24,10 @@ use Rattle.rules.specs.Inputs.{inputAt}
 use Rattle.octets.specs.Groups.{stampAt}
 use Rattle.rules.specs.Lists.{Cue, cue}
 use Rattle.rules.specs.Parameters.{checkParameters}
-use Rattle.rules.specs.Layout.{parametersSize, formAlone, inputsAt, inputPlace}
+use Rattle.rules.specs.Layout.{parametersSize, formAlone, inputsAt, inputPlace, fileSize}
 use Rattle.rules.specs.Readings.{cues, bad, verdict, found, readInputs}
 use Rattle.rules.specs.Forms.{isVersion, version, formIn, HasVersion}
-use Rattle.rules.specs.Files.{actuators, parametersOffset, inputCount, inputsOffset, endTime, parametersIn, layoutRight, checkRest, checkStart, stamped, cueAt, readFile}
+use Rattle.rules.specs.Files.{actuators, parametersOffset, inputCount, inputsOffset, endTime, parametersIn, layoutRight, checkRest, checkStart, inputsIn, stamped, cueAt, cuesRead, readFile}
 use Rattle.rules.specs.Refusals.{LongEnough, FoundWhen, GoodLayout, GoodHeader, GoodStart, StartWhen, GivenWhen, GoodFile}
 use Rattle.base.proofs.Tests.{no, both, cond-case, either-way}
 use Rattle.base.proofs.Codes.{then-decides}
@@ -61,7 +61,7 @@ layout-good file g =
       le-leb (inputCount file) 2048 (g .few),
       eq-eqb (inputsOffset file) (inputsAt (formIn file)) (g .inputs),
       le-leb (endTime file) 864_000 (g .end),
-      eq-eqb (length file) (inputPlace file (inputCount file)) (g .whole),
+      eq-eqb (length file) (fileSize (formIn file) (inputCount file)) (g .whole),
     )
 
 -- and fails exactly when it is not
@@ -114,12 +114,12 @@ module _ (file : List ℕ) where
   pub good-start-passes : GoodStart file → checkStart file ≡ Passed
   good-start-passes s = good-header (s .header) ∙ s .passed
 
-  pub good-start : GoodStart file → readFile file ≡ readInputs (cueAt file) file (inputCount file) 0 0 (endTime file)
+  pub good-start : GoodStart file → readFile file ≡ cuesRead file
   unfolding readFile
   good-start s = rw (good-start-passes s)
 
   -- a good start leaves the verdict to the inputs, a bad one decides it
-  pub file-passes : GoodStart file → verdict (readFile file) ≡ verdict (readInputs (cueAt file) file (inputCount file) 0 0 (endTime file))
+  pub file-passes : GoodStart file → verdict (readFile file) ≡ verdict (cuesRead file)
   file-passes s = ap verdict (good-start s)
 
   pub file-stops : (why : Refusal) (place : ℕ) → checkStart file ≡ Refused why place → verdict (readFile file) ≡ Refused why place
@@ -134,6 +134,11 @@ parameters-whole file long = length-take (parametersSize (formIn file)) (drop 20
 -- and told by their octets alone they have the file's own row
 pub told-in-a-file : (file : List ℕ) → inputsAt (formIn file) ≤ length file → formAlone (parametersIn file) ≡ formIn file
 told-in-a-file file long = unfold formIn in told-by-size (version file) (parametersIn file) (parameters-whole file long)
+
+-- "The file is exactly 52+8n octets.": its inputs are 8n of them
+pub inputs-whole : (file : List ℕ) → GoodLayout file → length (inputsIn file) ≡ 8 * inputCount file
+unfolding inputsIn
+inputs-whole file layout = length-drop (inputsAt (formIn file)) file ∙ omega (arith, layout .whole)
 
 -- ---- what stands before the inputs
 
@@ -190,8 +195,8 @@ start-decides file =
 pub file-decides : (file : List ℕ) → Decides (GivenWhen file) (GoodFile file) (verdict (readFile file))
 unfolding readFile
 file-decides file =
-    let parts = then-decides _ _ (start-decides file) (inputs-decide (cueAt file) file) in
-    let both-parts = rw (← verdict-after (checkStart file) (readInputs (cueAt file) file (inputCount file) 0 0 (endTime file))) at parts in
+    let parts = then-decides _ _ (start-decides file) (inputs-decide (cueAt (inputsIn file)) (inputsIn file) (inputCount file) 0 (endTime file)) in
+    let both-parts = rw (← verdict-after (checkStart file) (cuesRead file)) at parts in
     record {
       refused = both-parts .refused;
       passed = (λ e. let g = both-parts .passed .0 e in record { start = g .0; good = g .1 }, λ g. both-parts .passed .1 (g .start, g .good));
@@ -211,32 +216,32 @@ pub accepted-exactly-when : (file : List ℕ) → ((list : List Cue) × (readFil
 accepted-exactly-when file = (λ r. good-file file (r .0) (r .1), λ g. let e = file-decides file .passed .1 g in (found (readFile file), good-read (readFile file) e))
 
 -- the cues are the inputs of the file, as many and in their order, each with its own stamp
-pub cues-are-the-octets : (file : List ℕ) (list : List Cue) → readFile file ≡ cues list → (length list ≡ inputCount file) × ((j : ℕ) → j < inputCount file → getElem? list j ≡ cueAt file j)
-cues-are-the-octets file list e = list-is-the-inputs (cueAt file) file list (sym (good-start file (good-file file list e .start)) ∙ e)
+pub cues-are-the-octets : (file : List ℕ) (list : List Cue) → readFile file ≡ cues list → (length list ≡ inputCount file) × ((j : ℕ) → j < inputCount file → getElem? list j ≡ cueAt (inputsIn file) j)
+cues-are-the-octets file list e = list-is-the-inputs (cueAt (inputsIn file)) (inputsIn file) (inputCount file) 0 (endTime file) list (sym (good-start file (good-file file list e .start)) ∙ e)
 
--- what a cue of a file is made of
-pub cue-said : (file : List ℕ) (i : ℕ) (c : Cue) → cueAt file i ≡ some c → (x : Input) × (inputAt file (inputPlace file i) ≡ Meant x) × (c ≡ cue (stampAt file (inputPlace file i)) x)
+-- what a cue of a list is made of
+pub cue-said : (inputs : List ℕ) (i : ℕ) (c : Cue) → cueAt inputs i ≡ some c → (x : Input) × (inputAt inputs (inputPlace i) ≡ Meant x) × (c ≡ cue (stampAt inputs (inputPlace i)) x)
 unfolding cueAt
-cue-said file i c e = by (inputAt file (inputPlace file i)) refl e
+cue-said inputs i c e = by (inputAt inputs (inputPlace i)) refl e
   where
-    by : (d : Decoded) → inputAt file (inputPlace file i) ≡ d → stamped (stampAt file (inputPlace file i)) d ≡ some c → (x : Input) × (inputAt file (inputPlace file i) ≡ Meant x) × (c ≡ cue (stampAt file (inputPlace file i)) x)
+    by : (d : Decoded) → inputAt inputs (inputPlace i) ≡ d → stamped (stampAt inputs (inputPlace i)) d ≡ some c → (x : Input) × (inputAt inputs (inputPlace i) ≡ Meant x) × (c ≡ cue (stampAt inputs (inputPlace i)) x)
     by (Meant x) m e = (x, m, cc)
     by Wrong m e = absurd (let z : _≡_ {A = ℕ} 0 1 = cc in omega arith)
 
 -- the first cue of a list that is read without fault
-pub record FirstCue (file : List ℕ) (left i last end : ℕ) (list : List Cue) : Type 0 where
+pub record FirstCue (inputs : List ℕ) (left i last end : ℕ) (list : List Cue) : Type 0 where
   pub input : Input
   pub later : List Cue
-  pub meant : inputAt file (inputPlace file i) ≡ Meant input
-  pub risen : last ≤ stampAt file (inputPlace file i)
-  pub timely : stampAt file (inputPlace file i) ≤ end
-  pub starts : list ≡ cue (stampAt file (inputPlace file i)) input ∷ later
-  pub reads : readInputs (cueAt file) file left (i + 1) (stampAt file (inputPlace file i)) end ≡ cues later
+  pub meant : inputAt inputs (inputPlace i) ≡ Meant input
+  pub risen : last ≤ stampAt inputs (inputPlace i)
+  pub timely : stampAt inputs (inputPlace i) ≤ end
+  pub starts : list ≡ cue (stampAt inputs (inputPlace i)) input ∷ later
+  pub reads : readInputs (cueAt inputs) inputs left (i + 1) (stampAt inputs (inputPlace i)) end ≡ cues later
 
-pub first-cue : (file : List ℕ) (left i last end : ℕ) (list : List Cue) → readInputs (cueAt file) file (suc left) i last end ≡ cues list → FirstCue file left i last end list
-first-cue file left i last end list e =
-    let f = first-read (cueAt file) file left i last end list e in
-    let c = cue-said file i (f .input) (f .means) in
+pub first-cue : (inputs : List ℕ) (left i last end : ℕ) (list : List Cue) → readInputs (cueAt inputs) inputs (suc left) i last end ≡ cues list → FirstCue inputs left i last end list
+first-cue inputs left i last end list e =
+    let f = first-read (cueAt inputs) inputs left i last end list e in
+    let c = cue-said inputs i (f .input) (f .means) in
     record { input = c .0; later = f .later; meant = c .1; risen = f .risen; timely = f .timely; starts = f .starts ∙ ap (λ (x : Cue). x ∷ f .later) (c .2); reads = f .reads }
 
 -- "offset of parameters (20)": they are the octets from there on

@@ -19,7 +19,6 @@ use Rattle.base.specs.declared.refusal.Check.{Check}
 use Rattle.base.specs.declared.refusal.Check.the-variants.{Passed, Refused}
 use Rattle.base.specs.Refusals.{orElse, Decides}
 use Rattle.rules.specs.Layout.{inputPlace}
-use Rattle.rules.specs.Files.{inputCount, endTime}
 use Rattle.rules.specs.Readings.{Reading, cues, bad, verdict, found, before, readOne, readInputs, afterCheck, ifLentEnough}
 use Rattle.rules.specs.Refusals.{stampBefore, GoodInput, GoodInputs, InputsWhen}
 use Rattle.base.proofs.Tests.{both, cond-case}
@@ -58,8 +57,8 @@ not-in-range low stamp high (inl below) = simp (lt-leb low stamp below)
 not-in-range low stamp high (inr above) = simp (lt-leb stamp high above, and-false)
 
 -- the stamp before the next input is this one's
-next-stamp : (file : List ℕ) (i : ℕ) → stampBefore file (i + 1) ≡ stampAt file (inputPlace file i)
-next-stamp file i = rw (add-one i)
+next-stamp : (inputs : List ℕ) (from i : ℕ) → stampBefore inputs from (i + 1) ≡ stampAt inputs (inputPlace i)
+next-stamp inputs from i = rw (add-one i)
 
 -- a list that is read after its first
 after-first : {A : Type 0} (x : A) (r : Reading A) (list : List A) → before x r ≡ cues list → (later : List A) × (list ≡ x ∷ later) × (r ≡ cues later)
@@ -67,26 +66,26 @@ after-first x (cues later) list e = (later, cc, refl)
 after-first x (bad why place) list e = absurd (let z : _≡_ {A = ℕ} 0 1 = cc in omega arith)
 
 -- the list starts with the input at index i, whose stamp is in order; the rest of it is read from there on
-pub record First {A : Type 0} (at : ℕ → Option A) (file : List ℕ) (left i last end : ℕ) (list : List A) : Type 0 where
+pub record First {A : Type 0} (at : ℕ → Option A) (inputs : List ℕ) (left i last end : ℕ) (list : List A) : Type 0 where
   pub input : A
   pub later : List A
   pub means : at i ≡ some input
-  pub risen : last ≤ stampAt file (inputPlace file i)
-  pub timely : stampAt file (inputPlace file i) ≤ end
+  pub risen : last ≤ stampAt inputs (inputPlace i)
+  pub timely : stampAt inputs (inputPlace i) ≤ end
   pub starts : list ≡ input ∷ later
-  pub reads : readInputs at file left (i + 1) (stampAt file (inputPlace file i)) end ≡ cues later
+  pub reads : readInputs at inputs left (i + 1) (stampAt inputs (inputPlace i)) end ≡ cues later
 
-pub first-read : {A : Type 0} (at : ℕ → Option A) (file : List ℕ) (left i last end : ℕ) (list : List A) → readInputs at file (suc left) i last end ≡ cues list → First at file left i last end list
+pub first-read : {A : Type 0} (at : ℕ → Option A) (inputs : List ℕ) (left i last end : ℕ) (list : List A) → readInputs at inputs (suc left) i last end ≡ cues list → First at inputs left i last end list
 unfolding readInputs
-first-read {A} at file left i last end list e = by (at i) refl e
+first-read {A} at inputs left i last end list e = by (at i) refl e
   where
     later : Reading A
-    later = readInputs at file left (i + 1) (stampAt file (inputPlace file i)) end
+    later = readInputs at inputs left (i + 1) (stampAt inputs (inputPlace i)) end
 
-    timed : (x : A) (b : Bool) → at i ≡ some x → (leb last (stampAt file (inputPlace file i)) && leb (stampAt file (inputPlace file i)) end) ≡ b
-        → cond b (before x later) (bad BadStamp i) ≡ cues list → First at file left i last end list
+    timed : (x : A) (b : Bool) → at i ≡ some x → (leb last (stampAt inputs (inputPlace i)) && leb (stampAt inputs (inputPlace i)) end) ≡ b
+        → cond b (before x later) (bad BadStamp i) ≡ cues list → First at inputs left i last end list
     timed x true m t r =
-        let order = both (leb last (stampAt file (inputPlace file i))) (leb (stampAt file (inputPlace file i)) end) t in
+        let order = both (leb last (stampAt inputs (inputPlace i))) (leb (stampAt inputs (inputPlace i)) end) t in
         let rest = after-first x later list r in
         record {
           input = x;
@@ -99,17 +98,28 @@ first-read {A} at file left i last end list e = by (at i) refl e
         }
     timed x false m t r = absurd (let z : _≡_ {A = ℕ} 0 1 = cc in omega arith)
 
-    by : (d : Option A) → at i ≡ d → readOne d (stampAt file (inputPlace file i)) last end i later ≡ cues list → First at file left i last end list
+    by : (d : Option A) → at i ≡ d → readOne d (stampAt inputs (inputPlace i)) last end i later ≡ cues list → First at inputs left i last end list
     by none m r = absurd (let z : _≡_ {A = ℕ} 0 1 = unfold readOne in cc in omega arith)
     by (some x) m r = unfold readOne in timed x _ m refl r
 
-module _ {A : Type 0} (at : ℕ → Option A) (file : List ℕ) where
+-- what is read without fault up to an end is read the same up to a later one
+pub read-for-longer : {A : Type 0} (at : ℕ → Option A) (inputs : List ℕ) (left i last end longer : ℕ) (list : List A) → end ≤ longer → readInputs at inputs left i last end ≡ cues list → readInputs at inputs left i last longer ≡ cues list
+unfolding readInputs readOne
+read-for-longer at inputs zero i last end longer list later e = e
+read-for-longer at inputs (suc left) i last end longer list later e =
+    let f = first-read at inputs left i last end list e in
+    let t : ℕ = stampAt inputs (inputPlace i) in
+    let rest = read-for-longer at inputs left (i + 1) t end longer (f .later) later (f .reads) in
+    let whole : readInputs at inputs (suc left) i last longer ≡ cues (f .input ∷ f .later) = rw (f .means, le-leb last t (f .risen), le-leb t longer (omega (arith, f .timely, later)), rest) refl in
+    whole ∙ ap cues (sym (f .starts))
+
+module _ {A : Type 0} (at : ℕ → Option A) (inputs : List ℕ) (n from to : ℕ) where
   -- ---- the answer given fits
 
   -- what a reading says about the inputs
   abbrev Said : Reading A → Type 0
-  Said (cues list) = GoodInputs at file
-  Said (bad why place) = InputsWhen at file why place
+  Said (cues list) = GoodInputs at inputs n from to
+  Said (bad why place) = InputsWhen at inputs n from to why place
 
   -- an input put before a reading changes nothing of that
   before-said : (x : A) (later : Reading A) → Said later → Said (before x later)
@@ -117,60 +127,60 @@ module _ {A : Type 0} (at : ℕ → Option A) (file : List ℕ) where
   before-said x (bad why place) g = g
 
   -- one input, when those before it are good: it is refused, or good itself
-  one-said : (i : ℕ) → i < inputCount file → ((j : ℕ) → j < i → GoodInput at file j) → (later : Reading A) → (GoodInput at file i → Said later) →
-      Said (readOne (at i) (stampAt file (inputPlace file i)) (stampBefore file i) (endTime file) i later)
+  one-said : (i : ℕ) → i < n → ((j : ℕ) → j < i → GoodInput at inputs from to j) → (later : Reading A) → (GoodInput at inputs from to i → Said later) →
+      Said (readOne (at i) (stampAt inputs (inputPlace i)) (stampBefore inputs from i) to i later)
   one-said i within good later next = by (at i) refl
     where
-      by : (d : Option A) → at i ≡ d → Said (readOne d (stampAt file (inputPlace file i)) (stampBefore file i) (endTime file) i later)
+      by : (d : Option A) → at i ≡ d → Said (readOne d (stampAt inputs (inputPlace i)) (stampBefore inputs from i) to i later)
       by none e = unfold readOne in record { within = within; wrong = e; good = good }
       by (some x) e =
           unfold readOne in
-          cond-case Said (leb (stampBefore file i) (stampAt file (inputPlace file i)) && leb (stampAt file (inputPlace file i)) (endTime file))
+          cond-case Said (leb (stampBefore inputs from i) (stampAt inputs (inputPlace i)) && leb (stampAt inputs (inputPlace i)) to)
           (before x later) (bad BadStamp i)
-          (λ h. let t = both (leb (stampBefore file i) (stampAt file (inputPlace file i))) _ h in
+          (λ h. let t = both (leb (stampBefore inputs from i) (stampAt inputs (inputPlace i))) _ h in
           before-said x later (next (record { input = x; means = e; risen = leb-true _ _ (t .0); timely = leb-true _ _ (t .1) })))
           (λ h. record { within = within; input = x; means = e; untimely = out-of-range _ _ _ h; good = good })
 
   -- from an input on, when those before it are good: one turn refuses, or hands on to the next
-  inputs-said : (left i : ℕ) → i + left ≡ inputCount file → ((j : ℕ) → j < i → GoodInput at file j) → Said (readInputs at file left i (stampBefore file i) (endTime file))
+  inputs-said : (left i : ℕ) → i + left ≡ n → ((j : ℕ) → j < i → GoodInput at inputs from to j) → Said (readInputs at inputs left i (stampBefore inputs from i) to)
   unfolding readInputs
   inputs-said zero i all good = λ j within. good j (omega arith)
   inputs-said (suc left) i all good =
-      one-said i (omega arith) good _ (λ here. rw (next-stamp file i) at (inputs-said left (i + 1) (omega arith) (below-more (GoodInput at file) i good here)))
+      one-said i (omega arith) good _ (λ here. rw (next-stamp inputs from i) at (inputs-said left (i + 1) (omega arith) (below-more (GoodInput at inputs from to) i good here)))
 
   -- ---- and what fits is the answer given
 
   -- a good input is put before what is read after it
-  one-read : (i : ℕ) (g : GoodInput at file i) (later : Reading A) → readOne (at i) (stampAt file (inputPlace file i)) (stampBefore file i) (endTime file) i later ≡ before (g .input) later
+  one-read : (i : ℕ) (g : GoodInput at inputs from to i) (later : Reading A) → readOne (at i) (stampAt inputs (inputPlace i)) (stampBefore inputs from i) to i later ≡ before (g .input) later
   unfolding readOne
-  one-read i g later = simp (g .means, le-leb (stampBefore file i) (stampAt file (inputPlace file i)) (g .risen), le-leb (stampAt file (inputPlace file i)) (endTime file) (g .timely))
+  one-read i g later = simp (g .means, le-leb (stampBefore inputs from i) (stampAt inputs (inputPlace i)) (g .risen), le-leb (stampAt inputs (inputPlace i)) to (g .timely))
 
   -- so the reading comes as far as the first input that is not good, and ends with it
-  first-ends : (why : Refusal) (place left i : ℕ) → i ≤ place → place < i + left → ((j : ℕ) → j < place → GoodInput at file j) →
-      ((later : Reading A) → readOne (at place) (stampAt file (inputPlace file place)) (stampBefore file place) (endTime file) place later ≡ bad why place) →
-      readInputs at file left i (stampBefore file i) (endTime file) ≡ bad why place
+  first-ends : (why : Refusal) (place left i : ℕ) → i ≤ place → place < i + left → ((j : ℕ) → j < place → GoodInput at inputs from to j) →
+      ((later : Reading A) → readOne (at place) (stampAt inputs (inputPlace place)) (stampBefore inputs from place) to place later ≡ bad why place) →
+      readInputs at inputs left i (stampBefore inputs from i) to ≡ bad why place
   unfolding readInputs
   first-ends why place zero i reached within good ends = absurd (omega arith)
   first-ends why place (suc left) i reached within good ends =
       elim (eq-or-lt-of-le reached) [
         | inl same ↦ rw same (ends _)
-        | inr less ↦ one-read i (good i less) _ ∙ rw (rw (next-stamp file i) at (first-ends why place left (i + 1) (omega arith) (omega arith) good ends))
+        | inr less ↦ one-read i (good i less) _ ∙ rw (rw (next-stamp inputs from i) at (first-ends why place left (i + 1) (omega arith) (omega arith) good ends))
       ]
 
-  ends : (why : Refusal) (place : ℕ) → InputsWhen at file why place → readInputs at file (inputCount file) 0 0 (endTime file) ≡ bad why place
+  ends : (why : Refusal) (place : ℕ) → InputsWhen at inputs n from to why place → readInputs at inputs n 0 from to ≡ bad why place
   -- an input that means nothing ends it, whatever its stamp is
-  ends BadInput place g = first-ends BadInput place (inputCount file) 0 (omega arith) (omega (arith, g .within)) (g .good) (λ later. unfold readOne in rw (g .wrong))
+  ends BadInput place g = first-ends BadInput place n 0 (omega arith) (omega (arith, g .within)) (g .good) (λ later. unfold readOne in rw (g .wrong))
   -- one that means something is ended by its stamp alone
   ends BadStamp place g =
-      first-ends BadStamp place (inputCount file) 0 (omega arith) (omega (arith, g .within)) (g .good) (λ later. unfold readOne in rw (g .means, not-in-range _ _ _ (g .untimely)))
+      first-ends BadStamp place n 0 (omega arith) (omega (arith, g .within)) (g .good) (λ later. unfold readOne in rw (g .means, not-in-range _ _ _ (g .untimely)))
 
-  -- these many of a list, from index i of the file on
+  -- these many of a list, from index i on
   record SaysFrom (i left : ℕ) (list : List A) : Type 0 where
     count : length list ≡ left
     each : (k : ℕ) → k < left → getElem? list k ≡ at (i + k)
 
   -- one input more, at the head
-  says-more : (i left : ℕ) (list : List A) (g : GoodInput at file i) → SaysFrom (i + 1) left list → SaysFrom i (suc left) (g .input ∷ list)
+  says-more : (i left : ℕ) (list : List A) (g : GoodInput at inputs from to i) → SaysFrom (i + 1) left list → SaysFrom i (suc left) (g .input ∷ list)
   says-more i left list g s = record { count = ap suc (s .count); each = by }
     where
       by : (k : ℕ) → k < suc left → getElem? (g .input ∷ list) k ≡ at (i + k)
@@ -178,34 +188,34 @@ module _ {A : Type 0} (at : ℕ → Option A) (file : List ℕ) where
       by (suc k) within = let e : i + suc k ≡ i + 1 + k = omega arith in rw e (s .each k (omega arith))
 
   -- from an input on, good ones are all read
-  all-read : GoodInputs at file → (left i : ℕ) → i + left ≡ inputCount file → (list : List A) × (readInputs at file left i (stampBefore file i) (endTime file) ≡ cues list) × SaysFrom i left list
+  all-read : GoodInputs at inputs n from to → (left i : ℕ) → i + left ≡ n → (list : List A) × (readInputs at inputs left i (stampBefore inputs from i) to ≡ cues list) × SaysFrom i left list
   unfolding readInputs
   all-read g zero i all = ([], refl, record { count = refl; each = λ k within. absurd (omega arith) })
   all-read g (suc left) i all =
       let here = g i (omega arith) in
       let later = all-read g left (i + 1) (omega arith) in
-      (here .input ∷ later .0, one-read i here _ ∙ rw (rw (next-stamp file i) at (later .1)), says-more i left (later .0) here (later .2))
+      (here .input ∷ later .0, one-read i here _ ∙ rw (rw (next-stamp inputs from i) at (later .1)), says-more i left (later .0) here (later .2))
 
   -- ---- both ways
 
   abbrev all : Reading A
-  all = readInputs at file (inputCount file) 0 0 (endTime file)
+  all = readInputs at inputs n 0 from to
 
   said : Said all
-  said = inputs-said (inputCount file) 0 (omega arith) (below-none _)
+  said = inputs-said n 0 (omega arith) (below-none _)
 
-  pub inputs-decide : Decides (InputsWhen at file) (GoodInputs at file) (verdict all)
+  pub inputs-decide : Decides (InputsWhen at inputs n from to) (GoodInputs at inputs n from to) (verdict all)
   inputs-decide =
       record {
         refused = λ why p. (λ e. rw (bad-read all why p e) at said, λ g. ap verdict (ends why p g));
-        passed = (λ e. rw (good-read all e) at said, λ g. ap verdict (all-read g (inputCount file) 0 (omega arith) .1));
+        passed = (λ e. rw (good-read all e) at said, λ g. ap verdict (all-read g n 0 (omega arith) .1));
       }
 
   -- the list is what the inputs say, as many and in their order
-  pub list-is-the-inputs : (list : List A) → all ≡ cues list → (length list ≡ inputCount file) × ((j : ℕ) → j < inputCount file → getElem? list j ≡ at j)
+  pub list-is-the-inputs : (list : List A) → all ≡ cues list → (length list ≡ n) × ((j : ℕ) → j < n → getElem? list j ≡ at j)
   list-is-the-inputs list e =
-      let good : GoodInputs at file = rw e at said in
-      let r = all-read good (inputCount file) 0 (omega arith) in
+      let good : GoodInputs at inputs n from to = rw e at said in
+      let r = all-read good n 0 (omega arith) in
       let same : r .0 ≡ list = cc in
       let s = rw same at (r .2) in
       (s .count, λ j within. let e : 0 + j ≡ j = omega arith in rw e at (s .each j within))

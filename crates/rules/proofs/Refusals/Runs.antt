@@ -1,7 +1,7 @@
 -- The run over a cue file: what it finds, what it writes, and how much.
 use Prim.Native.Nat.{ℕ, _+_, _*_, _≤_, _<_}
 use mathlib.Core.Bool.{Bool, true, false}
-use mathlib.Core.List.{List, [], _∷_, _++_}
+use mathlib.Core.List.{List, [], _∷_, _++_, append-assoc}
 use mathlib.Core.Logic.{_↔_, inl, inr}
 use mathlib.Core.Option.{Option}
 use mathlib.Core.Path.{_≡_, refl, _∙_}
@@ -21,7 +21,7 @@ use Rattle.base.specs.Refusals.{codeOf, placeOf}
 use Rattle.rules.specs.Calls.{ownState}
 use Rattle.rules.specs.Readings.{Reading, cues, bad, verdict, ifLentEnough}
 use Rattle.rules.specs.Forms.{formIn}
-use Rattle.rules.specs.Files.{inputCount, endTime, readFile, lentEnough, readCall, paramsIn, scenesIn}
+use Rattle.rules.specs.Files.{inputCount, endTime, readFile, lentFor, lentEnough, readCall, paramsIn, scenesIn}
 use Rattle.octets.specs.BigEndian.{octets32}
 use Rattle.rules.specs.Layout.{recordsRoom}
 use Rattle.rules.specs.Refusals.{StartWhen, InputsWhen, GivenWhen, RoomFor, RunCodes, TakenApart}
@@ -78,14 +78,17 @@ run-is-read file records answers = by (readCall file records answers)
     by (cues list) = unfold runBy accepted in (refl, refl)
     by (bad why place) = unfold runBy refused in (refl, refl)
 
+-- "records, at least 8(3n+3) octets, and answers, at least n"
+pub room-exactly-when : (n : ℕ) (records answers : List ℕ) → (lentFor n records answers ≡ true) ↔ RoomFor n records answers
+room-exactly-when n records answers = (
+  λ h. let e = both (leb (recordsRoom n) (length records)) _ h in record { wide = leb-true _ _ (e .0); long = leb-true _ _ (e .1) },
+  λ r. simp (le-leb (recordsRoom n) (length records) (r .wide), le-leb n (length answers) (r .long)),
+)
+
 module _ (file records answers : List ℕ) where
-  -- "records, at least 8(3n+3) octets, and answers, at least n"
   pub lent-enough-exactly-when : (lentEnough file records answers ≡ true) ↔ RoomFor (inputCount file) records answers
   unfolding lentEnough
-  lent-enough-exactly-when = (
-    λ h. let e = both (leb (recordsRoom (inputCount file)) (length records)) _ h in record { wide = leb-true _ _ (e .0); long = leb-true _ _ (e .1) },
-    λ r. simp (le-leb (recordsRoom (inputCount file)) (length records) (r .wide), le-leb (inputCount file) (length answers) (r .long)),
-  )
+  lent-enough-exactly-when = room-exactly-when (inputCount file) records answers
 
   -- "Given exactly when", of the run
   pub run-refused-exactly-when : RunCodes file records answers (runCall file records answers .report .code) (runCall file records answers .report .place)
@@ -138,6 +141,11 @@ unfolding recordsOctets recordOctets octets32
 records-length [] = refl
 records-length (r ∷ k) = rw length-append (omega (arith, records-length k))
 
+pub records-append : (k l : List Record) → recordsOctets (k ++ l) ≡ recordsOctets k ++ recordsOctets l
+unfolding recordsOctets
+records-append [] l = refl
+records-append (r ∷ k) l = rw (append-assoc, records-append k l)
+
 -- of a run that is accepted
 module _ (file records answers : List ℕ) (list : List Cue) (read : readFile file ≡ cues list) (room : lentEnough file records answers ≡ true) where
   -- one for the start, one for each change that playing shows, and never more than the buffer is asked to hold
@@ -181,13 +189,13 @@ narrow-start file WrongActuators p g = omega (arith, g .0)
 narrow-start file WrongLayout p g = omega (arith, g .0)
 narrow-start file BadParameter p g = omega (arith, g .1 .within, few-octets (formIn file .scale) .1)
 
-pub narrow-input : {A : Type 0} (at : ℕ → Option A) (file : List ℕ) (why : Refusal) (p : ℕ) → InputsWhen at file why p → p < inputCount file
-narrow-input at file BadInput p g = g .within
-narrow-input at file BadStamp p g = g .within
+pub narrow-input : {A : Type 0} (at : ℕ → Option A) (inputs : List ℕ) (n from to : ℕ) (why : Refusal) (p : ℕ) → InputsWhen at inputs n from to why p → p < n
+narrow-input at inputs n from to BadInput p g = g .within
+narrow-input at inputs n from to BadStamp p g = g .within
 
-narrow-place : (file : List ℕ) (why : Refusal) (p : ℕ) → GivenWhen file why p → p < 65_536
+pub narrow-place : (file : List ℕ) (why : Refusal) (p : ℕ) → GivenWhen file why p → p < 65_536
 narrow-place file why p (inl g) = narrow-start file why p g
-narrow-place file why p (inr g) = omega (arith, narrow-input _ file why p (g .1), g .0 .header .layout .few)
+narrow-place file why p (inr g) = omega (arith, narrow-input _ _ _ _ _ why p (g .1), g .0 .header .layout .few)
 
 pub the-number-is-taken-apart : (file records answers : List ℕ) → TakenApart (houseRun file records answers .number) (runCall file records answers .report)
 unfolding houseRun answeredBy
