@@ -1,4 +1,4 @@
--- One input of a file at a time: what the check's loop needs, and that it finds what reading the list finds.
+-- One input of a list at a time: what the check's loop needs, and that it finds what reading the list finds.
 use Prim.Native.Nat.{ℕ, zero, suc, _+_, _-_, _≤_, _<_}
 use mathlib.Core.Bool.{Bool, true, false, cond, _&&_, _||_}
 use mathlib.Core.List.{List}
@@ -40,37 +40,37 @@ one-decides (some x) stamp last end i later = by (leb last stamp && leb stamp en
     by false later = refl
 
 -- so the check finds what reading finds, where it knows what says something
-pub checked-as-read : {A : Type 0} (at : ℕ → Option A) (known : ℕ → Bool) → ((i : ℕ) → known i ≡ says (at i)) → (file : List ℕ) (left i last end : ℕ) →
-    checkInputs known file left i last end ≡ verdict (readInputs at file left i last end)
+pub checked-as-read : {A : Type 0} (at : ℕ → Option A) (known : ℕ → Bool) → ((i : ℕ) → known i ≡ says (at i)) → (inputs : List ℕ) (left i last end : ℕ) →
+    checkInputs known inputs left i last end ≡ verdict (readInputs at inputs left i last end)
 unfolding checkInputs readInputs
-checked-as-read at known same file zero i last end = refl
-checked-as-read at known same file (suc left) i last end =
-    ap (λ (b : Bool). orElse (checkOne b (stampAt file (inputPlace file i)) last end i) (checkInputs known file left (i + 1) (stampAt file (inputPlace file i)) end)) (same i)
-    ∙ ap (orElse (checkOne (says (at i)) (stampAt file (inputPlace file i)) last end i)) (checked-as-read at known same file left (i + 1) (stampAt file (inputPlace file i)) end)
-    ∙ sym (one-decides (at i) (stampAt file (inputPlace file i)) last end i (readInputs at file left (i + 1) (stampAt file (inputPlace file i)) end))
+checked-as-read at known same inputs zero i last end = refl
+checked-as-read at known same inputs (suc left) i last end =
+    ap (λ (b : Bool). orElse (checkOne b (stampAt inputs (inputPlace i)) last end i) (checkInputs known inputs left (i + 1) (stampAt inputs (inputPlace i)) end)) (same i)
+    ∙ ap (orElse (checkOne (says (at i)) (stampAt inputs (inputPlace i)) last end i)) (checked-as-read at known same inputs left (i + 1) (stampAt inputs (inputPlace i)) end)
+    ∙ sym (one-decides (at i) (stampAt inputs (inputPlace i)) last end i (readInputs at inputs left (i + 1) (stampAt inputs (inputPlace i)) end))
 
--- a cue file takes no edges
-pub known-says : (file : List ℕ) (i : ℕ) → knownAt false file i ≡ says (cueAt file i)
+-- a list of cues takes no edges
+pub known-says : (inputs : List ℕ) (i : ℕ) → knownAt false inputs i ≡ says (cueAt inputs i)
 unfolding isKnown cueAt
-known-says file i = by (inputAt file (inputPlace file i))
+known-says inputs i = by (inputAt inputs (inputPlace i))
   where
-    by : (d : Decoded) → (isMeant d || (false && isEdge (signalAt file (inputPlace file i)))) ≡ says (stamped (stampAt file (inputPlace file i)) d)
+    by : (d : Decoded) → (isMeant d || (false && isEdge (signalAt inputs (inputPlace i)))) ≡ says (stamped (stampAt inputs (inputPlace i)) d)
     by (Meant x) = refl
     by Wrong = refl
 
 -- ---- the loop
 
-pub none-left : (known : ℕ → Bool) (file : List ℕ) (n i last end : ℕ) → n ≤ i → checkInputs known file (n - i) i last end ≡ Passed
+pub none-left : (known : ℕ → Bool) (inputs : List ℕ) (n i last end : ℕ) → n ≤ i → checkInputs known inputs (n - i) i last end ≡ Passed
 unfolding checkInputs
-none-left known file n i last end h = let e : n - i ≡ 0 = omega arith in rw e
+none-left known inputs n i last end h = let e : n - i ≡ 0 = omega arith in rw e
 
-module _ (known : ℕ → Bool) (file : List ℕ) (n i last end : ℕ) (more : i < n) where
-  one-left : checkInputs known file (n - i) i last end ≡ orElse (checkOne (known i) (stampAt file (inputPlace file i)) last end i) (checkInputs known file (n - (i + 1)) (i + 1) (stampAt file (inputPlace file i)) end)
+module _ (known : ℕ → Bool) (inputs : List ℕ) (n i last end : ℕ) (more : i < n) where
+  one-left : checkInputs known inputs (n - i) i last end ≡ orElse (checkOne (known i) (stampAt inputs (inputPlace i)) last end i) (checkInputs known inputs (n - (i + 1)) (i + 1) (stampAt inputs (inputPlace i)) end)
   unfolding checkInputs
   one-left = let e : n - i ≡ suc (n - (i + 1)) = omega arith in rw e
 
-  pub good-goes-on : checkOne (known i) (stampAt file (inputPlace file i)) last end i ≡ Passed → checkInputs known file (n - i) i last end ≡ checkInputs known file (n - (i + 1)) (i + 1) (stampAt file (inputPlace file i)) end
+  pub good-goes-on : checkOne (known i) (stampAt inputs (inputPlace i)) last end i ≡ Passed → checkInputs known inputs (n - i) i last end ≡ checkInputs known inputs (n - (i + 1)) (i + 1) (stampAt inputs (inputPlace i)) end
   good-goes-on h = simp h at one-left
 
-  pub bad-ends : (why : Refusal) (place : ℕ) → checkOne (known i) (stampAt file (inputPlace file i)) last end i ≡ Refused why place → checkInputs known file (n - i) i last end ≡ Refused why place
+  pub bad-ends : (why : Refusal) (place : ℕ) → checkOne (known i) (stampAt inputs (inputPlace i)) last end i ≡ Refused why place → checkInputs known inputs (n - i) i last end ≡ Refused why place
   bad-ends why place h = simp h at one-left

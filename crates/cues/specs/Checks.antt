@@ -20,11 +20,11 @@ use Rattle.sensor.specs.Signals.{signalAt}
 unfoldable pub checkOne : Bool → ℕ → ℕ → ℕ → ℕ → Check
 checkOne known stamp last end i = cond known (cond (leb last stamp && leb stamp end) Passed (Refused BadStamp i)) (Refused BadInput i)
 
--- these many inputs of a file from index i on, where the stamp before them is `last`
+-- these many of the inputs from index i on, where the stamp before them is `last`
 unfoldable pub checkInputs : (ℕ → Bool) → List ℕ → ℕ → ℕ → ℕ → ℕ → Check
-checkInputs known file zero i last end = Passed
-checkInputs known file (suc left) i last end =
-    orElse (checkOne (known i) (stampAt file (inputPlace file i)) last end i) (checkInputs known file left (i + 1) (stampAt file (inputPlace file i)) end)
+checkInputs known inputs zero i last end = Passed
+checkInputs known inputs (suc left) i last end =
+    orElse (checkOne (known i) (stampAt inputs (inputPlace i)) last end i) (checkInputs known inputs left (i + 1) (stampAt inputs (inputPlace i)) end)
 
 -- an edge of a push button
 abbrev pub isEdge : Signalled → Bool
@@ -35,7 +35,7 @@ isEdge signalled.Wrong = false
 
 -- what is known at a place: the actuator's inputs, and, in a list that takes edges too, these
 unfoldable pub isKnown : Bool → List ℕ → ℕ → Bool
-isKnown edges file at = isMeant (inputAt file at) || (edges && isEdge (signalAt file at))
+isKnown edges inputs at = isMeant (inputAt inputs at) || (edges && isEdge (signalAt inputs at))
 
 abbrev pub knownAt : Bool → List ℕ → ℕ → Bool
-knownAt edges file i = isKnown edges file (inputPlace file i)
+knownAt edges inputs i = isKnown edges inputs (inputPlace i)

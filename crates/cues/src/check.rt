@@ -5,9 +5,10 @@ ghost use lib.ListN.{length};
 ghost use Rattle.base.specs.declared.refusal.Check.the-variants.{Refused};
 ghost use Rattle.rules.specs.Parameters.{checkParameters};
 ghost use Rattle.rules.specs.Forms.{formIn};
-ghost use Rattle.rules.specs.Layout.{leastFile, inputsAt, inputSize, mostInputs, placeBy};
+ghost use Rattle.rules.specs.Layout.{leastFile, inputsAt, inputSize, mostInputs, inputPlace};
 ghost use Rattle.rules.specs.Readings.{verdict};
-ghost use Rattle.rules.specs.Files.{parametersIn, checkRest, checkStart, readFile};
+ghost use Rattle.rules.specs.Files.{inputCount, endTime, parametersIn, inputsIn, checkRest, checkStart, readFile};
+ghost use Rattle.rules.specs.Refusals.{GoodStart};
 ghost use Rattle.cues.specs.Checks.{checkOne, checkInputs, isEdge, isKnown, knownAt};
 use crate::header::actuators_of;
 use crate::header::end_time;
@@ -22,6 +23,7 @@ use inputs::is_input_at;
 use layout::LEAST_FILE;
 use layout::input_place;
 use layout::inputs_at;
+use layout::inputs_in;
 use layout::is_version;
 use layout::parameters_in;
 use octets::group::stamp_at;
@@ -77,31 +79,32 @@ fn is_edge(s: Signalled) -> bool
 }
 
 // Whether an input starts at a place, or, in a list that takes edges too, an edge.
-fn is_known_at(file: &[u8], at: usize, edges: bool) -> bool
-    requires { ⌜ at + inputSize ≤ length (now file) ⌝ }
-    ensures { λ r. ⌜ r ≡ isKnown edges (now (file .entry)) at ⌝ }
+fn is_known_at(inputs: &[u8], at: usize, edges: bool) -> bool
+    requires { ⌜ at + inputSize ≤ length (now inputs) ⌝ }
+    ensures { λ r. ⌜ r ≡ isKnown edges (now (inputs .entry)) at ⌝ }
 {
-    if is_input_at(file, at) {
+    if is_input_at(inputs, at) {
         return true;
     }
     if edges {
-        is_edge(signal_at(file, at))
+        is_edge(signal_at(inputs, at))
     } else {
         false
     }
 }
 
-// The first bad input of n, from the first on, in a list that takes edges too or does not.
-pub fn check_inputs(file: &[u8], form: Form, n: u32, end: u32, edges: bool) -> Check
-    requires { ⌜ (form ≡ formIn (now file)) × (n ≤ mostInputs) × (placeBy form n ≤ length (now file)) ⌝ }
-    ensures { λ r. ⌜ r ≡ checkInputs (knownAt edges (now (file .entry))) (now (file .entry)) n 0 0 end ⌝ }
+// The first bad input of n, in a list that takes edges too or does not: none is stamped before the one before it, the first not before
+// `from`, and none after `end`.
+pub fn check_inputs(inputs: &[u8], n: u32, from: u32, end: u32, edges: bool) -> Check
+    requires { ⌜ (n ≤ mostInputs) × (inputPlace n ≤ length (now inputs)) ⌝ }
+    ensures { λ r. ⌜ r ≡ checkInputs (knownAt edges (now (inputs .entry))) (now (inputs .entry)) n 0 from end ⌝ }
 {
     let mut i: u32 = 0;
-    let mut last: u32 = 0;
+    let mut last = from;
     while i < n {
-        let at = input_place(form, i);
-        let stamp = stamp_at(file, at);
-        let one = check_one(is_known_at(file, at, edges), stamp, last, end, i);
+        let at = input_place(i);
+        let stamp = stamp_at(inputs, at);
+        let one = check_one(is_known_at(inputs, at, edges), stamp, last, end, i);
         match one {
             Check::Passed => {
                 last = stamp;
@@ -113,6 +116,15 @@ pub fn check_inputs(file: &[u8], form: Form, n: u32, end: u32, edges: bool) -> C
         }
     }
     Check::Passed
+}
+
+// The inputs of a file whose start is good, as a list that takes edges too or does not.
+pub fn check_inputs_in(file: &[u8], edges: bool) -> Check
+    requires { ⌜ GoodStart (now file) ⌝ }
+    ensures { λ r. ⌜ r ≡ checkInputs (knownAt edges (inputsIn (now (file .entry)))) (inputsIn (now (file .entry))) (inputCount (now (file .entry))) 0 0 (endTime (now (file .entry))) ⌝ }
+{
+    let inputs = inputs_in(file, form_in(file));
+    check_inputs(inputs, input_count(file), 0, end_time(file), edges)
 }
 
 // A row of the table whose place is 0.
@@ -161,13 +173,7 @@ pub fn check_file(file: &[u8]) -> Check
 {
     let start = check_start(file);
     match start {
-        Check::Passed => check_inputs(
-            file,
-            form_in(file),
-            input_count(file),
-            end_time(file),
-            false,
-        ),
+        Check::Passed => check_inputs_in(file, false),
         Check::Refused { why, place } => Check::Refused { why, place },
     }
 }

@@ -4,14 +4,14 @@ ghost use Prim.Native.Nat.{_≤_};
 ghost use lib.Dec.{eqb};
 ghost use lib.ListN.{length};
 ghost use Rattle.rules.specs.Forms.{version, formIn};
-ghost use Rattle.rules.specs.Layout.{leastFile, inputPlace};
+ghost use Rattle.rules.specs.Layout.{leastFile, fileSize};
 ghost use Rattle.rules.specs.Files.{actuators, inputCount, endTime, layoutRight};
 use base::logic::both;
 use base::moment::LAST_STAMP;
 use layout::MOST_INPUTS;
 use layout::PARAMETERS_AT;
+use layout::file_size;
 use layout::form_of;
-use layout::input_place;
 use layout::inputs_at;
 use octets::read16;
 use octets::read32;
@@ -56,9 +56,9 @@ pub fn end_time(file: &[u8]) -> u32
 // The file is exactly as long as its inputs ask for.
 fn length_fits(file: &[u8], form: Form, n: u32) -> bool
     requires { ⌜ form ≡ formIn (now file) ⌝ }
-    ensures { λ r. ⌜ r ≡ eqb (length (now (file .entry))) (inputPlace (now (file .entry)) n) ⌝ }
+    ensures { λ r. ⌜ r ≡ eqb (length (now (file .entry))) (fileSize (formIn (now (file .entry))) n) ⌝ }
 {
-    file.len() == input_place(form, n)
+    file.len() == file_size(form, n)
 }
 
 pub fn layout_is_right(file: &[u8], form: Form) -> bool

@@ -11,10 +11,10 @@ use Rattle.rules.specs.declared.input.Input.{Input}
 use Rattle.rules.specs.declared.input.Input.the-variants.{NumberedSceneControl, SwitchOnOffForced}
 use Rattle.rules.specs.declared.input.Decoded.{Decoded}
 use Rattle.rules.specs.declared.input.Decoded.the-variants.{Meant, Wrong}
-use Rattle.rules.specs.Inputs.{zeroOrOne, sceneMeant, forceMeant, decoded, inputAt}
+use Rattle.rules.specs.Inputs.{forceOf, zeroOrOne, sceneMeant, forceMeant, decoded, inputAt}
 use Rattle.base.proofs.Tests.{cond-case, either-way, no}
 use Rattle.rules.proofs.Laws.Inputs.{no-other-kind}
-use Rattle.inputs.specs.Meaning.{isMeant, forceOf}
+use Rattle.inputs.specs.Meaning.{isMeant}
 
 bit-is-meant : (value : ℕ) (off on : Input) → value ≤ 1 → isMeant (zeroOrOne value off on) ≡ true
 unfolding zeroOrOne

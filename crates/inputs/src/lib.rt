@@ -5,8 +5,8 @@ ghost use mathlib.Core.Bool.{true};
 ghost use lib.ListN.{length};
 ghost use Rattle.rules.specs.declared.input.Decoded.the-variants.{Meant};
 ghost use Rattle.rules.specs.Layout.{inputSize};
-ghost use Rattle.rules.specs.Inputs.{decoded, inputAt};
-ghost use Rattle.inputs.specs.Meaning.{isMeant, eventOf, forceOf};
+ghost use Rattle.rules.specs.Inputs.{forceOf, decoded, inputAt};
+ghost use Rattle.inputs.specs.Meaning.{isMeant, eventOf};
 use octets::group::ends_in_zeros;
 use rules::input::Decoded;
 use rules::input::Event;
@@ -44,7 +44,7 @@ fn known_event(one: bool) -> Event
 }
 
 // Of a value up to 3: without its control bit it frees, whatever its other bit says.
-fn known_force(value: u8) -> Force
+pub fn known_force(value: u8) -> Force
     ensures { λ r. ⌜ r ≡ forceOf value ⌝ }
 {
     match value {

@@ -4,8 +4,8 @@ ghost use mathlib.Core.Path.{_≡_};
 ghost use Prim.Native.Nat.{_+_, _*_, _≤_, _<_};
 ghost use lib.ListN.{length};
 ghost use Rattle.rules.specs.Forms.{width, formOf, isVersion, formIn};
-ghost use Rattle.rules.specs.Layout.{timePlace, modesAt, scenesAt, scenePlace, flagsPlace, parametersSize, formAlone, inputsAt, placeBy};
-ghost use Rattle.rules.specs.Files.{parametersIn};
+ghost use Rattle.rules.specs.Layout.{timePlace, modesAt, scenesAt, scenePlace, flagsPlace, parametersSize, formAlone, inputsAt, inputPlace, fileSize};
+ghost use Rattle.rules.specs.Files.{parametersIn, inputsIn};
 use rules::form::Form;
 use rules::form::Scale;
 
@@ -131,9 +131,25 @@ pub fn parameters_in(file: &[u8], form: Form) -> &[u8]
     &file[PARAMETERS_AT..end]
 }
 
-// Where input i stands; for the count of all inputs, where the file ends.
-pub fn input_place(form: Form, i: u32) -> usize
-    ensures { λ r. ⌜ r ≡ placeBy form i ⌝ }
+// The inputs of a file.
+pub fn inputs_in(file: &[u8], form: Form) -> &[u8]
+    requires { ⌜ (form ≡ formIn (now file)) × (inputsAt form ≤ length (now file)) ⌝ }
+    ensures { λ r. ⌜ now r ≡ inputsIn (now (file .entry)) ⌝ }
 {
-    inputs_at(form) + INPUT_SIZE * (i as usize)
+    let start = inputs_at(form);
+    &file[start..]
+}
+
+// Where input i stands among the inputs.
+pub fn input_place(i: u32) -> usize
+    ensures { λ r. ⌜ r ≡ inputPlace i ⌝ }
+{
+    INPUT_SIZE * (i as usize)
+}
+
+// How long a file of n inputs is.
+pub fn file_size(form: Form, n: u32) -> usize
+    ensures { λ r. ⌜ r ≡ fileSize form n ⌝ }
+{
+    inputs_at(form) + input_place(n)
 }

@@ -13,7 +13,7 @@ use Rattle.rules.specs.declared.input.Input.the-variants.{SwitchOnOff}
 use Rattle.rules.specs.declared.state.State.{State}
 use Rattle.rules.specs.declared.record.Record.{Record}
 use Rattle.rules.specs.Steps.{Moved, Stepped, clockMove, act, step}
-use Rattle.rules.specs.Lists.{Cue, cue, Played, andThen, stepped, plays, playsTo, playList, still}
+use Rattle.rules.specs.Lists.{Cue, cue, Played, andThen, moved, stepped, plays, playsTo, playList, still}
 use Rattle.rules.specs.Promises.{Rises}
 use Rattle.rules.proofs.Laws.Lists.{acts-after-the-move, plays-to-next}
 use Rattle.sensor.specs.declared.signal.Signal.{Signal}
@@ -51,15 +51,16 @@ unfolding pairStep
 a-plain-step-is-the-actuators p i t = refl
 
 -- then the pair is the plain actuator
+pub plain-plays : (cues : List Cue) (p : Pair) → actuatorPart (pairPlays (plainItems cues) p) ≡ plays cues (p .actuator)
+unfolding plainItems pairPlays plays
+plain-plays [] p = refl
+plain-plays (cue t i ∷ later) p =
+    ap (λ (b : Played). andThen (stepped (actuatorStep (pairStep p (Plain i) t))) (λ x. b)) (plain-plays later (pairStep p (Plain i) t .pair))
+    ∙ ap (λ (d : Stepped). andThen (stepped d) (plays later)) (a-plain-step-is-the-actuators p i t)
+
 pub plain-items : (end : ℕ) (cues : List Cue) (p : Pair) → actuatorPart (pairPlaysTo end (plainItems cues) p) ≡ playsTo end cues (p .actuator)
-unfolding plainItems
-plain-items end [] p = unfold pairPlaysTo pairPlays pairMove playsTo plays in refl
-plain-items end (cue t i ∷ later) p =
-    let next : Pair = pairStep p (Plain i) t .pair in
-    ap actuatorPart (pair-plays-to-next end t (Plain i) (plainItems later) p)
-    ∙ ap (λ (b : Played). andThen (stepped (actuatorStep (pairStep p (Plain i) t))) (λ x. b)) (plain-items end later next)
-    ∙ ap (λ (d : Stepped). andThen (stepped d) (playsTo end later)) (a-plain-step-is-the-actuators p i t)
-    ∙ sym (plays-to-next end t i later (p .actuator))
+unfolding pairPlaysTo pairMove playsTo
+plain-items end cues p = ap (λ (a : Played). andThen a (λ x. moved (clockMove x end))) (plain-plays cues p)
 
 -- and what it is given are the cues themselves
 pub plain-items-give-the-cues : (cues : List Cue) (p : Pair) → given (cuesFor (plainItems cues) p) ≡ cues

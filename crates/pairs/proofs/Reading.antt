@@ -31,47 +31,47 @@ use Rattle.pairs.proofs.Halves.{actuatorPart, plainItems, plain-items}
 -- ---- one item
 
 -- what an item of a list is made of
-pub item-said : (file : List ℕ) (j : ℕ) (x : Listed) → itemIn file j ≡ some x → (i : Item) × (itemAt file (inputPlace file j) ≡ Known i) × (x ≡ listed (stampAt file (inputPlace file j)) i)
+pub item-said : (inputs : List ℕ) (j : ℕ) (x : Listed) → itemIn inputs j ≡ some x → (i : Item) × (itemAt inputs (inputPlace j) ≡ Known i) × (x ≡ listed (stampAt inputs (inputPlace j)) i)
 unfolding itemIn
-item-said file j x e = by (itemAt file (inputPlace file j)) refl e
+item-said inputs j x e = by (itemAt inputs (inputPlace j)) refl e
   where
-    by : (r : Read) → itemAt file (inputPlace file j) ≡ r → stampedItem (stampAt file (inputPlace file j)) r ≡ some x → (i : Item) × (itemAt file (inputPlace file j) ≡ Known i) × (x ≡ listed (stampAt file (inputPlace file j)) i)
+    by : (r : Read) → itemAt inputs (inputPlace j) ≡ r → stampedItem (stampAt inputs (inputPlace j)) r ≡ some x → (i : Item) × (itemAt inputs (inputPlace j) ≡ Known i) × (x ≡ listed (stampAt inputs (inputPlace j)) i)
     by (Known i) m e = (i, m, cc)
     by Unknown m e = absurd (let z : _≡_ {A = ℕ} 0 1 = cc in omega arith)
 
 -- the first item of a list that is read without fault
-pub record FirstItem (file : List ℕ) (left i last end : ℕ) (items : List Listed) : Type 0 where
+pub record FirstItem (inputs : List ℕ) (left i last end : ℕ) (items : List Listed) : Type 0 where
   pub item : Item
   pub later : List Listed
-  pub meant : itemAt file (inputPlace file i) ≡ Known item
-  pub risen : last ≤ stampAt file (inputPlace file i)
-  pub timely : stampAt file (inputPlace file i) ≤ end
-  pub starts : items ≡ listed (stampAt file (inputPlace file i)) item ∷ later
-  pub reads : readInputs (itemIn file) file left (i + 1) (stampAt file (inputPlace file i)) end ≡ cues later
+  pub meant : itemAt inputs (inputPlace i) ≡ Known item
+  pub risen : last ≤ stampAt inputs (inputPlace i)
+  pub timely : stampAt inputs (inputPlace i) ≤ end
+  pub starts : items ≡ listed (stampAt inputs (inputPlace i)) item ∷ later
+  pub reads : readInputs (itemIn inputs) inputs left (i + 1) (stampAt inputs (inputPlace i)) end ≡ cues later
 
-pub first-item : (file : List ℕ) (left i last end : ℕ) (items : List Listed) → readInputs (itemIn file) file (suc left) i last end ≡ cues items → FirstItem file left i last end items
-first-item file left i last end items e =
-    let f = first-read (itemIn file) file left i last end items e in
-    let c = item-said file i (f .input) (f .means) in
+pub first-item : (inputs : List ℕ) (left i last end : ℕ) (items : List Listed) → readInputs (itemIn inputs) inputs (suc left) i last end ≡ cues items → FirstItem inputs left i last end items
+first-item inputs left i last end items e =
+    let f = first-read (itemIn inputs) inputs left i last end items e in
+    let c = item-said inputs i (f .input) (f .means) in
     record { item = c .0; later = f .later; meant = c .1; risen = f .risen; timely = f .timely; starts = f .starts ∙ ap (λ (x : Listed). x ∷ f .later) (c .2); reads = f .reads }
 
 -- ---- a list without edges
 
-one-more : (file : List ℕ) (left j last end : ℕ) (i : Input) (later : List Cue) → inputAt file (inputPlace file j) ≡ Meant i → last ≤ stampAt file (inputPlace file j) → stampAt file (inputPlace file j) ≤ end →
-    readInputs (itemIn file) file left (j + 1) (stampAt file (inputPlace file j)) end ≡ cues (plainItems later) →
-    readInputs (itemIn file) file (suc left) j last end ≡ cues (listed (stampAt file (inputPlace file j)) (Plain i) ∷ plainItems later)
+one-more : (inputs : List ℕ) (left j last end : ℕ) (i : Input) (later : List Cue) → inputAt inputs (inputPlace j) ≡ Meant i → last ≤ stampAt inputs (inputPlace j) → stampAt inputs (inputPlace j) ≤ end →
+    readInputs (itemIn inputs) inputs left (j + 1) (stampAt inputs (inputPlace j)) end ≡ cues (plainItems later) →
+    readInputs (itemIn inputs) inputs (suc left) j last end ≡ cues (listed (stampAt inputs (inputPlace j)) (Plain i) ∷ plainItems later)
 unfolding readInputs readOne itemIn
-one-more file left j last end i later meant risen timely rest =
-    rw (plain-exactly-when file (inputPlace file j) i .1 meant, le-leb last (stampAt file (inputPlace file j)) risen, le-leb (stampAt file (inputPlace file j)) end timely, rest) refl
+one-more inputs left j last end i later meant risen timely rest =
+    rw (plain-exactly-when inputs (inputPlace j) i .1 meant, le-leb last (stampAt inputs (inputPlace j)) risen, le-leb (stampAt inputs (inputPlace j)) end timely, rest) refl
 
 -- what the actuator reads without fault is read the same here
-pub reads-plain : (file : List ℕ) (left j last end : ℕ) (list : List Cue) → readInputs (cueAt file) file left j last end ≡ cues list → readInputs (itemIn file) file left j last end ≡ cues (plainItems list)
+pub reads-plain : (inputs : List ℕ) (left j last end : ℕ) (list : List Cue) → readInputs (cueAt inputs) inputs left j last end ≡ cues list → readInputs (itemIn inputs) inputs left j last end ≡ cues (plainItems list)
 unfolding plainItems
-reads-plain file zero j last end list read = let none : list ≡ [] = unfold readInputs in cc in rw none (unfold readInputs in refl)
-reads-plain file (suc left) j last end list read =
-    let f = first-cue file left j last end list read in
-    let rest = reads-plain file left (j + 1) (stampAt file (inputPlace file j)) end (f .later) (f .reads) in
-    rw (f .starts) (one-more file left j last end (f .input) (f .later) (f .meant) (f .risen) (f .timely) rest)
+reads-plain inputs zero j last end list read = let none : list ≡ [] = unfold readInputs in cc in rw none (unfold readInputs in refl)
+reads-plain inputs (suc left) j last end list read =
+    let f = first-cue inputs left j last end list read in
+    let rest = reads-plain inputs left (j + 1) (stampAt inputs (inputPlace j)) end (f .later) (f .reads) in
+    rw (f .starts) (one-more inputs left j last end (f .input) (f .later) (f .meant) (f .risen) (f .timely) rest)
 
 -- and is played the same, whatever sensor stands beside it
 pub a-plain-list-is-the-actuators : (p : Params) (scenes : List Scene) (z : Sensor) (list : List Cue) (end : ℕ) → actuatorPart (playItems p scenes z (plainItems list) end) ≡ playList p scenes list end

@@ -9,7 +9,7 @@ use Rattle.base.specs.declared.refusal.Refusal.{Refusal}
 use Rattle.base.specs.declared.refusal.Refusal.the-variants.{WrongLength, ShortBuffer}
 use Rattle.base.specs.Refusals.{Only, Then, Codes, Timely, CallCodes}
 use Rattle.rules.specs.Soundness.{sound}
-use Rattle.rules.specs.Files.{inputCount}
+use Rattle.rules.specs.Files.{inputCount, endTime, inputsIn}
 use Rattle.rules.specs.Refusals.{StartWhen, GoodStart, InputsWhen, GoodInputs, RoomFor}
 use Rattle.sensor.specs.Refusals.{ActionsWhen, GoodActions}
 use Rattle.pairs.specs.declared.item.Item.{Item}
@@ -32,21 +32,26 @@ JointCodes p octets = CallCodes (SoundPair p) ((i : Item) × (itemAt octets 0 �
 abbrev pub JointMoveCodes : Pair → ℕ → ℕ → ℕ → Type 0
 JointMoveCodes p stamp = CallCodes (SoundPair p) Unit (Timely (p .actuator .clock) stamp)
 
--- ---- the wall list: 1 for one under 56 octets; then the rows of its cue file, 11 after 5
+-- ---- the wall list
+
+abbrev wallInputs : List ℕ → List ℕ
+wallInputs wall = inputsIn (fileIn wall)
+
+-- 1 for one under 56 octets; then the rows of its cue file, 11 after 5
 
 abbrev pub WallWhen : List ℕ → Refusal → ℕ → Type 0
 WallWhen wall =
     Then (Only WrongLength 0 (56 ≤ length wall → ⊥)) (56 ≤ length wall)
     (Then (StartWhen (fileIn wall)) (GoodStart (fileIn wall))
     (Then (ActionsWhen (actionsIn wall)) (GoodActions (actionsIn wall))
-    (InputsWhen (itemIn (fileIn wall)) (fileIn wall))))
+    (InputsWhen (itemIn (wallInputs wall)) (wallInputs wall) (inputCount (fileIn wall)) 0 (endTime (fileIn wall)))))
 
 -- no row holds
 pub record GoodWall (wall : List ℕ) : Type 0 where
   pub long : 56 ≤ length wall
   pub start : GoodStart (fileIn wall)
   pub actions : GoodActions (actionsIn wall)
-  pub good : GoodInputs (itemIn (fileIn wall)) (fileIn wall)
+  pub good : GoodInputs (itemIn (wallInputs wall)) (wallInputs wall) (inputCount (fileIn wall)) 0 (endTime (fileIn wall))
 
 -- "then 8"
 abbrev pub WallCodes : List ℕ → List ℕ → List ℕ → ℕ → ℕ → Type 0

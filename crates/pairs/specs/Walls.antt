@@ -16,7 +16,7 @@ use Rattle.rules.specs.declared.call.Ran.{Ran}
 use Rattle.rules.specs.Layout.{leastFile, inputPlace}
 use Rattle.rules.specs.Calls.{ownState}
 use Rattle.rules.specs.Readings.{Reading, cues, bad, readInputs, afterCheck, ifLentEnough}
-use Rattle.rules.specs.Files.{inputCount, endTime, checkStart, lentEnough, paramsIn, scenesIn}
+use Rattle.rules.specs.Files.{inputCount, endTime, inputsIn, checkStart, lentEnough, paramsIn, scenesIn}
 use Rattle.rules.specs.Runs.{recordsOctets, over, packed, Answered}
 use Rattle.sensor.specs.declared.state.Sensor.{Sensor}
 use Rattle.sensor.specs.Actions.{checkActions}
@@ -46,17 +46,17 @@ leastWall = leastFile + actionsSize
 unfoldable pub checkWall : List ℕ → Check
 checkWall wall = cond (leb leastWall (length wall)) (orElse (checkStart (fileIn wall)) (checkActions (actionsIn wall))) (Refused WrongLength 0)
 
--- what input i says: an item with its stamp, or nothing
+-- what input i of a list says: an item with its stamp, or nothing
 abbrev pub stampedItem : ℕ → Read → Option Listed
 stampedItem stamp (Known i) = some (listed stamp i)
 stampedItem stamp Unknown = none
 
 unfoldable pub itemIn : List ℕ → ℕ → Option Listed
-itemIn file i = stampedItem (stampAt file (inputPlace file i)) (itemAt file (inputPlace file i))
+itemIn inputs i = stampedItem (stampAt inputs (inputPlace i)) (itemAt inputs (inputPlace i))
 
 -- "then the first bad input, 6 before 7": those of a file, edges among them or not
 abbrev pub itemsRead : List ℕ → Reading Listed
-itemsRead file = readInputs (itemIn file) file (inputCount file) 0 0 (endTime file)
+itemsRead file = readInputs (itemIn (inputsIn file)) (inputsIn file) (inputCount file) 0 0 (endTime file)
 
 unfoldable pub readWall : List ℕ → Reading Listed
 readWall wall = afterCheck (checkWall wall) (itemsRead (fileIn wall))

@@ -1,4 +1,4 @@
-use Rattle.inputs.specs.Meaning.{forceOf}
+use Rattle.rules.specs.Inputs.{forceOf}
 use borrow.Author.Tests.{ne-eqb}
 use Rattle.inputs.proofs.known_force.Statement.{statement}
 use Rattle.inputs.proofs.known_force.Tie as tie

@@ -19,7 +19,7 @@ narrow-place wall why place (inl only) = omega (arith, only .1)
 narrow-place wall why place (inr (long, inl start)) = narrow-start (fileIn wall) why place start
 narrow-place wall why place (inr (long, inr (start, inl (inl only)))) = omega (arith, only .1)
 narrow-place wall why place (inr (long, inr (start, inl (inr bad)))) = omega (arith, bad .1 .within)
-narrow-place wall why place (inr (long, inr (start, inr (actions, input)))) = omega (arith, narrow-input _ (fileIn wall) why place input, start .header .layout .few)
+narrow-place wall why place (inr (long, inr (start, inr (actions, input)))) = omega (arith, narrow-input _ _ _ _ _ why place input, start .header .layout .few)
 
 -- what is packed for C is the report's own: code, place and count
 pub what-is-packed-is-the-report : (r : WallRan) → (ranOf r .code ≡ r .code) × (ranOf r .place ≡ r .place) × (ranOf r .count ≡ r .count)

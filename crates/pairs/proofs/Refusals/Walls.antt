@@ -16,9 +16,9 @@ use Rattle.base.specs.declared.refusal.Check.{Check}
 use Rattle.base.specs.declared.refusal.Check.the-variants.{Passed, Refused}
 use Rattle.base.specs.Refusals.{codeOf, placeOf, orElse, Decides}
 use Rattle.base.proofs.Codes.{codes-of-a-check, one-test-decides, then-decides}
-use Rattle.rules.specs.Files.{inputCount, endTime, checkStart, lentEnough, paramsIn, scenesIn}
+use Rattle.rules.specs.Files.{inputCount, endTime, checkStart, lentEnough, paramsIn, scenesIn, inputsIn}
 use Rattle.rules.specs.Calls.{ownState}
-use Rattle.rules.specs.Readings.{Reading, cues, bad, verdict, readInputs, ifLentEnough}
+use Rattle.rules.specs.Readings.{Reading, cues, bad, verdict, ifLentEnough}
 use Rattle.rules.specs.Refusals.{GoodStart, RoomFor}
 use Rattle.rules.specs.Runs.{recordsOctets, over}
 use Rattle.rules.proofs.Refusals.Readings.{verdict-after, verdict-if-lent, inputs-decide, list-is-the-inputs}
@@ -30,7 +30,7 @@ use Rattle.sensor.specs.Refusals.{GoodActions}
 use Rattle.sensor.proofs.Actions.{actions-decide}
 use Rattle.pairs.specs.Pairs.{Pair, pairStep}
 use Rattle.pairs.specs.Lists.{Listed, listed, pairPlays, pairPlaysTo, pairStart, playItems}
-use Rattle.pairs.specs.Walls.{fileIn, actionsIn, checkWall, itemIn, readWall, readWallCall, WallWhole, playWall, wallAccepted, wallRefused, wallBy, wallCall}
+use Rattle.pairs.specs.Walls.{fileIn, actionsIn, checkWall, itemIn, readWall, readWallCall, WallWhole, playWall, wallAccepted, wallRefused, wallBy, wallCall, itemsRead}
 use Rattle.pairs.specs.Refusals.{WallWhen, GoodWall, WallCodes}
 use Rattle.pairs.proofs.Refusals.Calls.{an-item-writes-at-most-three, a-pair-move-writes-at-most-two}
 
@@ -74,9 +74,9 @@ unfolding readWall checkWall
 wall-decides wall =
     let file : List ℕ = fileIn wall in
     let long = one-test-decides (56 ≤ length wall) (leb 56 (length wall)) WrongLength 0 (long-exactly-when (length wall)) in
-    let rest = then-decides _ _ (start-decides file) (then-decides _ _ (actions-decide (actionsIn wall)) (inputs-decide (itemIn file) file)) in
+    let rest = then-decides _ _ (start-decides file) (then-decides _ _ (actions-decide (actionsIn wall)) (inputs-decide (itemIn (inputsIn file)) (inputsIn file) (inputCount file) 0 (endTime file))) in
     let whole = then-decides _ _ long rest in
-    rw (verdict-after (checkWall wall) (readInputs (itemIn file) file (inputCount file) 0 0 (endTime file)), wall-is-its-checks (leb 56 (length wall)) (checkStart file) (checkActions (actionsIn wall)) _)
+    rw (verdict-after (checkWall wall) (itemsRead file), wall-is-its-checks (leb 56 (length wall)) (checkStart file) (checkActions (actionsIn wall)) _)
     (record {
       refused = whole .refused;
       passed = (
@@ -91,21 +91,21 @@ good-wall wall items e = wall-decides wall .passed .0 (ap verdict e)
 
 -- where nothing is wrong before its inputs, they are read
 pub a-good-start-is-read : (wall : List ℕ) → 56 ≤ length wall → GoodStart (fileIn wall) → GoodActions (actionsIn wall) →
-    let file : List ℕ = fileIn wall in
-    readWall wall ≡ readInputs (itemIn file) file (inputCount file) 0 0 (endTime file)
+    readWall wall ≡ itemsRead (fileIn wall)
 unfolding readWall checkWall
 a-good-start-is-read wall long start actions = rw (le-leb 56 (length wall) long, good-start-passes (fileIn wall) start, actions-decide (actionsIn wall) .passed .1 actions)
 
 pub good-wall-is-read : (wall : List ℕ) → GoodWall wall →
-    let file : List ℕ = fileIn wall in
-    readWall wall ≡ readInputs (itemIn file) file (inputCount file) 0 0 (endTime file)
+    readWall wall ≡ itemsRead (fileIn wall)
 good-wall-is-read wall g = a-good-start-is-read wall (g .long) (g .start) (g .actions)
 
 -- as many items as inputs, in their order
 pub items-are-the-octets : (wall : List ℕ) (items : List Listed) → readWall wall ≡ cues items →
     let file : List ℕ = fileIn wall in
-    (length items ≡ inputCount file) × ((j : ℕ) → j < inputCount file → getElem? items j ≡ itemIn file j)
-items-are-the-octets wall items e = list-is-the-inputs (itemIn (fileIn wall)) (fileIn wall) items (sym (good-wall-is-read wall (good-wall wall items e)) ∙ e)
+    (length items ≡ inputCount file) × ((j : ℕ) → j < inputCount file → getElem? items j ≡ itemIn (inputsIn file) j)
+items-are-the-octets wall items e =
+    let file : List ℕ = fileIn wall in
+    list-is-the-inputs (itemIn (inputsIn file)) (inputsIn file) (inputCount file) 0 (endTime file) items (sym (good-wall-is-read wall (good-wall wall items e)) ∙ e)
 
 -- ---- what a run finds
 

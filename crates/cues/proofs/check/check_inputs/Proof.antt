@@ -9,10 +9,10 @@ use Rattle.cues.proofs.check.check_inputs.Statement.{statement}
 use Rattle.cues.proofs.check.check_inputs.Tie as tie
 
 abbrev Inv-loop : tie.InvT-loop
-Inv-loop file form n end edges i₀ last₀ i last = (i ≤ n) × (checkInputs (knownAt edges file) file n 0 0 end ≡ checkInputs (knownAt edges file) file (n - i) i last end)
+Inv-loop inputs n from end edges i₀ last₀ i last = (i ≤ n) × (checkInputs (knownAt edges inputs) inputs n 0 from end ≡ checkInputs (knownAt edges inputs) inputs (n - i) i last end)
 
 abbrev μ-loop : tie.MeasureT-loop
-μ-loop file form n end edges i₀ last₀ i last = n - i
+μ-loop inputs n from end edges i₀ last₀ i last = n - i
 
 loop-holds : tie.Need-loop-holds Inv-loop μ-loop
 loop-holds c = (search needs, rw (sub-zero _))
@@ -21,25 +21,25 @@ loop-again : tie.Need-loop-again Inv-loop μ-loop
 loop-again c =
     let a = c .before .before .before .before .before .before .before .before .before .args in
     let l = c .before .before .before .before .before .before .before .loop in
-    let at = rw (c .before .before .before .before .before .before .before .before .before .pre .0) at (c .before .before .before .before .before .input-place .ensures) in
+    let at = c .before .before .before .before .before .input-place .ensures in
     let one = rw (c .before .before .before .is-known-at .ensures, c .before .before .before .before .stamp-at .ensures, at) at (sym (c .before .before .check-one .ensures) ∙ c .enum-told .given .1) in (
       search needs,
-      rw (c .before .before .before .before .stamp-at .ensures, at) (l .inv .1 ∙ good-goes-on (knownAt (a .edges) (now (a .file))) (now (a .file)) (a .n) (l .i) (l .last) (a .end) (c .before .before .before .before .before .before .loop-test .taken) one),
+      rw (c .before .before .before .before .stamp-at .ensures, at) (l .inv .1 ∙ good-goes-on (knownAt (a .edges) (now (a .inputs))) (now (a .inputs)) (a .n) (l .i) (l .last) (a .end) (c .before .before .before .before .before .before .loop-test .taken) one),
     )
 
 returns : tie.Need-returns Inv-loop μ-loop
 returns c =
     let a = c .before .before .before .before .before .before .before .before .before .before .args in
     let l = c .before .before .before .before .before .before .before .before .loop in
-    let at = rw (c .before .before .before .before .before .before .before .before .before .before .pre .0) at (c .before .before .before .before .before .before .input-place .ensures) in
+    let at = c .before .before .before .before .before .before .input-place .ensures in
     let one = rw (c .before .before .before .before .is-known-at .ensures, c .before .before .before .before .before .stamp-at .ensures, at) at (sym (c .before .before .before .check-one .ensures) ∙ c .before .one .given .1) in
-    sym (l .inv .1 ∙ bad-ends (knownAt (a .edges) (now (a .file))) (now (a .file)) (a .n) (l .i) (l .last) (a .end) (c .before .before .before .before .before .before .before .loop-test .taken) _ _ one)
+    sym (l .inv .1 ∙ bad-ends (knownAt (a .edges) (now (a .inputs))) (now (a .inputs)) (a .n) (l .i) (l .last) (a .end) (c .before .before .before .before .before .before .before .loop-test .taken) _ _ one)
 
 returns-2 : tie.Need-returns-2 Inv-loop μ-loop
 returns-2 c =
     let a = c .before .before .before .args in
     let l = c .before .loop in
-    sym (l .inv .1 ∙ none-left (knownAt (a .edges) (now (a .file))) (now (a .file)) (a .n) (l .i) (l .last) (a .end) (c .loop-test .left))
+    sym (l .inv .1 ∙ none-left (knownAt (a .edges) (now (a .inputs))) (now (a .inputs)) (a .n) (l .i) (l .last) (a .end) (c .loop-test .left))
 
 pub check-inputs-spec : {M : Type 1} → statement M
 check-inputs-spec =
