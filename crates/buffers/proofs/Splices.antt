@@ -14,17 +14,12 @@ use Rattle.octets.proofs.BothWays.{what-is-written-is-read}
 use Rattle.rules.specs.declared.record.Record.{Record}
 use Rattle.rules.specs.Layout.{recordPlace}
 use Rattle.rules.specs.Runs.{recordOctets, recordsOctets, over}
-use Rattle.rules.proofs.Refusals.Runs.{records-length}
+use Rattle.rules.proofs.Refusals.Runs.{records-length, records-append}
 
 -- from the start on, the front is replaced
 pub splice-front : (b xs : List ℕ) → splice b 0 xs ≡ over xs b
 unfolding splice over
 splice-front b xs = rw zero-add
-
-records-append : (k l : List Record) → recordsOctets (k ++ l) ≡ recordsOctets k ++ recordsOctets l
-unfolding recordsOctets
-records-append [] l = refl
-records-append (r ∷ k) l = rw (append-assoc, records-append k l)
 
 pub records-one : (r : Record) → recordsOctets (r ∷ []) ≡ recordOctets r
 unfolding recordsOctets

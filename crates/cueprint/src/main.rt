@@ -4,9 +4,8 @@
 // Both are played to a pair: to one whose sensor does nothing a cue file is what it is to the actuator alone.
 ghost use Prim.Native.Nat.{_+_, _*_, _≤_};
 ghost use lib.ListN.{length};
-ghost use mathlib.Core.Path.{_≡_};
-ghost use Rattle.rules.specs.Layout.{leastFile, mostInputs, placeBy, inputPlace};
-ghost use Rattle.rules.specs.Files.{inputCount};
+ghost use Rattle.rules.specs.Layout.{mostInputs, inputPlace};
+ghost use Rattle.rules.specs.Refusals.{GoodHeader};
 use base::refusal::Check;
 use base::refusal::number_of;
 use cues::check::check_file;
@@ -17,11 +16,11 @@ use joined::pair::joined_input;
 use joined::pair::joined_move;
 use lamps::lamp::lamp_of;
 use layout::input_place;
+use layout::inputs_in;
 use layout::parameters_in;
 use live::fresh::fresh_state;
 use pairs::call::Joint;
 use records::status::record_of;
-use rules::form::Form;
 use rules::record::Record;
 use rules::state::State;
 use sensor::call::fresh_sensor;
@@ -112,19 +111,19 @@ fn print_sent(index: u32, sent: [u8; 8]) {
 }
 
 // The octets of input i.
-fn input_octets(file: &[u8], form: Form, i: u32) -> [u8; 8]
-    requires { ⌜ placeBy form (i + 1) ≤ length (now file) ⌝ }
+fn input_octets(inputs: &[u8], i: u32) -> [u8; 8]
+    requires { ⌜ inputPlace (i + 1) ≤ length (now inputs) ⌝ }
 {
-    let at = input_place(form, i);
+    let at = input_place(i);
     [
-        file[at],
-        file[at + 1],
-        file[at + 2],
-        file[at + 3],
-        file[at + 4],
-        file[at + 5],
-        file[at + 6],
-        file[at + 7],
+        inputs[at],
+        inputs[at + 1],
+        inputs[at + 2],
+        inputs[at + 3],
+        inputs[at + 4],
+        inputs[at + 5],
+        inputs[at + 6],
+        inputs[at + 7],
     ]
 }
 
@@ -159,15 +158,15 @@ struct Played {
 }
 
 // The inputs, in list order.
-fn play_inputs(start: State, fresh: Sensor, file: &[u8], form: Form, n: u32) -> Played
-    requires { ⌜ (n ≤ mostInputs) × (placeBy form n ≤ length (now file)) ⌝ }
+fn play_inputs(start: State, fresh: Sensor, inputs: &[u8], n: u32) -> Played
+    requires { ⌜ (n ≤ mostInputs) × (inputPlace n ≤ length (now inputs)) ⌝ }
 {
     let mut s = start;
     let mut z = fresh;
     let mut count: u32 = 0;
     let mut i: u32 = 0;
     while i < n {
-        let o = play_input(s, z, input_octets(file, form, i), i);
+        let o = play_input(s, z, input_octets(inputs, i), i);
         let state = o.state;
         let sensor = o.sensor;
         s = state;
@@ -184,7 +183,7 @@ fn play_inputs(start: State, fresh: Sensor, file: &[u8], form: Form, n: u32) -> 
 
 // An accepted file, from the start record to the end time. (The start record says what a fresh sensor has: off, at 0.)
 fn play_file(file: &[u8], z: Sensor)
-    requires { ⌜ (inputCount (now file) ≤ mostInputs) × (length (now file) ≡ inputPlace (now file) (inputCount (now file))) × (leastFile ≤ length (now file)) ⌝ }
+    requires { ⌜ GoodHeader (now file) ⌝ }
 {
     let n = input_count(file);
     let form = form_in(file);
@@ -192,7 +191,7 @@ fn play_file(file: &[u8], z: Sensor)
     let f = fresh_state(parameters_in(file, form));
     let start = f.state;
     print_record(record_of(0, lamp_of(start)));
-    let played = play_inputs(start, z, file, form, n);
+    let played = play_inputs(start, z, inputs_in(file, form), n);
     let s = played.state;
     let heard = played.sensor;
     let last = play_end(s, heard, end_time(file));

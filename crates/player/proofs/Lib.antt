@@ -1,3 +1,2 @@
 pub mod Timers
 pub mod Turns
-pub mod Ends

@@ -26,7 +26,7 @@ use Rattle.rules.specs.Steps.{clockMove, act}
 use Rattle.rules.specs.Lists.{still}
 use Rattle.rules.specs.Layout.{inputPlace}
 use Rattle.rules.specs.Readings.{cues, found, readInputs}
-use Rattle.rules.specs.Files.{endTime}
+use Rattle.base.specs.Time.{lastStamp}
 use Rattle.rules.specs.Runs.{recordsOctets}
 use Rattle.rules.proofs.Laws.Soundness.{move-keeps}
 use Rattle.sensor.specs.declared.state.Sensor.{Sensor}
@@ -60,22 +60,22 @@ use Rattle.turns.specs.declared.turn.Turn.{Turn}
 use Rattle.turns.specs.Turns.{listened, decides, Turned}
 use Rattle.turns.proofs.Hearing.{put-is-heard}
 use Rattle.turns.proofs.Steps.{Rests, Performs, resting-step, acting-step}
-use Rattle.player.specs.declared.play.Moment.{Moment}
-use Rattle.player.specs.Playing.{itemsIn, Ready, Filled, Advanced}
+use Rattle.player.specs.declared.items.Moment.{Moment}
+use Rattle.player.specs.Playing.{itemsFrom, Ready, Filled, Advanced}
 
 -- ---- after the first i items
 
 -- the answers said and the records written stand in the buffers and have led to this pair, and the items that are left can be read
-pub record Going (file : List ℕ) (n : ℕ) (start : Pair) (records₀ answers₀ records₁ answers₁ : List ℕ) (p : Pair) (k i : ℕ) : Type 0 where
+pub record Going (inputs : List ℕ) (n : ℕ) (start : Pair) (before : ℕ) (records₀ answers₀ records₁ answers₁ : List ℕ) (p : Pair) (k i : ℕ) : Type 0 where
   pub upto : i ≤ n
   pub said : List ℕ
   pub wrote : List Record
   pub sent : List Telegram
   pub later : List Listed
-  pub played : pairPlays (itemsIn file) start ≡ pairThen (record { pair = p; answers = said; records = wrote; telegrams = sent }) (pairPlays later)
-  pub reads : readInputs (itemIn file) file (n - i) i (p .actuator .clock) (endTime file) ≡ cues later
+  pub played : pairPlays (itemsFrom inputs n (start .actuator .clock)) start ≡ pairThen (record { pair = p; answers = said; records = wrote; telegrams = sent }) (pairPlays later)
+  pub reads : readInputs (itemIn inputs) inputs (n - i) i (p .actuator .clock) lastStamp ≡ cues later
   pub safe : pairSound p ≡ true
-  pub stands : Standing records₀ answers₀ records₁ answers₁ wrote said k i
+  pub stands : Standing before records₀ answers₀ records₁ answers₁ wrote said k i
 
 -- the first item is played before the others
 one-played : (done : PairPlayed) (items later : List Listed) (t : ℕ) (i : Item) → items ≡ listed t i ∷ later →
@@ -83,34 +83,34 @@ one-played : (done : PairPlayed) (items later : List Listed) (t : ℕ) (i : Item
 unfolding pairPlays
 one-played done items later t i e = rw e (sym (pairThen-assoc done (λ u. pairStepped (pairStep u i t)) (pairPlays later)))
 
-module _ (file : List ℕ) (n : ℕ) (start : Pair) (r₀ a₀ : List ℕ) (ready : Ready file n start) where
-  pub going-first : Going file n start r₀ a₀ r₀ a₀ start 1 0
+module _ (inputs : List ℕ) (n : ℕ) (start : Pair) (before : ℕ) (r₀ a₀ : List ℕ) (ready : Ready inputs n start) where
+  pub going-first : Going inputs n start before r₀ a₀ r₀ a₀ start before 0
   going-first =
       record {
         upto = omega arith;
         said = [];
         wrote = [];
         sent = [];
-        later = itemsIn file;
+        later = itemsFrom inputs n (start .actuator .clock);
         played = refl;
         reads = rw (sub-zero n) (ready .reads);
         safe = ready .sound;
-        stands = standing-first r₀ a₀;
+        stands = standing-first before r₀ a₀;
       }
 
-  module _ (r a : List ℕ) (p : Pair) (k i : ℕ) (g : Going file n start r₀ a₀ r a p k i) where
+  module _ (r a : List ℕ) (p : Pair) (k i : ℕ) (g : Going inputs n start before r₀ a₀ r a p k i) where
     -- the next item, where there is one
-    pub next-item : i < n → FirstItem file (n - (i + 1)) i (p .actuator .clock) (endTime file) (g .later)
-    next-item h = let left : n - i ≡ suc (n - (i + 1)) = omega arith in first-item file _ i _ _ _ (rw left at (g .reads))
+    pub next-item : i < n → FirstItem inputs (n - (i + 1)) i (p .actuator .clock) lastStamp (g .later)
+    next-item h = let left : n - i ≡ suc (n - (i + 1)) = omega arith in first-item inputs _ i _ _ _ (rw left at (g .reads))
 
     -- it is played: its records come after those that were written, its answer after those that were given
-    going-step : (h : i < n) → 8 ≤ length r₀ → n ≤ length a₀ → let d = pairStep p (next-item h .item) (stampAt file (inputPlace file i)) in
+    going-step : (h : i < n) → 8 * before ≤ length r₀ → n ≤ length a₀ → let d = pairStep p (next-item h .item) (stampAt inputs (inputPlace i)) in
         (answer : ℕ) → answer ≡ d .answer → (q : Pair) → q ≡ d .pair → (count : ℕ) → count ≡ k + length (d .records)
         → (r₁ : List ℕ) → r₁ ≡ splice r (8 * k) (recordsOctets (d .records)) → length r₁ ≡ length r
-        → Going file n start r₀ a₀ r₁ (set a i answer) q count (i + 1)
+        → Going inputs n start before r₀ a₀ r₁ (set a i answer) q count (i + 1)
     going-step h front enough answer answers q leads count counts r₁ writes long =
         let f = next-item h in
-        let t : ℕ = stampAt file (inputPlace file i) in
+        let t : ℕ = stampAt inputs (inputPlace i) in
         let d : PairStepped = pairStep p (f .item) t in
         rw (answers, leads, counts)
         (record {
@@ -121,17 +121,17 @@ module _ (file : List ℕ) (n : ℕ) (start : Pair) (r₀ a₀ : List ℕ) (read
           later = f .later;
           played = g .played ∙ one-played (record { pair = p; answers = g .said; records = g .wrote; telegrams = g .sent }) (g .later) (f .later) t (f .item) (f .starts);
           reads = rw (item-clock p (f .item) t) (f .reads);
-          safe = pair-step-keeps-sound p (f .item) t (g .safe) (f .risen) (omega (arith, f .timely, ready .timely)) (item-fits file (inputPlace file i) (f .item) (f .meant));
-          stands = standing-more r₀ a₀ r a (g .wrote) (d .records) (g .said) (d .answer) k i (g .stands) (an-item-writes-at-most-three p (f .item) t) front (omega arith) r₁ writes long;
+          safe = pair-step-keeps-sound p (f .item) t (g .safe) (f .risen) (f .timely) (item-fits inputs (inputPlace i) (f .item) (f .meant));
+          stands = standing-more before r₀ a₀ r a (g .wrote) (d .records) (g .said) (d .answer) k i (g .stands) (an-item-writes-at-most-three p (f .item) t) front (omega arith) r₁ writes long;
         })
 
     -- and at the end no item is left
-    pub going-last : n ≤ i → Filled 1 (pairPlays (itemsIn file) start) r₀ a₀ (p .actuator) (p .sensor) k r a
+    pub going-last : n ≤ i → Filled before (pairPlays (itemsFrom inputs n (start .actuator .clock)) start) r₀ a₀ (p .actuator) (p .sensor) k r a
     unfolding pairPlays readInputs
     going-last h =
         let none : n - i ≡ 0 = omega (arith, g .upto) in
         let left : g .later ≡ [] = sym (ap found (rw none at (g .reads))) in
-        let whole : pairPlays (itemsIn file) start ≡ record { pair = p; answers = g .said; records = g .wrote; telegrams = g .sent } = g .played ∙ rw left (simp append-nil) in
+        let whole : pairPlays (itemsFrom inputs n (start .actuator .clock)) start ≡ record { pair = p; answers = g .said; records = g .wrote; telegrams = g .sent } = g .played ∙ rw left (simp append-nil) in
         record { state = rw whole; sensor = rw whole; count = rw whole (g .stands .count); records = rw whole (g .stands .records); answers = rw whole (g .stands .answers) }
 
 -- ---- one item, as the code has it
@@ -234,23 +234,23 @@ module _ (p : Params) (table : List Scene) (l : Lamp) (z : Sensor) (heard t befo
 
 -- ---- the next item, of what the code has
 
-module _ (file : List ℕ) (n : ℕ) (start : Pair) (r₀ a₀ : List ℕ) (ready : Ready file n start) (p : Params) (table : List Scene) (l : Lamp) (z : Sensor) (heard : ℕ) (r a : List ℕ) (k i : ℕ)
-    (g : Going file n start r₀ a₀ r a (pairOf (stateOf p table l) (listened r k z heard)) k i) (behind : heard ≤ k) (h : i < n) (front : 8 ≤ length r₀) (enough : n ≤ length a₀) (room : 8 * k ≤ length r)
-    (m : Moment) (r₁ : List ℕ) (moves : Advanced p l (stampAt file (inputPlace file i)) k r m r₁) (long : length r₁ ≡ length r) (room₁ : 8 * m .count ≤ length r₁)
-    (u : Turn) (took : (j : Item) → itemAt file (inputPlace file i) ≡ Known j → Turned j (stampAt file (inputPlace file i)) r₁ (m .count) z heard u) where
+module _ (inputs : List ℕ) (n : ℕ) (start : Pair) (before : ℕ) (r₀ a₀ : List ℕ) (ready : Ready inputs n start) (p : Params) (table : List Scene) (l : Lamp) (z : Sensor) (heard : ℕ) (r a : List ℕ) (k i : ℕ)
+    (g : Going inputs n start before r₀ a₀ r a (pairOf (stateOf p table l) (listened r k z heard)) k i) (behind : heard ≤ k) (h : i < n) (front : 8 * before ≤ length r₀) (enough : n ≤ length a₀) (room : 8 * k ≤ length r)
+    (m : Moment) (r₁ : List ℕ) (moves : Advanced p l (stampAt inputs (inputPlace i)) k r m r₁) (long : length r₁ ≡ length r) (room₁ : 8 * m .count ≤ length r₁)
+    (u : Turn) (took : (j : Item) → itemAt inputs (inputPlace i) ≡ Known j → Turned j (stampAt inputs (inputPlace i)) r₁ (m .count) z heard u) where
   abbrev t : ℕ
-  t = stampAt file (inputPlace file i)
+  t = stampAt inputs (inputPlace i)
 
   abbrev item : Item
-  item = next-item file n start r₀ a₀ ready r a (pairOf (stateOf p table l) (listened r k z heard)) k i g h .item
+  item = next-item inputs n start before r₀ a₀ ready r a (pairOf (stateOf p table l) (listened r k z heard)) k i g h .item
 
   turned : Turned item t r₁ (m .count) z heard u
-  turned = took item (next-item file n start r₀ a₀ ready r a (pairOf (stateOf p table l) (listened r k z heard)) k i g h .meant)
+  turned = took item (next-item inputs n start before r₀ a₀ ready r a (pairOf (stateOf p table l) (listened r k z heard)) k i g h .meant)
 
   -- an edge that sends nothing
-  pub going-rests : u .asked ≡ Nothing → Going file n start r₀ a₀ r₁ (set a i 1) (pairOf (stateOf p table (m .lamp)) (listened r₁ (m .count) (u .sensor) (u .heard))) (m .count) (i + 1)
+  pub going-rests : u .asked ≡ Nothing → Going inputs n start before r₀ a₀ r₁ (set a i 1) (pairOf (stateOf p table (m .lamp)) (listened r₁ (m .count) (u .sensor) (u .heard))) (m .count) (i + 1)
   going-rests silent =
-      going-step file n start r₀ a₀ ready r a _ k i g h front enough 1 (answer-rests p table l z heard t k r r₁ m moves behind room item u turned silent)
+      going-step inputs n start before r₀ a₀ ready r a _ k i g h front enough 1 (answer-rests p table l z heard t k r r₁ m moves behind room item u turned silent)
       _ (pair-rests p table l z heard t k r r₁ m moves behind room item u turned silent)
       (m .count) (count-rests p table l z heard t k r r₁ m moves behind room item u turned silent)
       r₁ (records-rest p table l z heard t k r r₁ m moves behind room item u turned silent) long
@@ -264,9 +264,9 @@ module _ (file : List ℕ) (n : ℕ) (start : Pair) (r₀ a₀ : List ℕ) (read
       going-acts : (d : Done) → d ≡ done (act (still (stateOf p table (m .lamp))) x) → (count : ℕ) → count ≡ m .count + length (noted.listed (d .note))
           → (r₂ : List ℕ) → r₂ ≡ splice r₁ (8 * m .count) (recordsOctets (noted.listed (d .note))) → length r₂ ≡ length r
           → (left : List Scene) → left ≡ act (still (stateOf p table (m .lamp))) x .state .scenes
-          → Going file n start r₀ a₀ r₂ (set a i (d .answer)) (pairOf (stateOf p left (d .lamp)) (listened r₂ count (u .sensor) (u .heard))) count (i + 1)
+          → Going inputs n start before r₀ a₀ r₂ (set a i (d .answer)) (pairOf (stateOf p left (d .lamp)) (listened r₂ count (u .sensor) (u .heard))) count (i + 1)
       going-acts d does count counts r₂ writes same left teaches =
-          going-step file n start r₀ a₀ ready r a _ k i g h front enough (d .answer) (answer-acts p table l z heard t k r r₁ m moves behind room item u turned kind value orders x means d does)
+          going-step inputs n start before r₀ a₀ ready r a _ k i g h front enough (d .answer) (answer-acts p table l z heard t k r r₁ m moves behind room item u turned kind value orders x means d does)
           _ (pair-acts p table l z heard t k r r₁ m moves behind room item u turned kind value orders x means d does count counts r₂ writes room₁ left teaches)
           count (count-acts p table l z heard t k r r₁ m moves behind room item u turned kind value orders x means d does count counts r₂ writes)
           r₂ (records-act p table l z heard t k r r₁ m moves behind room item u turned kind value orders x means d does count counts r₂ writes) same
@@ -276,13 +276,13 @@ module _ (file : List ℕ) (n : ℕ) (start : Pair) (r₀ a₀ : List ℕ) (read
           → (count : ℕ) → count ≡ m .count + length (noted.listed (d .note))
           → (r₂ : List ℕ) → r₂ ≡ splice r₁ (8 * m .count) (recordsOctets (noted.listed (d .note))) → length r₂ ≡ length r
           → (left : List Scene) → left ≡ order (stateOf p table (m .lamp)) x .scenes
-          → Going file n start r₀ a₀ r₂ (set a i (d .answer)) (pairOf (stateOf p left (d .lamp)) (listened r₂ count (u .sensor) (u .heard))) count (i + 1)
+          → Going inputs n start before r₀ a₀ r₂ (set a i (d .answer)) (pairOf (stateOf p left (d .lamp)) (listened r₂ count (u .sensor) (u .heard))) count (i + 1)
       going-taken free d takes count counts r₂ writes same left teaches =
           let now : State = stateOf p table (m .lamp) in
           going-acts d (takes ∙ open-is-taken now x free) count counts r₂ writes same left (teaches ∙ open-teaches now x free)
 
       pub going-stopped : (why : Why) → barrier (stateOf p table (m .lamp)) x ≡ Stopped why →
-          Going file n start r₀ a₀ r₁ (set a i (stoppedNumber why)) (pairOf (stateOf p table (m .lamp)) (listened r₁ (m .count) (u .sensor) (u .heard))) (m .count) (i + 1)
+          Going inputs n start before r₀ a₀ r₁ (set a i (stoppedNumber why)) (pairOf (stateOf p table (m .lamp)) (listened r₁ (m .count) (u .sensor) (u .heard))) (m .count) (i + 1)
       unfolding stoppedBy
       going-stopped why bars =
           let now : State = stateOf p table (m .lamp) in

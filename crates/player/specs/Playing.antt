@@ -1,60 +1,39 @@
--- What the code of the run knows of a checked file, and what it leaves in the lent buffers.
+-- What the code knows of a checked list, and what playing leaves in the lent buffers.
 use Prim.Native.Nat.{ℕ, _+_, _*_, _≤_}
 use mathlib.Core.Bool.{true}
 use mathlib.Core.List.{List}
 use mathlib.Core.Path.{_≡_}
 use lib.ListN.{length}
-use Rattle.rules.specs.declared.form.Form.{Form}
 use Rattle.rules.specs.declared.parameters.Params.{Params}
 use Rattle.rules.specs.declared.parameters.Scene.{Scene}
 use Rattle.rules.specs.declared.state.State.{State}
 use Rattle.base.specs.Time.{lastStamp}
-use Rattle.rules.specs.Forms.{formIn}
 use Rattle.rules.specs.Layout.{mostInputs, inputPlace, recordPlace}
-use Rattle.rules.specs.Steps.{Moved, fresh, clockMove}
+use Rattle.rules.specs.Steps.{Moved, clockMove}
 use Rattle.rules.specs.Readings.{cues, found, readInputs}
-use Rattle.rules.specs.Files.{inputCount, endTime, paramsIn, scenesIn}
-use Rattle.rules.specs.Refusals.{GoodStart}
 use Rattle.rules.specs.Soundness.{sound}
 use Rattle.rules.specs.Runs.{recordsOctets}
 use Rattle.sensor.specs.declared.state.Sensor.{Sensor}
 use Rattle.pairs.specs.Pairs.{Pair, pairOf}
 use Rattle.pairs.specs.Lists.{Listed, PairPlayed, pairPlays}
 use Rattle.pairs.specs.Calls.{pairSound}
-use Rattle.pairs.specs.Walls.{itemIn, itemsRead, playOver}
+use Rattle.pairs.specs.Walls.{itemIn}
 use Rattle.lamps.specs.declared.lamp.Lamp.{Lamp}
 use Rattle.lamps.specs.Lamps.{lampOf, stateOf}
 use Rattle.octets.specs.Splice.{splice}
 use Rattle.turns.specs.Turns.{listened}
-use Rattle.player.specs.declared.play.Moment.{Moment}
-use Rattle.player.specs.declared.play.Reached.{Reached}
+use Rattle.player.specs.declared.items.Moment.{Moment}
+use Rattle.player.specs.declared.items.Reached.{Reached}
 
--- the items that a reading of a file has found
-unfoldable pub itemsIn : List ℕ → List Listed
-itemsIn file = found (itemsRead file)
-
--- the fresh state of its own parameters and scenes
-unfoldable pub freshIn : List ℕ → State
-freshIn file = fresh (paramsIn file) (scenesIn file)
-
--- the run over it, with this sensor beside the actuator
-unfoldable pub playIn : List ℕ → Sensor → PairPlayed
-playIn file z = playOver file z (itemsIn file)
-
--- nothing is wrong with the file, and these are the row of its version, its count of inputs and its end time
-pub record Fit (file : List ℕ) (form : Form) (n end : ℕ) : Type 0 where
-  pub start : GoodStart file
-  pub row : form ≡ formIn file
-  pub reads : itemsRead file ≡ cues (itemsIn file)
-  pub inputs : n ≡ inputCount file
-  pub ends : end ≡ endTime file
+-- the items that a reading of the first n inputs finds, where the clock stands at `from`
+unfoldable pub itemsFrom : List ℕ → ℕ → ℕ → List Listed
+itemsFrom inputs n from = found (readInputs (itemIn inputs) inputs n 0 from lastStamp)
 
 -- n items can be played from this pair on
-pub record Ready (file : List ℕ) (n : ℕ) (p : Pair) : Type 0 where
+pub record Ready (inputs : List ℕ) (n : ℕ) (p : Pair) : Type 0 where
   pub few : n ≤ mostInputs
-  pub whole : inputPlace file n ≤ length file
-  pub timely : endTime file ≤ lastStamp
-  pub reads : readInputs (itemIn file) file n 0 (p .actuator .clock) (endTime file) ≡ cues (itemsIn file)
+  pub whole : inputPlace n ≤ length inputs
+  pub reads : readInputs (itemIn inputs) inputs n 0 (p .actuator .clock) lastStamp ≡ cues (itemsFrom inputs n (p .actuator .clock))
   pub sound : pairSound p ≡ true
 
 -- both states are those that playing leads to, the records of what was played stand after the first so many, the answers from the start of
@@ -66,12 +45,12 @@ pub record Filled (from : ℕ) (p : PairPlayed) (records₀ answers₀ : List �
   pub records : records₁ ≡ splice records₀ (recordPlace from) (recordsOctets (p .records))
   pub answers : answers₁ ≡ splice answers₀ 0 (p .answers)
 
--- the items were played, after the start record, which `first` had not heard yet; the sensor that playing leads to is the one reached, once it has
+-- the items were played, after so many records, which `first` had not heard yet; the sensor that playing leads to is the one reached, once it has
 -- heard all records that stand there
-pub record ItemsPlayed (file : List ℕ) (n : ℕ) (start : State) (first : Sensor) (records₀ answers₀ : List ℕ) (r : Reached) (records₁ answers₁ : List ℕ) : Type 0 where
-  pub filled : Filled 1 (pairPlays (itemsIn file) (pairOf start (listened records₀ 1 first 0))) records₀ answers₀ (r .state) (listened records₁ (r .count) (r .sensor) (r .heard)) (r .count) records₁ answers₁
+pub record ItemsPlayed (inputs : List ℕ) (n : ℕ) (start : State) (first : Sensor) (before : ℕ) (records₀ answers₀ : List ℕ) (r : Reached) (records₁ answers₁ : List ℕ) : Type 0 where
+  pub filled : Filled before (pairPlays (itemsFrom inputs n (start .clock)) (pairOf start (listened records₀ before first 0))) records₀ answers₀ (r .state) (listened records₁ (r .count) (r .sensor) (r .heard)) (r .count) records₁ answers₁
   pub safe : sound (r .state) ≡ true
-  pub few : r .count ≤ 1 + 3 * n
+  pub few : r .count ≤ before + 3 * n
   pub behind : r .heard ≤ r .count
 
 -- a clock move, where so many records stand before it: the lamp that it leaves, and the records of its timers after those

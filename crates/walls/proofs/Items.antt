@@ -14,8 +14,8 @@ use Rattle.rules.specs.declared.input.Decoded.{Decoded}
 use Rattle.rules.specs.declared.input.Decoded.the-variants as input
 use Rattle.rules.specs.Inputs.{inputAt}
 use Rattle.rules.specs.Layout.{inputPlace}
-use Rattle.rules.specs.Readings.{Reading, verdict, readInputs}
-use Rattle.rules.specs.Files.{inputCount, endTime, checkStart}
+use Rattle.rules.specs.Readings.{Reading, verdict}
+use Rattle.rules.specs.Files.{checkStart}
 use Rattle.rules.proofs.Refusals.Readings.{verdict-after}
 use Rattle.sensor.specs.declared.signal.Signal.the-variants as signal
 use Rattle.sensor.specs.declared.signal.Signalled.{Signalled}
@@ -24,18 +24,18 @@ use Rattle.sensor.specs.Signals.{signalAt}
 use Rattle.sensor.specs.Actions.{checkActions}
 use Rattle.pairs.specs.Items.{itemOf, itemAt}
 use Rattle.pairs.specs.Lists.{Listed}
-use Rattle.pairs.specs.Walls.{fileIn, actionsIn, checkWall, stampedItem, itemIn, readWall}
+use Rattle.pairs.specs.Walls.{fileIn, actionsIn, checkWall, stampedItem, itemIn, itemsRead, readWall}
 use Rattle.inputs.specs.Meaning.{isMeant}
 use Rattle.cues.specs.Checks.{isEdge, isKnown, knownAt}
 use Rattle.cues.proofs.Inputs.{says}
 use Rattle.walls.specs.Lists.{checkParts}
 
 -- a list that takes edges
-pub items-say : (file : List ℕ) (i : ℕ) → knownAt true file i ≡ says (itemIn file i)
+pub items-say : (inputs : List ℕ) (i : ℕ) → knownAt true inputs i ≡ says (itemIn inputs i)
 unfolding isKnown itemIn itemAt
-items-say file i = by (inputAt file (inputPlace file i)) (signalAt file (inputPlace file i))
+items-say inputs i = by (inputAt inputs (inputPlace i)) (signalAt inputs (inputPlace i))
   where
-    by : (d : Decoded) (s : Signalled) → (isMeant d || (true && isEdge s)) ≡ says (stampedItem (stampAt file (inputPlace file i)) (itemOf d s))
+    by : (d : Decoded) (s : Signalled) → (isMeant d || (true && isEdge s)) ≡ says (stampedItem (stampAt inputs (inputPlace i)) (itemOf d s))
     by (input.Meant x) s = refl
     by input.Wrong (signalled.Meant (signal.Button1 edge)) = refl
     by input.Wrong (signalled.Meant (signal.Button2 edge)) = refl
@@ -53,7 +53,7 @@ module _ (wall : List ℕ) where
   long-wall long = verdict-after (checkWall wall) items ∙ rw (le-leb 56 (length wall) long) (orElse-assoc (checkStart (fileIn wall)) (checkActions (actionsIn wall)) (verdict items))
     where
       items : Reading Listed
-      items = readInputs (itemIn (fileIn wall)) (fileIn wall) (inputCount (fileIn wall)) 0 0 (endTime (fileIn wall))
+      items = itemsRead (fileIn wall)
 
   pub short-wall : length wall < 56 → verdict (readWall wall) ≡ Refused WrongLength 0
   unfolding readWall checkWall

@@ -19,8 +19,9 @@ use Rattle.sensor.specs.Sensors.{freshSensor}
 use Rattle.pairs.specs.Lists.{Listed}
 use Rattle.pairs.specs.Walls.{fileIn, actionsIn, readWall, playWall, wallAccepted, wallRefusal, wallRefused, wallCall}
 use Rattle.pairs.proofs.Refusals.Walls.{good-wall, good-wall-is-read, a-bad-wall-is-refused, a-short-wall-buffer-is-refused, a-good-wall-is-played}
-use Rattle.player.specs.declared.play.Ended.{Ended}
-use Rattle.player.specs.Playing.{itemsIn, playIn, Fit, Filled}
+use Rattle.runs.specs.declared.play.Ended.{Ended}
+use Rattle.player.specs.Playing.{Filled}
+use Rattle.runs.specs.Runs.{itemsIn, playIn, Fit}
 use Rattle.buffers.proofs.Splices.{splice-front}
 use Rattle.walls.specs.Reports.{wallReport, wallWhole}
 

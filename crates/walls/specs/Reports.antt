@@ -3,7 +3,7 @@ use Prim.Native.Nat.{ℕ}
 use mathlib.Core.List.{List}
 use Rattle.pairs.specs.declared.call.WallRan.{WallRan}
 use Rattle.pairs.specs.Walls.{WallWhole}
-use Rattle.player.specs.declared.play.Ended.{Ended}
+use Rattle.runs.specs.declared.play.Ended.{Ended}
 
 -- of a run that was played
 unfoldable pub wallReport : Ended → WallRan

@@ -7,11 +7,8 @@ ghost use Rattle.pairs.specs.Walls.{actionsSize, fileIn, actionsIn, readWall};
 ghost use Rattle.walls.specs.Lists.{checkParts};
 use base::refusal::Check;
 use base::refusal::Refusal;
-use cues::check::check_inputs;
+use cues::check::check_inputs_in;
 use cues::check::check_start;
-use cues::header::end_time;
-use cues::header::form_in;
-use cues::header::input_count;
 use layout::LEAST_FILE;
 use sensor::action::check_actions;
 
@@ -44,13 +41,7 @@ fn check_parts(file: &[u8], actions: &[u8]) -> Check
             let edges = check_actions(actions);
             match edges {
                 Check::Refused { why, place } => Check::Refused { why, place },
-                Check::Passed => check_inputs(
-                    file,
-                    form_in(file),
-                    input_count(file),
-                    end_time(file),
-                    true,
-                ),
+                Check::Passed => check_inputs_in(file, true),
             }
         }
     }

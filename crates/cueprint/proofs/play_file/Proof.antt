@@ -1,5 +1,6 @@
 use native.Mathlib.Omega.{arith}
 use borrow.Author.Needs.{needs}
+use Rattle.rules.proofs.Refusals.Files.{inputs-whole}
 use Rattle.cueprint.proofs.play_file.Statement.{statement}
 use Rattle.cueprint.proofs.play_file.Tie as tie
 
@@ -7,31 +8,33 @@ use Rattle.cueprint.proofs.play_file.Tie as tie
 parameters-in-requires : tie.Need-parameters-in-requires
 parameters-in-requires c κs =
     let row = c .before .form-in .ensures in
-    (row, rw row (omega (arith, c .before .before .before .before .pre .1)))
+    (row, rw row (c .before .before .before .before .pre .enough .long))
+
+inputs-in-requires : tie.Need-inputs-in-requires
+inputs-in-requires c κs =
+    let row = c .before .before .before .before .before .before .before .form-in .ensures in
+    (row, rw row (c .before .before .before .before .before .before .before .before .before .before .pre .enough .long))
 
 play-inputs-requires : tie.Need-play-inputs-requires
 play-inputs-requires c κs =
-    let f = c .before .before .before .before .before .before .before in
-    let pre = f .before .before .before .pre in
-    rw (f .form-in .ensures, f .before .input-count .ensures) (pre .0, omega (arith, pre .1))
-
-end-time-requires : tie.Need-end-time-requires
-end-time-requires c κs = c .before .before .before .before .before .before .before .before .before .before .before .before .before .pre .2
+    let layout = c .before .before .before .before .before .before .before .before .before .before .before .pre .layout in
+    rw (c .inputs-in .ensures, c .before .before .before .before .before .before .before .before .before .input-count .ensures) (layout .few, omega (arith, inputs-whole _ layout))
 
 pub play-file-spec : {M : Type 1} → statement M
 play-file-spec =
     tie.close
     (tie.spec
-    (λ c κs. search needs)
-    (λ c κs. search needs)
+    (λ c κs. c .before .pre .enough .least)
+    (λ c κs. c .before .before .pre .enough .least)
     (λ c κs. search needs)
     parameters-in-requires
     (λ c κs. search needs)
     (λ c κs. search needs)
     (λ c κs. search needs)
     (λ c κs. search needs)
+    inputs-in-requires
     play-inputs-requires
-    end-time-requires
+    (λ c κs. c .before .before .before .before .before .before .before .before .before .before .before .before .before .before .pre .enough .least)
     (λ c κs. search needs)
     (λ c. search needs)
     (λ c. search needs)

@@ -1,15 +1,15 @@
-use Prim.Native.Nat.{_+_, _*_, _-_, _≤_}
-use Rattle.rules.specs.Layout.{mostInputs, placeBy}
+use Prim.Native.Nat.{_*_, _-_, _≤_}
+use Rattle.rules.specs.Layout.{mostInputs, inputPlace}
 use lib.ListN.{length}
 use borrow.Author.Needs.{needs}
 use Rattle.cueprint.proofs.play_inputs.Statement.{statement}
 use Rattle.cueprint.proofs.play_inputs.Tie as tie
 
 abbrev Inv-loop : tie.InvT-loop
-Inv-loop file form n s₀ z₀ count₀ i₀ s z count i = (i ≤ n) × (n ≤ mostInputs) × (placeBy form n ≤ length file) × (count ≤ 255 * i)
+Inv-loop inputs n s₀ z₀ count₀ i₀ s z count i = (i ≤ n) × (n ≤ mostInputs) × (inputPlace n ≤ length inputs) × (count ≤ 255 * i)
 
 abbrev μ-loop : tie.MeasureT-loop
-μ-loop file form n s₀ z₀ count₀ i₀ s z count i = n - i
+μ-loop inputs n s₀ z₀ count₀ i₀ s z count i = n - i
 
 pub play-inputs-spec : {M : Type 1} → statement M
 play-inputs-spec =

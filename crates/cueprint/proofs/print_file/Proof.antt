@@ -6,9 +6,7 @@ use Rattle.cueprint.proofs.print_file.Tie as tie
 
 play-file-requires : tie.Need-play-file-requires
 play-file-requires c κs =
-    let good = passed-is-good _ (sym (c .before .before .before .check-file .ensures) ∙ c .before .enum-told .given .1) in
-    let layout = good .start .header .layout in
-    (layout .few, layout .whole, good .start .header .enough .least)
+    passed-is-good _ (sym (c .before .before .before .check-file .ensures) ∙ c .before .enum-told .given .1) .start .header
 
 pub print-file-spec : {M : Type 1} → statement M
 print-file-spec =

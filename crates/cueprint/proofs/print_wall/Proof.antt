@@ -13,8 +13,7 @@ good c = wall-decides _ .passed .0 (sym (c .before .before .check-wall .ensures)
 
 play-file-requires : tie.Need-play-file-requires
 play-file-requires c κs =
-    let header = good (c .before .before .before .before) .start .header in
-    rw (c .file-in .ensures) (header .layout .few, header .layout .whole, header .enough .least)
+    rw (c .file-in .ensures) (good (c .before .before .before .before) .start .header)
 
 pub print-wall-spec : {M : Type 1} → statement M
 print-wall-spec =

@@ -1,5 +1,4 @@
-use mathlib.Core.Path.{refl, sym, _∙_}
-use native.Mathlib.Omega.{arith}
+use mathlib.Core.Path.{sym, _∙_}
 use denote.Ref.{now}
 use borrow.Author.Needs.{needs}
 use Rattle.rules.specs.Refusals.{GoodStart}
@@ -10,14 +9,9 @@ use Rattle.walls.proofs.Items.{items-say}
 use Rattle.walls.proofs.list.check_parts.Statement.{statement}
 use Rattle.walls.proofs.list.check_parts.Tie as tie
 
--- the header says how many inputs there are at most, and that they fill the file
+-- what stands before the inputs is good
 start : (c : tie.After-enum-told2) → GoodStart (now (c .before .before .before .before .before .before .before .before .args .file))
 start c = start-decides _ .passed .0 (sym (c .before .before .before .before .before .check-start .ensures) ∙ c .before .before .before .enum-told .given .1)
-
-check-inputs-requires : tie.Need-check-inputs-requires
-check-inputs-requires c κs =
-    let layout = start (c .before .before .before) .header .layout in
-    rw (c .before .input-count .ensures, c .before .before .form-in .ensures) (refl, layout .few, omega (arith, layout .whole))
 
 returns : tie.Need-returns
 unfolding checkParts
@@ -31,7 +25,7 @@ returns-2 c =
 returns-3 : tie.Need-returns-3
 unfolding checkParts
 returns-3 c =
-    rw (c .check-inputs .ensures, c .before .end-time .ensures, c .before .before .input-count .ensures, sym (c .before .before .before .before .before .before .check-actions .ensures) ∙ c .before .before .before .before .enum-told2 .given .1, sym (c .before .before .before .before .before .before .before .before .before .check-start .ensures) ∙ c .before .before .before .before .before .before .before .enum-told .given .1)
+    rw (c .check-inputs-in .ensures, sym (c .before .before .before .check-actions .ensures) ∙ c .before .enum-told2 .given .1, sym (c .before .before .before .before .before .before .check-start .ensures) ∙ c .before .before .before .before .enum-told .given .1)
     (checked-as-read _ _ (items-say _) _ _ _ _ _)
 
 pub check-parts-spec : {M : Type 1} → statement M
@@ -44,10 +38,7 @@ check-parts-spec =
     (λ c κs. search needs)
     (λ c. search needs)
     (λ c. search needs)
-    (λ c κs. start c .header .enough .least)
-    (λ c κs. start (c .before) .header .enough .least)
-    (λ c κs. start (c .before .before) .header .enough .least)
-    check-inputs-requires
+    (λ c κs. start c)
     returns
     returns-2
     returns-3)

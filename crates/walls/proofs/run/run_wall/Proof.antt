@@ -7,7 +7,7 @@ use Rattle.buffers.proofs.Standing.{enough-room}
 use Rattle.pairs.specs.Walls.{fileIn, readWall}
 use Rattle.pairs.specs.Refusals.{GoodWall}
 use Rattle.pairs.proofs.Refusals.Walls.{actions-length, good-wall}
-use Rattle.player.specs.Playing.{itemsIn}
+use Rattle.runs.specs.Runs.{itemsIn}
 use Rattle.walls.proofs.Runs.{wall-passed, wall-fits, run-refused, run-short, run-accepted}
 use Rattle.walls.proofs.run.run_wall.Statement.{statement}
 use Rattle.walls.proofs.run.run_wall.Tie as tie

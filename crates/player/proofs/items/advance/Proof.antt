@@ -4,8 +4,8 @@ use Rattle.rules.proofs.Laws.Steps.{rank}
 use native.Mathlib.Omega.{arith}
 use mathlib.Core.Path.{sym, _∙_}
 use borrow.Author.Needs.{needs}
-use Rattle.player.proofs.play.advance.Statement.{statement}
-use Rattle.player.proofs.play.advance.Tie as tie
+use Rattle.player.proofs.items.advance.Statement.{statement}
+use Rattle.player.proofs.items.advance.Tie as tie
 
 abbrev Inv-loop : tie.InvT-loop
 Inv-loop records₀ count p l t ph₀ n₀ records ph n = Into p l t count records₀ ph n records

@@ -24,29 +24,25 @@ use Rattle.turns.specs.Turns.{listened, Turned}
 use Rattle.turns.proofs.Turning.{turned}
 use Rattle.player.specs.Playing.{Ready}
 use Rattle.player.proofs.Turns.{Going, going-first, next-item, going-rests, going-asks, going-taken, going-stopped, going-last}
-use Rattle.player.proofs.play.play_items.Statement.{statement}
-use Rattle.player.proofs.play.play_items.Tie as tie
+use Rattle.player.proofs.items.play_items.Statement.{statement}
+use Rattle.player.proofs.items.play_items.Tie as tie
 
 abbrev Inv-loop : tie.InvT-loop
-Inv-loop file form n records₀ answers₀ p k₀ l₀ z₀ heard₀ count₀ i₀ records answers k l z heard count i =
-    Going file n (pairOf (stateOf p k₀ l₀) (listened records₀ 1 z₀ 0)) records₀ answers₀ records answers (pairOf (stateOf p k l) (listened records count z heard)) count i × (heard ≤ count)
+Inv-loop inputs n before records₀ answers₀ p k₀ l₀ z₀ heard₀ count₀ i₀ records answers k l z heard count i =
+    Going inputs n (pairOf (stateOf p k₀ l₀) (listened records₀ count₀ z₀ 0)) count₀ records₀ answers₀ records answers (pairOf (stateOf p k l) (listened records count z heard)) count i × (heard ≤ count)
 
 abbrev μ-loop : tie.MeasureT-loop
-μ-loop file form n records₀ answers₀ p k₀ l₀ z₀ heard₀ count₀ i₀ records answers k l z heard count i = n - i
+μ-loop inputs n before records₀ answers₀ p k₀ l₀ z₀ heard₀ count₀ i₀ records answers k l z heard count i = n - i
 
 -- the pair that the items are played from is ready for them
-ready-to : (c : tie.After-lamp-of Inv-loop μ-loop) → let a = c .before .before .before .before .before .before .args in Ready (now (a .file)) (a .n) (pairOf (stateOf (a .start .params) (a .start .scenes) (c .lamp-of .result)) (listened (now (a .records)) 1 (a .first) 0))
+ready-to : (c : tie.After-lamp-of Inv-loop μ-loop) → let a = c .before .before .before .before .before .before .args in Ready (now (a .inputs)) (a .n) (pairOf (stateOf (a .start .params) (a .start .scenes) (c .lamp-of .result)) (listened (now (a .records)) (a .before) (a .first) 0))
 ready-to c = rw (c .lamp-of .ensures) (c .before .before .before .before .before .before .pre .0)
 
--- where the next item stands
-placed : (c : tie.After-input-place Inv-loop μ-loop) → c .input-place .result ≡ inputPlace (now (c .before .before .before .before .before .before .before .before .before .args .file)) (c .before .before .loop .i)
-placed c = rw (c .before .before .before .before .before .before .before .before .before .pre .3) at (c .input-place .ensures)
-
 loop-holds : tie.Need-loop-holds Inv-loop μ-loop
-loop-holds c = (going-first _ _ _ _ _ (ready-to c), omega arith)
+loop-holds c = (going-first _ _ _ _ _ _ (ready-to c), omega arith)
 
 stamp-at-requires : tie.Need-stamp-at-requires Inv-loop μ-loop
-stamp-at-requires c κs = omega (arith, placed c, c .before .loop-test .taken, ready-to (c .before .before .before) .whole)
+stamp-at-requires c κs = omega (arith, c .input-place .ensures, c .before .loop-test .taken, ready-to (c .before .before .before) .whole)
 
 advance-requires : tie.Need-advance-requires Inv-loop μ-loop
 advance-requires c κs =
@@ -55,8 +51,8 @@ advance-requires c κs =
     let loop = c .before .before .before .before .loop in
     let g = loop .inv .0 in
     let within = c .before .before .before .loop-test .taken in
-    let f = next-item _ _ _ _ _ ready _ _ _ _ _ g within in
-    (rw (c .before .stamp-at .ensures, placed (c .before .before)) (sound-room (stateOf (a .args .start .params) (loop .k) (loop .l)) _ (sound-pair-exactly-when _ .0 (g .safe) .actuator) (omega (arith, f .timely, ready .timely))), omega (arith, within, g .stands .few, ready .few), omega (arith, within, g .stands .few, g .stands .room, a .pre .1))
+    let f = next-item _ _ _ _ _ _ ready _ _ _ _ _ g within in
+    (rw (c .before .stamp-at .ensures, (c .before .before .input-place .ensures)) (sound-room (stateOf (a .args .start .params) (loop .k) (loop .l)) _ (sound-pair-exactly-when _ .0 (g .safe) .actuator) (f .timely)), omega (arith, within, g .stands .few, ready .few), omega (arith, within, g .stands .few, g .stands .room, a .pre .2))
 
 turn-at-requires : tie.Need-turn-at-requires Inv-loop μ-loop
 turn-at-requires c κs =
@@ -65,24 +61,24 @@ turn-at-requires c κs =
     let loop = c .before .before .before .before .before .before .before .before .before .loop in
     let g = loop .inv .0 in
     let within = c .before .before .before .before .before .before .before .before .loop-test .taken in
-    let place = placed (c .before .before .before .before .before .before .before) in
+    let place = (c .before .before .before .before .before .before .before .input-place .ensures) in
     let stamp = rw place at (c .before .before .before .before .before .before .stamp-at .ensures) in
     let moves = c .before .before .before .before .advance in
     let two = a-move-writes-at-most-two (stateOf (a .args .start .params) (loop .k) (loop .l)) (c .before .before .before .before .before .before .stamp-at .result) in
-    (omega (arith, place, within, ready .whole), omega (arith, loop .inv .1, moves .ensures (loop .k) .count), (omega (arith, within, two, moves .ensures (loop .k) .count, moves .kept .0, g .stands .few, g .stands .room, a .pre .1)))
+    (omega (arith, place, within, ready .whole), omega (arith, loop .inv .1, moves .ensures (loop .k) .count), (omega (arith, within, two, moves .ensures (loop .k) .count, moves .kept .0, g .stands .few, g .stands .room, a .pre .2)))
 
 -- the item's turn, where one stands
-took : (c : tie.After-turn-at Inv-loop μ-loop) → let loop = c .before .before .before .before .before .before .before .before .before .before .loop in let file = now (c .before .before .before .before .before .before .before .before .before .before .before .before .before .before .before .before .before .args .file) in let m = c .before .before .before .before .before .advance in
-    (j : Item) → itemAt file (inputPlace file (loop .i)) ≡ Known j → Turned j (stampAt file (inputPlace file (loop .i))) (m .last .0) (m .result .count) (loop .z) (loop .heard) (c .turn-at .result)
+took : (c : tie.After-turn-at Inv-loop μ-loop) → let loop = c .before .before .before .before .before .before .before .before .before .before .loop in let inputs = now (c .before .before .before .before .before .before .before .before .before .before .before .before .before .before .before .before .before .args .inputs) in let m = c .before .before .before .before .before .advance in
+    (j : Item) → itemAt inputs (inputPlace (loop .i)) ≡ Known j → Turned j (stampAt inputs (inputPlace (loop .i))) (m .last .0) (m .result .count) (loop .z) (loop .heard) (c .turn-at .result)
 took c j e =
     let loop = c .before .before .before .before .before .before .before .before .before .before .loop in
-    let place = placed (c .before .before .before .before .before .before .before .before) in
+    let place = (c .before .before .before .before .before .before .before .before .input-place .ensures) in
     rw (c .turn-at .ensures j (rw place e), c .before .before .before .before .before .before .before .stamp-at .ensures, place) (turned _ _ _ _ _ _ _ (omega (arith, loop .inv .1, c .before .before .before .before .before .advance .ensures (loop .k) .count)) j e)
 
 -- the sensor has heard no more than there is
 behind-still : (c : tie.After-turn-at Inv-loop μ-loop) → c .turn-at .result .heard ≤ c .before .before .before .before .before .advance .result .count
 behind-still c =
-    let f = next-item _ _ _ _ _ (ready-to (c .before .before .before .before .before .before .before .before .before .before .before)) _ _ _ _ _ (c .before .before .before .before .before .before .before .before .before .before .loop .inv .0) (c .before .before .before .before .before .before .before .before .before .loop-test .taken) in
+    let f = next-item _ _ _ _ _ _ (ready-to (c .before .before .before .before .before .before .before .before .before .before .before)) _ _ _ _ _ (c .before .before .before .before .before .before .before .before .before .before .loop .inv .0) (c .before .before .before .before .before .before .before .before .before .loop-test .taken) in
     took c (f .item) (f .meant) .behind
 
 -- an item that asks for something asks for an input
@@ -93,17 +89,17 @@ asked c =
     let loop = c .before .before .before .before .before .before .before .before .before .before .before .before .before .loop in
     let g = loop .inv .0 in
     let within = c .before .before .before .before .before .before .before .before .before .before .before .before .loop-test .taken in
-    let place = placed (c .before .before .before .before .before .before .before .before .before .before .before) in
+    let place = (c .before .before .before .before .before .before .before .before .before .before .before .input-place .ensures) in
     let stamp = rw place at (c .before .before .before .before .before .before .before .before .before .before .stamp-at .ensures) in
     let moves = c .before .before .before .before .before .before .before .before .advance in
     let two = a-move-writes-at-most-two (stateOf (a .args .start .params) (loop .k) (loop .l)) (c .before .before .before .before .before .before .before .before .before .before .stamp-at .result) in
-    going-asks _ _ _ _ _ ready (a .args .start .params) (loop .k) (loop .l) (loop .z) (loop .heard) _ _ _ _ g (loop .inv .1) within (omega (arith, a .pre .1)) (a .pre .2) (omega (arith, within, g .stands .few, g .stands .room, a .pre .1)) _ _ (rw stamp at (moves .ensures)) (moves .kept .0) (omega (arith, within, two, moves .ensures (loop .k) .count, moves .kept .0, g .stands .few, g .stands .room, a .pre .1)) _ (took (c .before .before .before)) _ _ (c .asked .given .1)
+    going-asks _ _ _ _ _ _ ready (a .args .start .params) (loop .k) (loop .l) (loop .z) (loop .heard) _ _ _ _ g (loop .inv .1) within (omega (arith, a .pre .2)) (a .pre .3) (omega (arith, within, g .stands .few, g .stands .room, a .pre .2)) _ _ (rw stamp at (moves .ensures)) (moves .kept .0) (omega (arith, within, two, moves .ensures (loop .k) .count, moves .kept .0, g .stands .few, g .stands .room, a .pre .2)) _ (took (c .before .before .before)) _ _ (c .asked .given .1)
 
 cast-answers : tie.Need-cast-answers Inv-loop μ-loop
 cast-answers c = omega (arith, c .before .before .before .before .before .before .before .before .before .before .before .before .loop-test .taken, ready-to (c .before .before .before .before .before .before .before .before .before .before .before .before .before .before) .few)
 
 slice-write-answers : tie.Need-slice-write-answers Inv-loop μ-loop
-slice-write-answers c = omega (arith, c .before .before .before .before .before .before .before .before .before .before .before .before .loop-test .taken, c .before .before .before .before .before .before .before .before .before .before .before .before .before .loop .inv .0 .stands .places, c .before .before .before .before .before .before .before .before .before .before .before .before .before .before .before .before .before .before .before .before .pre .2)
+slice-write-answers c = omega (arith, c .before .before .before .before .before .before .before .before .before .before .before .before .loop-test .taken, c .before .before .before .before .before .before .before .before .before .before .before .before .before .loop .inv .0 .stands .places, c .before .before .before .before .before .before .before .before .before .before .before .before .before .before .before .before .before .before .before .before .pre .3)
 
 add-i : tie.Need-add-i Inv-loop μ-loop
 add-i c = omega (arith, c .before .before .before .before .before .before .before .before .before .before .before .before .loop-test .taken, ready-to (c .before .before .before .before .before .before .before .before .before .before .before .before .before .before) .few)
@@ -118,11 +114,11 @@ loop-again c =
     let loop = c .before .before .before .before .before .before .before .before .before .before .before .before .before .loop in
     let g = loop .inv .0 in
     let within = c .before .before .before .before .before .before .before .before .before .before .before .before .loop-test .taken in
-    let place = placed (c .before .before .before .before .before .before .before .before .before .before .before) in
+    let place = (c .before .before .before .before .before .before .before .before .before .before .before .input-place .ensures) in
     let stamp = rw place at (c .before .before .before .before .before .before .before .before .before .before .stamp-at .ensures) in
     let moves = c .before .before .before .before .before .before .before .before .advance in
     let two = a-move-writes-at-most-two (stateOf (a .args .start .params) (loop .k) (loop .l)) (c .before .before .before .before .before .before .before .before .before .before .stamp-at .result) in
-    (going-rests _ _ _ _ _ ready (a .args .start .params) (loop .k) (loop .l) (loop .z) (loop .heard) _ _ _ _ g (loop .inv .1) within (omega (arith, a .pre .1)) (a .pre .2) (omega (arith, within, g .stands .few, g .stands .room, a .pre .1)) _ _ (rw stamp at (moves .ensures)) (moves .kept .0) (omega (arith, within, two, moves .ensures (loop .k) .count, moves .kept .0, g .stands .few, g .stands .room, a .pre .1)) _ (took (c .before .before .before)) (c .enum-told .given .1), behind-still (c .before .before .before))
+    (going-rests _ _ _ _ _ _ ready (a .args .start .params) (loop .k) (loop .l) (loop .z) (loop .heard) _ _ _ _ g (loop .inv .1) within (omega (arith, a .pre .2)) (a .pre .3) (omega (arith, within, g .stands .few, g .stands .room, a .pre .2)) _ _ (rw stamp at (moves .ensures)) (moves .kept .0) (omega (arith, within, two, moves .ensures (loop .k) .count, moves .kept .0, g .stands .few, g .stands .room, a .pre .2)) _ (took (c .before .before .before)) (c .enum-told .given .1), behind-still (c .before .before .before))
 
 -- what is asked for is an input, of one of the eight kinds
 barrier-to-requires : tie.Need-barrier-to-requires Inv-loop μ-loop
@@ -138,9 +134,9 @@ take-requires c κs =
     let loop = c .before .before .before .before .before .before .before .before .before .before .before .before .before .before .before .before .before .before .loop in
     let s = stateOf (a .start .params) (loop .k) (loop .l) in
     let g = loop .inv .0 in
-    let f = next-item _ _ _ _ _ ready _ _ _ _ _ g (c .before .before .before .before .before .before .before .before .before .before .before .before .before .before .before .before .before .loop-test .taken) in
-    rw (c .before .before .before .before .before .before .before .before .before .before .before .before .before .advance .ensures (loop .k) .lamp, c .before .before .before .before .before .before .before .before .before .before .before .before .before .before .before .stamp-at .ensures, placed (c .before .before .before .before .before .before .before .before .before .before .before .before .before .before .before .before), move-clock s _)
-    (moved-roomy s _ (sound-pair-exactly-when _ .0 (g .safe) .actuator) (f .risen) (omega (arith, f .timely, ready .timely)))
+    let f = next-item _ _ _ _ _ _ ready _ _ _ _ _ g (c .before .before .before .before .before .before .before .before .before .before .before .before .before .before .before .before .before .loop-test .taken) in
+    rw (c .before .before .before .before .before .before .before .before .before .before .before .before .before .advance .ensures (loop .k) .lamp, c .before .before .before .before .before .before .before .before .before .before .before .before .before .before .before .stamp-at .ensures, (c .before .before .before .before .before .before .before .before .before .before .before .before .before .before .before .before .input-place .ensures), move-clock s _)
+    (moved-roomy s _ (sound-pair-exactly-when _ .0 (g .safe) .actuator) (f .risen) (f .timely))
 
 put-note-requires : tie.Need-put-note-requires Inv-loop μ-loop
 put-note-requires c κs =
@@ -149,18 +145,18 @@ put-note-requires c κs =
     let loop = c .before .before .before .before .before .before .before .before .before .before .before .before .before .before .before .before .before .before .before .before .loop in
     let g = loop .inv .0 in
     let within = c .before .before .before .before .before .before .before .before .before .before .before .before .before .before .before .before .before .before .before .loop-test .taken in
-    let place = placed (c .before .before .before .before .before .before .before .before .before .before .before .before .before .before .before .before .before .before) in
+    let place = (c .before .before .before .before .before .before .before .before .before .before .before .before .before .before .before .before .before .before .input-place .ensures) in
     let stamp = rw place at (c .before .before .before .before .before .before .before .before .before .before .before .before .before .before .before .before .before .stamp-at .ensures) in
     let moves = c .before .before .before .before .before .before .before .before .before .before .before .before .before .before .before .advance in
     let two = a-move-writes-at-most-two (stateOf (a .args .start .params) (loop .k) (loop .l)) (c .before .before .before .before .before .before .before .before .before .before .before .before .before .before .before .before .before .stamp-at .result) in
     let own = listed-few (c .before .take .result .note) in
-    (omega (arith, within, two, moves .ensures (loop .k) .count, g .stands .few, ready .few), omega (arith, within, two, own, moves .ensures (loop .k) .count, moves .kept .0, g .stands .few, g .stands .room, a .pre .1))
+    (omega (arith, within, two, moves .ensures (loop .k) .count, g .stands .few, ready .few), omega (arith, within, two, own, moves .ensures (loop .k) .count, moves .kept .0, g .stands .few, g .stands .room, a .pre .2))
 
 cast-answers-2 : tie.Need-cast-answers-2 Inv-loop μ-loop
 cast-answers-2 c = omega (arith, c .before .before .before .before .before .before .before .before .before .before .before .before .before .before .before .before .before .before .before .before .before .before .loop-test .taken, ready-to (c .before .before .before .before .before .before .before .before .before .before .before .before .before .before .before .before .before .before .before .before .before .before .before .before) .few)
 
 slice-write-answers-2 : tie.Need-slice-write-answers-2 Inv-loop μ-loop
-slice-write-answers-2 c = omega (arith, c .before .before .before .before .before .before .before .before .before .before .before .before .before .before .before .before .before .before .before .before .before .before .loop-test .taken, c .before .before .before .before .before .before .before .before .before .before .before .before .before .before .before .before .before .before .before .before .before .before .before .loop .inv .0 .stands .places, c .before .before .before .before .before .before .before .before .before .before .before .before .before .before .before .before .before .before .before .before .before .before .before .before .before .before .before .before .before .before .pre .2)
+slice-write-answers-2 c = omega (arith, c .before .before .before .before .before .before .before .before .before .before .before .before .before .before .before .before .before .before .before .before .before .before .loop-test .taken, c .before .before .before .before .before .before .before .before .before .before .before .before .before .before .before .before .before .before .before .before .before .before .before .loop .inv .0 .stands .places, c .before .before .before .before .before .before .before .before .before .before .before .before .before .before .before .before .before .before .before .before .before .before .before .before .before .before .before .before .before .before .pre .3)
 
 add-i-2 : tie.Need-add-i-2 Inv-loop μ-loop
 add-i-2 c = omega (arith, c .before .before .before .before .before .before .before .before .before .before .before .before .before .before .before .before .before .before .before .before .before .before .before .before .loop-test .taken, ready-to (c .before .before .before .before .before .before .before .before .before .before .before .before .before .before .before .before .before .before .before .before .before .before .before .before .before .before) .few)
@@ -176,21 +172,21 @@ loop-again-2 c =
     let loop = c .before .before .before .before .before .before .before .before .before .before .before .before .before .before .before .before .before .before .before .before .before .before .before .before .before .loop in
     let g = loop .inv .0 in
     let within = c .before .before .before .before .before .before .before .before .before .before .before .before .before .before .before .before .before .before .before .before .before .before .before .before .loop-test .taken in
-    let place = placed (c .before .before .before .before .before .before .before .before .before .before .before .before .before .before .before .before .before .before .before .before .before .before .before) in
+    let place = (c .before .before .before .before .before .before .before .before .before .before .before .before .before .before .before .before .before .before .before .before .before .before .before .input-place .ensures) in
     let stamp = rw place at (c .before .before .before .before .before .before .before .before .before .before .before .before .before .before .before .before .before .before .before .before .before .before .stamp-at .ensures) in
     let moves = c .before .before .before .before .before .before .before .before .before .before .before .before .before .before .before .before .before .before .before .before .advance in
     let two = a-move-writes-at-most-two (stateOf (a .args .start .params) (loop .k) (loop .l)) (c .before .before .before .before .before .before .before .before .before .before .before .before .before .before .before .before .before .before .before .before .before .before .stamp-at .result) in
     let put = c .before .before .before .before .put-note in
     let means = c .before .before .before .before .before .before .before .known-input .ensures in
     let free = rw (← meant-kind _ _ _ means) at (sym (c .before .before .before .before .before .before .before .before .before .before .barrier-to .ensures) ∙ c .before .before .before .before .before .before .before .before .enum-told2 .given .1) in
-    let goes = going-taken _ _ _ _ _ ready (a .args .start .params) (loop .k) (loop .l) (loop .z) (loop .heard) _ _ _ _ g (loop .inv .1) within (omega (arith, a .pre .1)) (a .pre .2) (omega (arith, within, g .stands .few, g .stands .room, a .pre .1)) _ _ (rw stamp at (moves .ensures)) (moves .kept .0) (omega (arith, within, two, moves .ensures (loop .k) .count, moves .kept .0, g .stands .few, g .stands .room, a .pre .1)) _ (took (c .before .before .before .before .before .before .before .before .before .before .before .before .before .before .before)) _ _ (c .before .before .before .before .before .before .before .before .before .before .before .before .asked .given .1) _ means free _ (c .before .before .before .before .before .before .take .ensures) _ (put .ensures .0) _ (put .ensures .1) (put .kept .0 ∙ moves .kept .0) _ (c .before .scenes-after .ensures) in
+    let goes = going-taken _ _ _ _ _ _ ready (a .args .start .params) (loop .k) (loop .l) (loop .z) (loop .heard) _ _ _ _ g (loop .inv .1) within (omega (arith, a .pre .2)) (a .pre .3) (omega (arith, within, g .stands .few, g .stands .room, a .pre .2)) _ _ (rw stamp at (moves .ensures)) (moves .kept .0) (omega (arith, within, two, moves .ensures (loop .k) .count, moves .kept .0, g .stands .few, g .stands .room, a .pre .2)) _ (took (c .before .before .before .before .before .before .before .before .before .before .before .before .before .before .before)) _ _ (c .before .before .before .before .before .before .before .before .before .before .before .before .asked .given .1) _ means free _ (c .before .before .before .before .before .before .take .ensures) _ (put .ensures .0) _ (put .ensures .1) (put .kept .0 ∙ moves .kept .0) _ (c .before .scenes-after .ensures) in
     (goes, omega (arith, behind-still (c .before .before .before .before .before .before .before .before .before .before .before .before .before .before .before), put .ensures .0))
 
 cast-answers-3 : tie.Need-cast-answers-3 Inv-loop μ-loop
 cast-answers-3 c = omega (arith, c .before .before .before .before .before .before .before .before .before .before .before .before .before .before .before .before .before .before .loop-test .taken, ready-to (c .before .before .before .before .before .before .before .before .before .before .before .before .before .before .before .before .before .before .before .before) .few)
 
 slice-write-answers-3 : tie.Need-slice-write-answers-3 Inv-loop μ-loop
-slice-write-answers-3 c = omega (arith, c .before .before .before .before .before .before .before .before .before .before .before .before .before .before .before .before .before .before .loop-test .taken, c .before .before .before .before .before .before .before .before .before .before .before .before .before .before .before .before .before .before .before .loop .inv .0 .stands .places, c .before .before .before .before .before .before .before .before .before .before .before .before .before .before .before .before .before .before .before .before .before .before .before .before .before .before .pre .2)
+slice-write-answers-3 c = omega (arith, c .before .before .before .before .before .before .before .before .before .before .before .before .before .before .before .before .before .before .loop-test .taken, c .before .before .before .before .before .before .before .before .before .before .before .before .before .before .before .before .before .before .before .loop .inv .0 .stands .places, c .before .before .before .before .before .before .before .before .before .before .before .before .before .before .before .before .before .before .before .before .before .before .before .before .before .before .pre .3)
 
 add-i-3 : tie.Need-add-i-3 Inv-loop μ-loop
 add-i-3 c = omega (arith, c .before .before .before .before .before .before .before .before .before .before .before .before .before .before .before .before .before .before .loop-test .taken, ready-to (c .before .before .before .before .before .before .before .before .before .before .before .before .before .before .before .before .before .before .before .before) .few)
@@ -206,13 +202,13 @@ loop-again-3 c =
     let loop = c .before .before .before .before .before .before .before .before .before .before .before .before .before .before .before .before .before .before .before .loop in
     let g = loop .inv .0 in
     let within = c .before .before .before .before .before .before .before .before .before .before .before .before .before .before .before .before .before .before .loop-test .taken in
-    let place = placed (c .before .before .before .before .before .before .before .before .before .before .before .before .before .before .before .before .before) in
+    let place = (c .before .before .before .before .before .before .before .before .before .before .before .before .before .before .before .before .before .input-place .ensures) in
     let stamp = rw place at (c .before .before .before .before .before .before .before .before .before .before .before .before .before .before .before .before .stamp-at .ensures) in
     let moves = c .before .before .before .before .before .before .before .before .before .before .before .before .before .before .advance in
     let two = a-move-writes-at-most-two (stateOf (a .args .start .params) (loop .k) (loop .l)) (c .before .before .before .before .before .before .before .before .before .before .before .before .before .before .before .before .stamp-at .result) in
     let x = asked (c .before .before .before .before .before .before) in
     let bars = rw (← meant-kind _ _ _ (x .1)) at (sym (c .before .before .before .before .barrier-to .ensures) ∙ c .before .before .b .given .1) in
-    let goes = going-stopped _ _ _ _ _ ready (a .args .start .params) (loop .k) (loop .l) (loop .z) (loop .heard) _ _ _ _ g (loop .inv .1) within (omega (arith, a .pre .1)) (a .pre .2) (omega (arith, within, g .stands .few, g .stands .room, a .pre .1)) _ _ (rw stamp at (moves .ensures)) (moves .kept .0) (omega (arith, within, two, moves .ensures (loop .k) .count, moves .kept .0, g .stands .few, g .stands .room, a .pre .1)) _ (took (c .before .before .before .before .before .before .before .before .before)) _ _ (c .before .before .before .before .before .before .asked .given .1) (x .0) (x .1) (c .before .before .b .given .0 .0) bars in
+    let goes = going-stopped _ _ _ _ _ _ ready (a .args .start .params) (loop .k) (loop .l) (loop .z) (loop .heard) _ _ _ _ g (loop .inv .1) within (omega (arith, a .pre .2)) (a .pre .3) (omega (arith, within, g .stands .few, g .stands .room, a .pre .2)) _ _ (rw stamp at (moves .ensures)) (moves .kept .0) (omega (arith, within, two, moves .ensures (loop .k) .count, moves .kept .0, g .stands .few, g .stands .room, a .pre .2)) _ (took (c .before .before .before .before .before .before .before .before .before)) _ _ (c .before .before .before .before .before .before .asked .given .1) (x .0) (x .1) (c .before .before .b .given .0 .0) bars in
     (rw (c .stopped-number .ensures) goes, behind-still (c .before .before .before .before .before .before .before .before .before))
 
 same-length : tie.Need-same-length Inv-loop μ-loop
@@ -225,7 +221,7 @@ returns : tie.Need-returns Inv-loop μ-loop
 returns c =
     let loop = c .before .before .loop in
     let g = loop .inv .0 in
-    let all = going-last _ _ _ _ _ (ready-to (c .before .before .before)) _ _ _ _ _ g (c .before .loop-test .left) in
+    let all = going-last _ _ _ _ _ _ (ready-to (c .before .before .before)) _ _ _ _ _ g (c .before .loop-test .left) in
     rw (c .state-of .ensures) (record { filled = rw (c .before .before .before .lamp-of .ensures) at all; safe = sound-pair-exactly-when _ .0 (g .safe) .actuator; few = omega (arith, g .stands .few, g .upto); behind = loop .inv .1 })
 
 pub play-items-spec : {M : Type 1} → statement M

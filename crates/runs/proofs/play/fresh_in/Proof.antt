@@ -2,11 +2,11 @@ use mathlib.Core.Path.{_≡_}
 use lib.ListN.{length}
 use denote.Ref.{now}
 use Rattle.rules.specs.Layout.{parametersSize}
-use Rattle.player.specs.Playing.{freshIn}
+use Rattle.runs.specs.Runs.{freshIn}
 use Rattle.rules.proofs.Refusals.Files.{parameters-whole}
 use borrow.Author.Needs.{needs}
-use Rattle.player.proofs.play.fresh_in.Statement.{statement}
-use Rattle.player.proofs.play.fresh_in.Tie as tie
+use Rattle.runs.proofs.play.fresh_in.Statement.{statement}
+use Rattle.runs.proofs.play.fresh_in.Tie as tie
 
 -- the parameters are as long as the row says
 whole : (c : tie.After-parameters-in) → length (now (c .parameters-in .result)) ≡ parametersSize (c .before .before .args .form)

@@ -1,0 +1,69 @@
+// A checked file: its start record, its items one after the other, and the move to its end time.
+ghost use mathlib.Core.Path.{_≡_};
+ghost use Prim.Native.Nat.{_≤_};
+ghost use lib.ListN.{length};
+ghost use Rattle.rules.specs.Forms.{formIn};
+ghost use Rattle.rules.specs.Layout.{inputsAt, recordsRoom};
+ghost use Rattle.player.specs.Playing.{Filled};
+ghost use Rattle.runs.specs.Runs.{freshIn, playIn, Fit};
+use buffers::put::put_notes;
+use buffers::put::put_record;
+use lamps::lamp::lamp_of;
+use layout::inputs_in;
+use layout::parameters_in;
+use parameters::read::params_of;
+use parameters::read::scenes_of;
+use player::items::play_items;
+use records::status::record_of;
+use rules::form::Form;
+use rules::state::State;
+use sensor::state::Sensor;
+use states::fresh::fresh_with;
+use timers::clock::move_clock;
+use turns::heard::listen;
+
+// Where it ends: the sensor has heard them all.
+pub struct Ended {
+    pub state: State,
+    pub sensor: Sensor,
+    pub count: u32,
+}
+
+// The fresh state of a file's own parameters and scenes.
+fn fresh_in(file: &[u8], form: Form) -> State
+    requires { ⌜ (form ≡ formIn (now file)) × (inputsAt form ≤ length (now file)) ⌝ }
+    ensures { λ r. ⌜ r ≡ freshIn (now (file .entry)) ⌝ }
+{
+    let parameters = parameters_in(file, form);
+    fresh_with(params_of(parameters, form), scenes_of(parameters, form))
+}
+
+// The whole run, to an actuator with this sensor beside it: the start record, the items, and the clock's move to the end time.
+pub fn play(
+    file: &[u8],
+    form: Form,
+    first: Sensor,
+    n: u32,
+    end: u32,
+    records: &mut [u8],
+    answers: &mut [u8],
+) -> Ended
+    requires { ⌜ Fit (now file) form n end × (recordsRoom n ≤ length (now records)) × (n ≤ length (now answers)) ⌝ }
+    ensures { λ r. ⌜ Filled 0 (playIn (now (file .entry)) first) (now (records .entry)) (now (answers .entry)) (r .state) (r .sensor) (r .count) (now (records .exit)) (now (answers .exit)) ⌝ }
+{
+    let start = fresh_in(file, form);
+    put_record(records, 0, record_of(0, lamp_of(start)));
+    let played = play_items(inputs_in(file, form), n, start, first, 1, records, answers);
+    let s = played.state;
+    let z = played.sensor;
+    let last = move_clock(s, end);
+    let state = last.state;
+    let written = last.notes;
+    put_notes(records, played.count, written);
+    let count = played.count + (written.count as u32);
+    Ended {
+        state,
+        sensor: listen(records, count, z, played.heard),
+        count,
+    }
+}
