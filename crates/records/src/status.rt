@@ -19,7 +19,7 @@ pub fn value_of(l: Lamp) -> u8
     if output_of(ph) { 255 } else { 0 }
 }
 
-fn bit_of(set: bool, weight: u8) -> u8
+pub fn bit_of(set: bool, weight: u8) -> u8
     ensures { λ r. ⌜ (r ≡ bit set weight) × (r ≤ weight) ⌝ }
 {
     if set { weight } else { 0 }

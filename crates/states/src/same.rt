@@ -12,7 +12,7 @@ use rules::input::Force;
 use rules::phase::Phase;
 use rules::state::Link;
 
-fn phase_number(phase: Phase) -> u8
+pub fn phase_number(phase: Phase) -> u8
     ensures { λ r. ⌜ r ≡ phaseNumber phase ⌝ }
 {
     match phase {
@@ -33,7 +33,7 @@ pub fn same_phase(a: Phase, b: Phase) -> bool
     both(n, d)
 }
 
-fn force_number(force: Force) -> u8
+pub fn force_number(force: Force) -> u8
     ensures { λ r. ⌜ r ≡ forceNumber force ⌝ }
 {
     match force {
@@ -43,7 +43,7 @@ fn force_number(force: Force) -> u8
     }
 }
 
-fn link_number(link: Link) -> u8
+pub fn link_number(link: Link) -> u8
     ensures { λ r. ⌜ r ≡ linkNumber link ⌝ }
 {
     match link {
