@@ -1,7 +1,7 @@
 // The run over a cue file.
 ghost use mathlib.Core.Path.{_≡_};
-ghost use Rattle.rules.specs.Runs.{refusal, runCall};
-ghost use Rattle.house.specs.Reports.{report, whole};
+ghost use Rattle.rules.specs.Runs.{whole, refusal, runCall};
+ghost use Rattle.house.specs.Reports.{report};
 use base::refusal::Check;
 use base::refusal::Refusal;
 use base::refusal::number_of;
@@ -10,9 +10,9 @@ use cues::check::check_file;
 use cues::header::end_time;
 use cues::header::form_in;
 use cues::header::input_count;
-use player::play::Ended;
-use player::play::play;
 use rules::call::Ran;
+use runs::play::Ended;
+use runs::play::play;
 use sensor::state::own_sensor;
 use states::fresh::own_state;
 
