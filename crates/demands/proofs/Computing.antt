@@ -15,7 +15,7 @@ use Rattle.rules.specs.Steps.{fresh, tickAt, tick, ticked, clockMove, taken, me
 use Rattle.rules.specs.Calls.{leastParams, unused, noScenes, blank, places}
 use Rattle.rules.specs.Soundness.{soon, heldIsSteady, forceDecides, nightEnds, powerDownIsClear, consistent, sound}
 use Rattle.rules.specs.Readings.{readOne, readInputs}
-use Rattle.rules.specs.Files.{parametersIn, layoutRight, checkRest, checkStart, lentEnough}
+use Rattle.rules.specs.Files.{parametersIn, layoutRight, checkRest, checkStart, lentEnough, inputsIn}
 use Rattle.sensor.specs.Actions.{actionOf, checkActions}
 use Rattle.sensor.specs.Signals.{signalled, signalAt}
 use Rattle.sensor.specs.Signals as signals
@@ -33,12 +33,12 @@ unfolding playItems pairPlaysTo pairPlays pairStep pairMove pressed told tell he
 playingPairs = tt
 
 unfoldable pub readingWalls : Unit {0}
-unfolding readWallCall readWall checkWall checkActions fileIn actionsIn itemIn itemAt inputAt decoded zeroOrOne signalAt signalled signals.zeroOrOne stampAt lentEnough checkStart checkRest layoutRight formIn formOf isVersion parametersIn checkParameters lowestBad badOctet badTime delay timeAt greatest badNumber badFlags numberAbove readInputs readOne
+unfolding readWallCall readWall checkWall checkActions fileIn actionsIn itemIn itemAt inputAt decoded zeroOrOne signalAt signalled signals.zeroOrOne stampAt lentEnough checkStart checkRest layoutRight formIn formOf isVersion parametersIn inputsIn checkParameters lowestBad badOctet badTime delay timeAt greatest badNumber badFlags numberAbove readInputs readOne
 readingWalls = tt
 
 -- what a wall list holds, and its run
 unfoldable pub playingWalls : Unit {0}
-unfolding playingPairs playWall fileIn actionsIn formIn formOf parametersIn paramsOf scenesOf sceneAt delay timeAt
+unfolding playingPairs playWall fileIn actionsIn formIn formOf parametersIn inputsIn paramsOf scenesOf sceneAt delay timeAt
 playingWalls = tt
 
 unfoldable pub callingPairs : Unit {0}

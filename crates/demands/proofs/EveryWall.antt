@@ -12,7 +12,7 @@ use Rattle.rules.specs.Steps.{fresh}
 use Rattle.rules.specs.Lists.{Cue, start, playList}
 use Rattle.rules.specs.Readings.{cues, readInputs}
 use Rattle.rules.specs.Runs.{playFile}
-use Rattle.rules.specs.Files.{inputCount, endTime, parametersIn, readFile}
+use Rattle.rules.specs.Files.{inputCount, endTime, parametersIn, readFile, inputsIn}
 use Rattle.rules.specs.Promises.{Rises, DarkPromise, LightPromise, StrongLightPromise}
 use Rattle.rules.proofs.Laws.Forms.{file-row}
 use Rattle.rules.proofs.Laws.Parameters.{passed-has-some-time, passed-is-in-range}
@@ -45,13 +45,13 @@ abbrev pub AllFit : List Listed → Type 0
 AllFit [] = Unit {0}
 AllFit (listed t i ∷ later) = SceneFits i × AllFit later
 
-read-in-order : (file : List ℕ) (left j last end : ℕ) (items : List Listed) → last ≤ end → readInputs (itemIn file) file left j last end ≡ cues items → ItemsRise last items end × AllFit items
-read-in-order file zero j last end items early read = let none : items ≡ [] = unfold readInputs in cc in rw none (early, tt)
-read-in-order file (suc left) j last end items early read =
-    let f = first-read (itemIn file) file left j last end items read in
-    let x = item-said file j (f .input) (f .means) in
-    let rest = read-in-order file left (j + 1) (stampAt file (inputPlace file j)) end (f .later) (f .timely) (f .reads) in
-    rw (f .starts, x .2) ((f .risen, rest .0), (item-fits file (inputPlace file j) (x .0) (x .1), rest .1))
+read-in-order : (inputs : List ℕ) (left j last end : ℕ) (items : List Listed) → last ≤ end → readInputs (itemIn inputs) inputs left j last end ≡ cues items → ItemsRise last items end × AllFit items
+read-in-order inputs zero j last end items early read = let none : items ≡ [] = unfold readInputs in cc in rw none (early, tt)
+read-in-order inputs (suc left) j last end items early read =
+    let f = first-read (itemIn inputs) inputs left j last end items read in
+    let x = item-said inputs j (f .input) (f .means) in
+    let rest = read-in-order inputs left (j + 1) (stampAt inputs (inputPlace j)) end (f .later) (f .timely) (f .reads) in
+    rw (f .starts, x .2) ((f .risen, rest .0), (item-fits inputs (inputPlace j) (x .0) (x .1), rest .1))
 
 -- ---- soundness over a list
 
@@ -78,7 +78,7 @@ module _ (wall : List ℕ) (items : List Listed) (read : readWall wall ≡ cues 
   good = good-wall wall items read
 
   in-order : ItemsRise 0 items (endTime file) × AllFit items
-  in-order = read-in-order file (inputCount file) 0 0 (endTime file) items (omega arith) (sym (good-wall-is-read wall good) ∙ read)
+  in-order = read-in-order (inputsIn file) (inputCount file) 0 0 (endTime file) items (omega arith) (sym (good-wall-is-read wall good) ∙ read)
 
   pub items-rise : ItemsRise 0 items (endTime file)
   items-rise = in-order .0
@@ -129,7 +129,7 @@ a-cue-file-is-a-wall-list wall list actions read =
     let file : List ℕ = fileIn wall in
     let start = good-file file list read .start in
     a-good-start-is-read wall (omega (arith, file-length wall, start .header .enough .least)) start actions
-    ∙ reads-plain file (inputCount file) 0 0 (endTime file) list (sym (good-start file start) ∙ read)
+    ∙ reads-plain (inputsIn file) (inputCount file) 0 0 (endTime file) list (sym (good-start file start) ∙ read)
 
 pub its-run-is-the-files : (wall : List ℕ) (list : List Cue) → actuatorPart (playWall wall (plainItems list)) ≡ playFile (fileIn wall) list
 unfolding playWall playFile

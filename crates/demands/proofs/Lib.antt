@@ -5,6 +5,8 @@ pub mod ThreeMistakes
 pub mod Used
 pub mod Joined
 pub mod Unique
+pub mod Changes
+pub mod Live
 pub mod Meets
 pub mod WrongModels
 pub mod Alike

@@ -22,7 +22,7 @@ use Rattle.rules.specs.Lists.{Cue, cue, Played, plays, playsTo}
 use Rattle.base.specs.Refusals.{number, codeOf, placeOf}
 use Rattle.rules.specs.Calls.{singleDone, singleRefused, singleCall}
 use Rattle.rules.specs.Readings.{Reading, cues, bad, ifLentEnough, verdict}
-use Rattle.rules.specs.Files.{inputCount, endTime, cueAt, readFile, lentEnough, readCall, paramsIn, scenesIn}
+use Rattle.rules.specs.Files.{inputCount, endTime, readFile, lentEnough, readCall, paramsIn, scenesIn}
 use Rattle.octets.specs.BigEndian.{octets32}
 use Rattle.octets.proofs.BothWays.{what-is-written-is-read}
 use Rattle.rules.specs.Runs.{recordOctets, recordsOctets, over, Whole, playFile, accepted, refused, runBy, runCall}
@@ -65,14 +65,14 @@ start-numbered file WrongActuators place g = omega arith
 start-numbered file WrongLayout place g = omega arith
 start-numbered file BadParameter place g = omega arith
 
-pub inputs-numbered : {A : Type 0} (at : ℕ → Option A) (file : List ℕ) (why : Refusal) (place : ℕ) → InputsWhen at file why place → number why ≤ 8
-inputs-numbered at file BadInput place g = omega arith
-inputs-numbered at file BadStamp place g = omega arith
+pub inputs-numbered : {A : Type 0} (at : ℕ → Option A) (inputs : List ℕ) (n from to : ℕ) (why : Refusal) (place : ℕ) → InputsWhen at inputs n from to why place → number why ≤ 8
+inputs-numbered at inputs n from to BadInput place g = omega arith
+inputs-numbered at inputs n from to BadStamp place g = omega arith
 
 -- a run has the numbers 1 to 8, and 9 is for a state that was handed in
 numbered : (file : List ℕ) (why : Refusal) (place : ℕ) → GivenWhen file why place → number why ≤ 8
 numbered file why place (inl g) = start-numbered file why place g
-numbered file why place (inr g) = inputs-numbered (cueAt file) file why place (g .1)
+numbered file why place (inr g) = inputs-numbered _ _ _ _ _ why place (g .1)
 
 our-run-answers-all : AnswersAll runCall
 our-run-answers-all file records answers = by (run-finds file records answers)

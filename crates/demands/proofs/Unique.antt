@@ -8,6 +8,8 @@ use Rattle.rules.specs.declared.call.Single.{Single}
 use Rattle.rules.specs.declared.call.Move.{Move}
 use Rattle.rules.specs.Calls.{freshCall, singleCall, moveCall}
 use Rattle.rules.specs.Runs.{Whole, Answered, runCall, houseRun}
+use Rattle.rules.specs.Changes.{changeCall}
+use Rattle.rules.specs.Live.{Imaged, ImagedMove, ImagedRun, houseFresh, houseChange, houseMove, houseRunTo}
 use Rattle.pairs.specs.declared.call.Joint.{Joint}
 use Rattle.pairs.specs.declared.call.JointMove.{JointMove}
 use Rattle.pairs.specs.Pairs.{Pair}
@@ -28,6 +30,23 @@ no-second-run file records answers one other p q = p ∙ sym q
 
 pub no-second-house-run : (file records answers : List ℕ) (one other : Answered) → one ≡ houseRun file records answers → other ≡ houseRun file records answers → one ≡ other
 no-second-house-run file records answers one other p q = p ∙ sym q
+
+pub no-second-change : (s : State) (inputs records answers : List ℕ) (one other : Whole) → one ≡ changeCall s inputs records answers → other ≡ changeCall s inputs records answers → one ≡ other
+no-second-change s inputs records answers one other p q = p ∙ sym q
+
+-- ---- the live calls from C
+
+pub no-second-house-fresh : (parameters state : List ℕ) (one other : Imaged) → one ≡ houseFresh parameters state → other ≡ houseFresh parameters state → one ≡ other
+no-second-house-fresh parameters state one other p q = p ∙ sym q
+
+pub no-second-house-change : (state inputs records answers : List ℕ) (one other : ImagedRun) → one ≡ houseChange state inputs records answers → other ≡ houseChange state inputs records answers → one ≡ other
+no-second-house-change state inputs records answers one other p q = p ∙ sym q
+
+pub no-second-house-move : (state : List ℕ) (stamp : ℕ) (records : List ℕ) (one other : ImagedMove) → one ≡ houseMove state stamp records → other ≡ houseMove state stamp records → one ≡ other
+no-second-house-move state stamp records one other p q = p ∙ sym q
+
+pub no-second-house-run-to : (file state records answers : List ℕ) (one other : ImagedRun) → one ≡ houseRunTo file state records answers → other ≡ houseRunTo file state records answers → one ≡ other
+no-second-house-run-to file state records answers one other p q = p ∙ sym q
 
 -- ---- with a sensor beside the actuator
 

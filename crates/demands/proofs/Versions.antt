@@ -1,23 +1,20 @@
 -- Two versions of one show are accepted alike and have one run: the same answers and records, and the same end state but for its version.
 use Prim.Native.Nat.{ℕ, zero, suc, _+_, _-_, _*_, _≤_, _<_}
 use mathlib.Core.Bool.{true}
-use mathlib.Core.Option.{Option}
 use mathlib.Core.List.{List, [], _∷_, _++_}
 use mathlib.Core.Logic.{_↔_, inl, inr}
-use mathlib.Core.Path.{_≡_, refl, sym, _∙_}
+use mathlib.Core.Path.{_≡_, refl, sym, ap, _∙_}
 use native.Mathlib.Omega.{arith}
-use lib.ListN.{length}
-use lib.Seq.{getD-append-add}
-use Rattle.octets.specs.BigEndian.{octet, be32}
+use lib.ListN.{length, drop}
+use lib.Seq.{getD-drop, drop-drop}
+use Rattle.octets.specs.BigEndian.{octet}
 use Rattle.base.specs.declared.refusal.Check.the-variants.{Passed}
 use Rattle.rules.specs.Lists.{Cue}
-use Rattle.octets.specs.Groups.{stampAt}
-use Rattle.rules.specs.Inputs.{inputAt}
 use Rattle.rules.specs.Forms.{versionOne, versionTwo, formOf, version, formIn}
-use Rattle.rules.specs.Layout.{modesAt, scenePlace, flagsPlace, inputsAt, inputPlace}
+use Rattle.rules.specs.Layout.{modesAt, scenePlace, flagsPlace, inputsAt}
 use Rattle.rules.specs.Parameters.{timeAt, delay, paramsOf, sceneAt, scenesOf, badTime, numberAbove, badNumber, badFlags, badOctet}
-use Rattle.rules.specs.Readings.{cues, readInputs}
-use Rattle.rules.specs.Files.{inputCount, inputsOffset, endTime, parametersIn, paramsIn, scenesIn, cueAt, readFile, lentEnough}
+use Rattle.rules.specs.Readings.{cues}
+use Rattle.rules.specs.Files.{inputCount, inputsOffset, endTime, parametersIn, paramsIn, scenesIn, inputsIn, cuesRead, readFile, lentEnough}
 use Rattle.rules.specs.Refusals.{GoodParameters, GoodStart}
 use Rattle.rules.specs.Runs.{playFile, accepted, runCall}
 use Rattle.rules.proofs.Refusals.Files.{parameters-stand-at-20, parameters-whole, good-start, good-file}
@@ -37,39 +34,13 @@ module _ (old new : List ℕ) (same : SameShow old new) where
 
   -- ---- the inputs
 
-  same-place : (i : ℕ) → (inputPlace old i ≡ 52 + 8 * i) × (inputPlace new i ≡ 60 + 8 * i)
-  same-place i = (rw old-row (omega arith), rw new-row (omega arith))
+  -- they are the same octets
+  pub same-inputs : inputsIn new ≡ inputsIn old
+  unfolding inputsIn
+  same-inputs = rw (old-row, new-row) (sym (drop-drop 24 36 new) ∙ ap (λ (octets : List ℕ). drop 24 octets) (same .rest) ∙ drop-drop 24 28 old)
 
-  pub same-octet : (i j : ℕ) → octet new (inputPlace new i + j) ≡ octet old (inputPlace old i + j)
-  same-octet i j =
-      let here : 60 + 8 * i + j ≡ 36 + (24 + 8 * i + j) = omega arith in
-      let there : 52 + 8 * i + j ≡ 28 + (24 + 8 * i + j) = omega arith in
-      rw (same-place i .0, same-place i .1, here, there) (same .rest (24 + 8 * i + j))
-
-  same-number : (a b : ℕ) → ((j : ℕ) → octet new (a + j) ≡ octet old (b + j)) → be32 new a ≡ be32 old b
-  same-number a b each =
-      let a0 : a + 0 ≡ a = omega arith in
-      let b0 : b + 0 ≡ b = omega arith in
-      let a3 : a + 2 + 1 ≡ a + 3 = omega arith in
-      let b3 : b + 2 + 1 ≡ b + 3 = omega arith in
-      rw (a3, b3, each 1, each 2, each 3, rw (a0, b0) at (each 0))
-
-  pub same-stamp : (i : ℕ) → stampAt new (inputPlace new i) ≡ stampAt old (inputPlace old i)
-  unfolding stampAt
-  same-stamp i = same-number (inputPlace new i) (inputPlace old i) (same-octet i)
-
-  same-cue : (i : ℕ) → cueAt new i ≡ cueAt old i
-  unfolding cueAt inputAt
-  same-cue i = rw (same-stamp i, same-octet i 4, same-octet i 5, same-octet i 6, same-octet i 7)
-
-  -- whatever is read of an input: where each is the same, so is the whole reading
-  same-reading : {A : Type 0} (new-at old-at : ℕ → Option A) → ((i : ℕ) → new-at i ≡ old-at i) → (left i last end : ℕ) → readInputs new-at new left i last end ≡ readInputs old-at old left i last end
-  unfolding readInputs
-  same-reading new-at old-at each zero i last end = refl
-  same-reading new-at old-at each (suc left) i last end = rw (each i, same-stamp i, same-reading new-at old-at each left (i + 1) (stampAt old (inputPlace old i)) end)
-
-  pub all-read-the-same : {A : Type 0} (new-at old-at : ℕ → Option A) → ((i : ℕ) → new-at i ≡ old-at i) → readInputs new-at new (inputCount new) 0 0 (endTime new) ≡ readInputs old-at old (inputCount old) 0 0 (endTime old)
-  all-read-the-same new-at old-at each = rw (same .count, same .end) (same-reading new-at old-at each (inputCount old) 0 0 (endTime old))
+  same-octet : (j : ℕ) → octet new (36 + j) ≡ octet old (28 + j)
+  same-octet j = sym (getD-drop 36 new j 0) ∙ ap (λ (octets : List ℕ). octet octets j) (same .rest) ∙ getD-drop 28 old j 0
 
   -- ---- the parameters
 
@@ -78,7 +49,7 @@ module _ (old new : List ℕ) (same : SameShow old new) where
   behind-times j within =
       let here : 20 + (16 + j) ≡ 36 + j = omega arith in
       let there : 20 + (8 + j) ≡ 28 + j = omega arith in
-      parameters-stand-at-20 new (16 + j) (rw new-row (omega arith)) ∙ (rw (here, there) (same .rest j) ∙ sym (parameters-stand-at-20 old (8 + j) (rw old-row (omega arith))))
+      parameters-stand-at-20 new (16 + j) (rw new-row (omega arith)) ∙ (rw (here, there) (same-octet j) ∙ sym (parameters-stand-at-20 old (8 + j) (rw old-row (omega arith))))
 
   pub same-params : paramsIn new ≡ ofVersion 2 (paramsIn old)
   unfolding paramsOf
@@ -199,14 +170,14 @@ module _ (old new : List ℕ) (same : SameShow old new) where
         passed = rw old-row (lowest-bad-octet versionOne (parametersIn old) Passed .1 (good-parameters-back long (lowest-bad-octet versionTwo (parametersIn new) Passed .0 (rw new-row at (g .passed)))));
       }
 
-  same-inputs : readInputs (cueAt new) new (inputCount new) 0 0 (endTime new) ≡ readInputs (cueAt old) old (inputCount old) 0 0 (endTime old)
-  same-inputs = all-read-the-same (cueAt new) (cueAt old) same-cue
+  same-cues : cuesRead new ≡ cuesRead old
+  same-cues = rw (same-inputs, same .count, same .end) refl
 
   -- a show is accepted in one version exactly when it is in the other, with the same cues
   pub accepted-alike : (list : List Cue) → (readFile old ≡ cues list) ↔ (readFile new ≡ cues list)
   accepted-alike list = (
-    λ read. let start = good-file old list read .start in good-start new (good-start-of-new start) ∙ (same-inputs ∙ (sym (good-start old start) ∙ read)),
-    λ read. let start = good-file new list read .start in good-start old (good-start-of-old start) ∙ (sym same-inputs ∙ (sym (good-start new start) ∙ read)),
+    λ read. let start = good-file old list read .start in good-start new (good-start-of-new start) ∙ (same-cues ∙ (sym (good-start old start) ∙ read)),
+    λ read. let start = good-file new list read .start in good-start old (good-start-of-old start) ∙ (sym same-cues ∙ (sym (good-start new start) ∙ read)),
   )
 
   -- what is played is the same but for the version of the end state
@@ -258,7 +229,7 @@ two-versions-used n inputs =
       end = refl;
       size = omega arith;
       times = times;
-      rest = λ j. getD-append-add (startOfTwo n) (modesAndInputs inputs) j 0 ∙ sym (getD-append-add (startOfOne n) (modesAndInputs inputs) j 0);
+      rest = refl;
     }
   where
     times : (m : ℕ) → m < 4 → delay versionTwo (parametersIn (startOfTwo n ++ modesAndInputs inputs)) m ≡ delay versionOne (parametersIn (startOfOne n ++ modesAndInputs inputs)) m

@@ -1,5 +1,6 @@
 -- The run over a wall list is the public calls by value, joined in order.
 use Prim.Native.Nat.{ℕ, zero, suc, _+_, _≤_}
+use lib.ListN.{drop}
 use mathlib.Core.Bool.{true}
 use mathlib.Core.List.{List, [], _∷_}
 use mathlib.Core.Path.{_≡_, refl, sym, ap, _∙_}
@@ -14,7 +15,7 @@ use Rattle.rules.specs.Status.{value, recordOf, byItself}
 use Rattle.rules.specs.Steps.{fresh}
 use Rattle.rules.specs.Layout.{inputPlace}
 use Rattle.rules.specs.Readings.{cues, readInputs}
-use Rattle.rules.specs.Files.{inputCount, endTime, lentEnough}
+use Rattle.rules.specs.Files.{inputCount, endTime, lentEnough, inputsIn}
 use Rattle.rules.proofs.Laws.Records.{used-places}
 use Rattle.rules.proofs.Refusals.Readings.{first-read}
 use Rattle.sensor.specs.Reactions.{hear}
@@ -37,31 +38,33 @@ use Rattle.pairs.proofs.Soundness.{pair-step-keeps-sound}
 use Rattle.pairs.proofs.Items.{item-fits}
 use Rattle.pairs.proofs.Playing.{pairThen-from, pair-plays-to-next, pair-plays-to-end}
 use Rattle.pairs.proofs.Refusals.Calls.{an-item-writes-at-most-three, a-pair-move-writes-at-most-two, a-good-item-is-played, a-good-move-is-made}
+use Rattle.rules.proofs.Refusals.Files.{inputs-whole}
 use Rattle.pairs.proofs.Refusals.Walls.{good-wall, good-wall-is-read, a-good-wall-is-played}
-use Rattle.demands.specs.Joined.{inputIn, inputsIn}
+use Rattle.rules.specs.Changes.{groups, groupCount, groupsIn}
+use Rattle.rules.proofs.Refusals.Changes.{groupAt, groups-next, group-octet, group-stamp, group-input}
 use Rattle.demands.specs.Walls.{wallParams, wallScenes, wallEnd, begun}
 use Rattle.demands.specs.WallJoined.{jointPlayed, jointMovePlayed, jointCalls, NoJointRefused, wallStartOf, wallInputsIn, wallCallsOf, WallJoined}
-use Rattle.demands.proofs.Joined.{input-octet, same-stamp, same-input, fresh-played, start-is-fresh}
+use Rattle.demands.proofs.Joined.{fresh-played, start-is-fresh}
 use Rattle.pairs.proofs.Reading.{item-said}
 use Rattle.demands.proofs.EveryWall.{a-wall-starts-sound}
 
 -- ---- one call
 
 -- the eight octets say what the list says at their place
-same-signal : (file : List ℕ) (i : ℕ) → signalAt (inputIn file i) 0 ≡ signalAt file (inputPlace file i)
+same-signal : (inputs : List ℕ) (i : ℕ) → signalAt (groupAt inputs i) 0 ≡ signalAt inputs (inputPlace i)
 unfolding signalAt
-same-signal file i =
-    rw (input-octet file i 4 (omega arith), input-octet file i 5 (omega arith), input-octet file i 6 (omega arith), input-octet file i 7 (omega arith))
+same-signal inputs i =
+    rw (group-octet inputs i 4 (omega arith), group-octet inputs i 5 (omega arith), group-octet inputs i 6 (omega arith), group-octet inputs i 7 (omega arith))
 
-same-item : (file : List ℕ) (i : ℕ) → itemAt (inputIn file i) 0 ≡ itemAt file (inputPlace file i)
+same-item : (inputs : List ℕ) (i : ℕ) → itemAt (groupAt inputs i) 0 ≡ itemAt inputs (inputPlace i)
 unfolding itemAt
-same-item file i = rw (same-input file i, same-signal file i)
+same-item inputs i = rw (group-input inputs i, same-signal inputs i)
 
 -- an item that is read without fault is a joined input that is not refused
-an-item-is-a-call : (file : List ℕ) (i : ℕ) (p : Pair) (x : Item) → pairSound p ≡ true → itemAt file (inputPlace file i) ≡ Known x → Timely (p .actuator .clock) (stampAt file (inputPlace file i)) →
-    jointCall p (inputIn file i) ≡ jointDone (stampAt file (inputPlace file i)) (pairStep p x (stampAt file (inputPlace file i)))
-an-item-is-a-call file i p x safe known timely =
-    a-good-item-is-played p (inputIn file i) x safe (same-item file i ∙ known) (rw (same-stamp file i) (timely-exactly-when (p .actuator .clock) (stampAt file (inputPlace file i)) .1 timely)) ∙ rw (same-stamp file i)
+an-item-is-a-call : (inputs : List ℕ) (i : ℕ) (p : Pair) (x : Item) → pairSound p ≡ true → itemAt inputs (inputPlace i) ≡ Known x → Timely (p .actuator .clock) (stampAt inputs (inputPlace i)) →
+    jointCall p (groupAt inputs i) ≡ jointDone (stampAt inputs (inputPlace i)) (pairStep p x (stampAt inputs (inputPlace i)))
+an-item-is-a-call inputs i p x safe known timely =
+    a-good-item-is-played p (groupAt inputs i) x safe (same-item inputs i ∙ known) (rw (group-stamp inputs i) (timely-exactly-when (p .actuator .clock) (stampAt inputs (inputPlace i)) .1 timely)) ∙ rw (group-stamp inputs i)
 
 -- what it gives by value is what the step gives
 item-played : (p : Pair) (x : Item) (t : ℕ) → jointPlayed (jointDone t (pairStep p x t)) ≡ pairStepped (pairStep p x t)
@@ -78,30 +81,36 @@ the-end-is-a-call p end safe timely = a-good-move-is-made p end safe (timely-exa
 
 -- ---- all of them
 
-wall-joins : (file : List ℕ) (left i : ℕ) (p : Pair) (items : List Listed) → endTime file ≤ lastStamp → pairSound p ≡ true → p .actuator .clock ≤ endTime file →
-    readInputs (itemIn file) file left i (p .actuator .clock) (endTime file) ≡ cues items →
-    (pairPlaysTo (endTime file) items p ≡ jointCalls (endTime file) (inputsIn file left i) p) × NoJointRefused (endTime file) (inputsIn file left i) p
-unfolding jointCalls inputsIn jointDone
-wall-joins file zero i p items timely safe early read =
+no-groups : (octets : List ℕ) → groups zero octets ≡ []
+unfolding groups
+no-groups octets = refl
+
+wall-joins : (inputs : List ℕ) (left i end : ℕ) (p : Pair) (items : List Listed) → end ≤ lastStamp → pairSound p ≡ true → p .actuator .clock ≤ end →
+    readInputs (itemIn inputs) inputs left i (p .actuator .clock) end ≡ cues items →
+    (pairPlaysTo end items p ≡ jointCalls end (groups left (drop (inputPlace i) inputs)) p) × NoJointRefused end (groups left (drop (inputPlace i) inputs)) p
+unfolding jointCalls jointDone
+wall-joins inputs zero i end p items timely safe early read =
     let none : items ≡ [] = unfold readInputs in cc in
-    let call = the-end-is-a-call p (endTime file) safe (early, timely) in (
-      ap (λ l. pairPlaysTo (endTime file) l p) none ∙ pair-plays-to-end (endTime file) p ∙ sym (ap jointMovePlayed call ∙ pair-move-played p (endTime file)),
+    let call = the-end-is-a-call p end safe (early, timely) in
+    rw (no-groups (drop (inputPlace i) inputs)) (
+      ap (λ l. pairPlaysTo end l p) none ∙ pair-plays-to-end end p ∙ sym (ap jointMovePlayed call ∙ pair-move-played p end),
       ap (λ (r : JointMove). r .code) call ∙ unfold jointMoveDone in refl,
     )
-wall-joins file (suc left) i p items timely safe early read =
-    let f = first-read (itemIn file) file left i (p .actuator .clock) (endTime file) items read in
-    let x = item-said file i (f .input) (f .means) in
-    let t : ℕ = stampAt file (inputPlace file i) in
+wall-joins inputs (suc left) i end p items timely safe early read =
+    let f = first-read (itemIn inputs) inputs left i (p .actuator .clock) end items read in
+    let x = item-said inputs i (f .input) (f .means) in
+    let t : ℕ = stampAt inputs (inputPlace i) in
     let d = pairStep p (x .0) t in
-    let call = an-item-is-a-call file i p (x .0) safe (x .1) (f .risen, omega (arith, f .timely, timely)) in
+    let call = an-item-is-a-call inputs i p (x .0) safe (x .1) (f .risen, omega (arith, f .timely, timely)) in
     let clock = item-clock p (x .0) t in
-    let safely = pair-step-keeps-sound p (x .0) t safe (f .risen) (omega (arith, f .timely, timely)) (item-fits file (inputPlace file i) (x .0) (x .1)) in
-    let rest = wall-joins file left (i + 1) (d .pair) (f .later) timely safely (rw clock (f .timely)) (rw clock (f .reads)) in
-    let same : jointPlayed (jointCall p (inputIn file i)) ≡ pairStepped d = ap jointPlayed call ∙ item-played p (x .0) t in (
-      ap (λ l. pairPlaysTo (endTime file) l p) (f .starts ∙ ap (λ (y : Listed). y ∷ f .later) (x .2))
-          ∙ pair-plays-to-next (endTime file) t (x .0) (f .later) p
-          ∙ pairThen-from (pairStepped d) (pairPlaysTo (endTime file) (f .later)) (jointCalls (endTime file) (inputsIn file left (i + 1))) (rest .0)
-          ∙ sym (ap (λ (a : PairPlayed). pairThen a (jointCalls (endTime file) (inputsIn file left (i + 1)))) same),
+    let safely = pair-step-keeps-sound p (x .0) t safe (f .risen) (omega (arith, f .timely, timely)) (item-fits inputs (inputPlace i) (x .0) (x .1)) in
+    let rest = wall-joins inputs left (i + 1) end (d .pair) (f .later) timely safely (rw clock (f .timely)) (rw clock (f .reads)) in
+    let same : jointPlayed (jointCall p (groupAt inputs i)) ≡ pairStepped d = ap jointPlayed call ∙ item-played p (x .0) t in
+    rw (groups-next inputs left i) (
+      ap (λ l. pairPlaysTo end l p) (f .starts ∙ ap (λ (y : Listed). y ∷ f .later) (x .2))
+          ∙ pair-plays-to-next end t (x .0) (f .later) p
+          ∙ pairThen-from (pairStepped d) (pairPlaysTo end (f .later)) (jointCalls end (groups left (drop (inputPlace (i + 1)) inputs))) (rest .0)
+          ∙ sym (ap (λ (a : PairPlayed). pairThen a (jointCalls end (groups left (drop (inputPlace (i + 1)) inputs)))) same),
       (rw call, rw call (rest .1)),
     )
 
@@ -117,7 +126,7 @@ unfolding freshSensorCall freshSensorBy
 fresh-sensor-made octets g = rw (good-is-passed octets g)
 
 pub wall-is-the-calls-joined : (wall : List ℕ) (items : List Listed) → readWall wall ≡ cues items → WallJoined wall items
-unfolding wallCallsOf wallInputsIn playWall playItems
+unfolding wallCallsOf wallInputsIn groupsIn playWall playItems
 wall-is-the-calls-joined wall items read =
     let good = good-wall wall items read in
     let file : List ℕ = fileIn wall in
@@ -125,14 +134,15 @@ wall-is-the-calls-joined wall items read =
     let state = start-is-fresh file (good .start) in
     let known = the-start-record-is-known (wallParams wall) (wallScenes wall) (actionsIn wall) in
     let first : wallStartOf wall ≡ begun wall = unfold wallStartOf in rw (state, made, known) refl in
-    let all = wall-joins file (inputCount file) 0 (begun wall) items (good .start .header .layout .end) (a-wall-starts-sound wall items read) (unfold fresh in omega arith) (unfold fresh in sym (good-wall-is-read wall good) ∙ read) in
+    let n : groupCount (inputsIn file) ≡ inputCount file = omega (arith, inputs-whole file (good .start .header .layout)) in
+    let all = rw (← n) at (wall-joins (inputsIn file) (inputCount file) 0 (endTime file) (begun wall) items (good .start .header .layout .end) (a-wall-starts-sound wall items read) (unfold fresh in omega arith) (unfold fresh in sym (good-wall-is-read wall good) ∙ read)) in
     record {
       fresh = rw (fresh-played file (good .start));
       fresh-sensor = rw made;
       accepted = rw first (all .1);
       joined =
           rw (first, state)
-          (pairThen-from (pairStart (wallParams wall) (wallScenes wall) (freshSensor (actionsIn wall))) (pairPlaysTo (wallEnd wall) items) (jointCalls (wallEnd wall) (inputsIn file (inputCount file) 0)) (all .0));
+          (pairThen-from (pairStart (wallParams wall) (wallScenes wall) (freshSensor (actionsIn wall))) (pairPlaysTo (wallEnd wall) items) (jointCalls (wallEnd wall) (groupsIn (inputsIn file))) (all .0));
     }
 
 -- the accepted run, whole: report and both buffers are those of the calls

@@ -22,7 +22,7 @@ use Rattle.rules.specs.Runs.{recordsOctets}
 use Rattle.rules.specs.Promises.{DarkShown, LightStamped}
 use Rattle.rules.proofs.Refusals.Runs.{records-length}
 use Rattle.pairs.specs.Lists.{Listed}
-use Rattle.pairs.specs.Walls.{fileIn, itemIn, readWall, readWallCall, WallWhole, playWall, wallAccepted, wallRefused, wallBy, wallCall}
+use Rattle.pairs.specs.Walls.{fileIn, readWall, readWallCall, WallWhole, playWall, wallAccepted, wallRefused, wallBy, wallCall}
 use Rattle.pairs.specs.Refusals.{WallWhen}
 use Rattle.pairs.proofs.Refusals.Walls.{wall-decides, WallFinds, at-fault, no-room, played, wall-finds, a-good-wall-is-played, a-refused-wall-writes-nothing, wall-count, wall-answers-are-n}
 use Rattle.demands.specs.Walls.{wallParams, wallScenes, wallEnd, cuesGiven, WallModel, WallAnswersAll, WallRefusesCleanly, WallStaysWithin, WallJudges, WallPlaysAll, wallRecordsOf, WallKeeps, WallMeets}
@@ -36,7 +36,7 @@ wall-numbered wall why place (inl short) = inl (rw (short .0) (omega arith))
 wall-numbered wall why place (inr (long, inl start)) = inl (start-numbered (fileIn wall) why place start)
 wall-numbered wall why place (inr (long, inr (start, inl (inl short)))) = inl (rw (short .0) (omega arith))
 wall-numbered wall why place (inr (long, inr (start, inl (inr action)))) = inr (rw (action .0) refl)
-wall-numbered wall why place (inr (long, inr (start, inr (actions, input)))) = inl (inputs-numbered (itemIn (fileIn wall)) (fileIn wall) why place input)
+wall-numbered wall why place (inr (long, inr (start, inr (actions, input)))) = inl (inputs-numbered _ _ _ _ _ why place input)
 
 our-wall-run-answers-all : WallAnswersAll wallCall
 our-wall-run-answers-all wall records answers = by (wall-finds wall records answers)

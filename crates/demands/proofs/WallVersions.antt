@@ -5,29 +5,20 @@ use mathlib.Core.List.{List}
 use mathlib.Core.Logic.{_↔_}
 use mathlib.Core.Path.{_≡_, refl, sym, ap, _∙_}
 use native.Mathlib.Omega.{arith}
-use Rattle.rules.specs.Inputs.{inputAt}
-use Rattle.rules.specs.Readings.{cues, readInputs}
-use Rattle.rules.specs.Files.{inputCount, endTime, paramsIn, scenesIn, lentEnough}
+use Rattle.rules.specs.Readings.{cues}
+use Rattle.rules.specs.Files.{endTime, paramsIn, scenesIn, lentEnough}
 use Rattle.sensor.specs.Sensors.{freshSensor}
-use Rattle.sensor.specs.Signals.{signalAt}
-use Rattle.pairs.specs.Items.{itemAt}
 use Rattle.pairs.specs.Pairs.{Pair}
 use Rattle.pairs.specs.Lists.{Listed}
-use Rattle.pairs.specs.Walls.{fileIn, actionsIn, itemIn, readWall, playWall, wallAccepted, wallCall}
+use Rattle.pairs.specs.Walls.{fileIn, actionsIn, itemsRead, readWall, playWall, wallAccepted, wallCall}
 use Rattle.pairs.proofs.Refusals.Walls.{file-length, a-good-start-is-read, good-wall, good-wall-is-read, a-good-wall-is-played}
 use Rattle.demands.specs.Versions.{PairPlayedAlike, SameShow, WallRanAlike}
-use Rattle.demands.proofs.Versions.{same-octet, same-stamp, all-read-the-same, good-start-of-new, good-start-of-old, same-params, same-scenes}
+use Rattle.demands.proofs.Versions.{same-inputs, good-start-of-new, good-start-of-old, same-params, same-scenes}
 use Rattle.demands.proofs.Alike.{no-rule-of-the-pair-looks-at-the-version}
 
 module _ (old new : List ℕ) (same : SameShow (fileIn old) (fileIn new)) (actions : actionsIn new ≡ actionsIn old) where
-  same-item : (i : ℕ) → itemIn (fileIn new) i ≡ itemIn (fileIn old) i
-  unfolding itemIn itemAt inputAt signalAt
-  same-item i =
-      let octet = same-octet (fileIn old) (fileIn new) same i in
-      rw (same-stamp (fileIn old) (fileIn new) same i, octet 4, octet 5, octet 6, octet 7)
-
-  all-items : readInputs (itemIn (fileIn new)) (fileIn new) (inputCount (fileIn new)) 0 0 (endTime (fileIn new)) ≡ readInputs (itemIn (fileIn old)) (fileIn old) (inputCount (fileIn old)) 0 0 (endTime (fileIn old))
-  all-items = all-read-the-same (fileIn old) (fileIn new) same (itemIn (fileIn new)) (itemIn (fileIn old)) same-item
+  all-items : itemsRead (fileIn new) ≡ itemsRead (fileIn old)
+  all-items = rw (same-inputs (fileIn old) (fileIn new) same, same .count, same .end) refl
 
   -- a wall list is accepted in one version exactly when it is in the other, with the same items
   pub walls-accepted-alike : (items : List Listed) → (readWall old ≡ cues items) ↔ (readWall new ≡ cues items)

@@ -26,7 +26,7 @@ use Rattle.rules.specs.Steps.{fresh, tickAt, tick, ticked, clockMove, taken, me
 use Rattle.rules.specs.Lists.{Cue, Played, plays, playsTo, playList}
 use Rattle.rules.specs.Calls.{leastParams, unused, noScenes}
 use Rattle.rules.specs.Readings.{cues, readOne, readInputs}
-use Rattle.rules.specs.Files.{endTime, parametersIn, layoutRight, checkRest, checkStart, cueAt, readFile, lentEnough, readCall, paramsIn, scenesIn}
+use Rattle.rules.specs.Files.{endTime, parametersIn, layoutRight, checkRest, checkStart, cueAt, readFile, lentEnough, readCall, paramsIn, scenesIn, inputsIn}
 use Rattle.rules.specs.Runs.{recordsOctets, over, playFile, accepted, runCall}
 use Rattle.rules.specs.Promises.{turns, upTo, stateAt, Taken, NightRules, DarkDue, LightDue, shownAt, DarkShown, LitRecord, shownBefore, LightStamped}
 use Rattle.demands.specs.Demands.{Model, StaysWithin, Judges, PlaysAll, CountsChanges, recordsOf, Keeps, KeepsDark, KeepsLight}
@@ -69,11 +69,11 @@ room = replicate 72 0
 
 -- they all have the least parameters, no scenes and one end
 least-params : (n : ℕ) (inputs : List ℕ) → paramsIn (fileOf n inputs) ≡ leastParams
-unfolding fileOf formIn formOf parametersIn paramsOf delay timeAt leastParams
+unfolding fileOf formIn formOf parametersIn inputsIn paramsOf delay timeAt leastParams
 least-params n inputs = refl
 
 no-scenes : (n : ℕ) (inputs : List ℕ) → scenesIn (fileOf n inputs) ≡ noScenes
-unfolding fileOf formIn formOf parametersIn scenesOf sceneAt noScenes unused
+unfolding fileOf formIn formOf parametersIn inputsIn scenesOf sceneAt noScenes unused
 no-scenes n inputs = refl
 
 ends-at-20 : (n : ℕ) (inputs : List ℕ) → endTime (fileOf n inputs) ≡ 20
@@ -82,7 +82,7 @@ ends-at-20 n inputs = refl
 
 -- what is opened to read them
 reading : Unit {0}
-unfolding fileOf formIn formOf isVersion readCall lentEnough readFile checkStart checkRest cueAt layoutRight parametersIn checkParameters lowestBad badOctet badTime delay timeAt greatest badNumber badFlags numberAbove readInputs readOne inputAt stampAt decoded zeroOrOne
+unfolding fileOf formIn formOf isVersion readCall lentEnough readFile checkStart checkRest cueAt layoutRight parametersIn inputsIn checkParameters lowestBad badOctet badTime delay timeAt greatest badNumber badFlags numberAbove readInputs readOne inputAt stampAt decoded zeroOrOne
 reading = tt
 
 no-inputs : readCall (fileOf 0 []) room room ≡ cues []

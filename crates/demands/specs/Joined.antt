@@ -1,44 +1,30 @@
 -- Input by input and timer by timer (demand 2): the run as the public calls by value, joined in order: the fresh state of the file's
 -- parameters, a start record, a single input for each eight octets, and a clock move to the end time.
-use Prim.Native.Nat.{ℕ, zero, suc, _+_}
+use Prim.Native.Nat.{ℕ}
 use mathlib.Core.List.{List, [], _∷_}
 use mathlib.Core.Path.{_≡_}
-use lib.ListN.{take, drop}
+use lib.ListN.{take}
 use Rattle.rules.specs.declared.state.State.{State}
-use Rattle.rules.specs.declared.call.Single.{Single}
 use Rattle.rules.specs.declared.call.Move.{Move}
 use Rattle.rules.specs.Status.{recordOf, byItself}
 use Rattle.rules.specs.Lists.{Cue, Played, andThen}
-use Rattle.rules.specs.Calls.{freshCall, singleCall, moveCall}
-use Rattle.rules.specs.Layout.{inputPlace}
-use Rattle.rules.specs.Files.{inputCount, endTime, parametersIn}
+use Rattle.rules.specs.Calls.{freshCall, moveCall}
+use Rattle.rules.specs.Files.{endTime, parametersIn, inputsIn}
 use Rattle.rules.specs.Runs.{playFile}
+use Rattle.rules.specs.Changes.{groupsIn, singles}
 
--- the eight octets of an input
-unfoldable pub inputIn : List ℕ → ℕ → List ℕ
-inputIn file i = take 8 (drop (inputPlace file i) file)
-
--- these many inputs from index i on
-unfoldable pub inputsIn : List ℕ → ℕ → ℕ → List (List ℕ)
-inputsIn file zero i = []
-inputsIn file (suc left) i = inputIn file i ∷ inputsIn file left (i + 1)
-
--- what a call gave: the records it counts, and the answer of a single input
-abbrev pub singlePlayed : Single → Played
-singlePlayed r = record { state = r .state; answers = r .answer ∷ []; records = take (r .count) (r .records) }
-
+-- what a clock move gave: the records it counts
 abbrev pub movePlayed : Move → Played
 movePlayed r = record { state = r .state; answers = []; records = take (r .count) (r .records) }
 
 -- single inputs one after the other, each handed the state that the one before gave, then a clock move
 unfoldable pub calls : ℕ → List (List ℕ) → State → Played
-calls end [] s = movePlayed (moveCall s end)
-calls end (octets ∷ later) s = andThen (singlePlayed (singleCall s octets)) (calls end later)
+calls end octets s = andThen (singles 0 octets s .played) (λ x. movePlayed (moveCall x end))
 
 -- none of them is refused
-abbrev pub NoneRefused : ℕ → List (List ℕ) → State → Type 0
-NoneRefused end [] s = moveCall s end .code ≡ 0
-NoneRefused end (octets ∷ later) s = (singleCall s octets .code ≡ 0) × NoneRefused end later (singleCall s octets .state)
+pub record NoneRefused (end : ℕ) (octets : List (List ℕ)) (s : State) : Type 0 where
+  pub inputs : singles 0 octets s .code ≡ 0
+  pub move : moveCall (singles 0 octets s .played .state) end .code ≡ 0
 
 -- the calls of a whole file
 unfoldable pub startOf : List ℕ → State
@@ -47,10 +33,10 @@ startOf file = freshCall (parametersIn file) .state
 unfoldable pub callsOf : List ℕ → Played
 callsOf file =
     andThen (record { state = startOf file; answers = []; records = recordOf byItself (startOf file) ∷ [] })
-    (calls (endTime file) (inputsIn file (inputCount file) 0))
+    (calls (endTime file) (groupsIn (inputsIn file)))
 
 -- what the run of an accepted file has to do with the public calls
 pub record Joined (file : List ℕ) (list : List Cue) : Type 0 where
   pub fresh : freshCall (parametersIn file) .code ≡ 0
-  pub accepted : NoneRefused (endTime file) (inputsIn file (inputCount file) 0) (startOf file)
+  pub accepted : NoneRefused (endTime file) (groupsIn (inputsIn file)) (startOf file)
   pub joined : playFile file list ≡ callsOf file

@@ -1,5 +1,7 @@
 pub mod Demands
 pub mod Joined
+pub mod Changes
+pub mod Live
 pub mod WrongModels
 pub mod Versions
 -- with a sensor beside the actuator

@@ -3,8 +3,7 @@
 use Prim.Native.Nat.{ℕ, _+_, _<_}
 use mathlib.Core.List.{List}
 use mathlib.Core.Path.{_≡_}
-use lib.ListN.{length}
-use Rattle.octets.specs.BigEndian.{octet}
+use lib.ListN.{length, drop}
 use Rattle.rules.specs.declared.parameters.Params.{Params}
 use Rattle.rules.specs.declared.state.State.{State}
 use Rattle.rules.specs.Forms.{versionOne, versionTwo, version}
@@ -57,7 +56,7 @@ pub record SameShow (old new : List ℕ) : Type 0 where
   pub size : length new ≡ length old + 8
   pub times : (n : ℕ) → n < 4 → delay versionTwo (parametersIn new) n ≡ delay versionOne (parametersIn old) n
   -- modes and scenes, from octet 28 of the one and 36 of the other; then the inputs
-  pub rest : (j : ℕ) → octet new (36 + j) ≡ octet old (28 + j)
+  pub rest : drop 36 new ≡ drop 28 old
 
 -- the same run but for the version of its state: code, place, record count, and both buffers
 pub record RanAlike (v : ℕ) (old new : Whole) : Type 0 where

@@ -6,7 +6,8 @@ use mathlib.Core.Path.{_≡_}
 use lib.ListN.{take}
 use Rattle.rules.specs.Status.{recordOf, byItself}
 use Rattle.rules.specs.Calls.{freshCall}
-use Rattle.rules.specs.Files.{inputCount, parametersIn}
+use Rattle.rules.specs.Files.{parametersIn, inputsIn}
+use Rattle.rules.specs.Changes.{groupsIn}
 use Rattle.sensor.specs.Calls.{freshSensorCall}
 use Rattle.sensor.specs.Claims.{toldBy}
 use Rattle.pairs.specs.declared.call.Joint.{Joint}
@@ -15,7 +16,7 @@ use Rattle.pairs.specs.Pairs.{Pair, pairOf}
 use Rattle.pairs.specs.Lists.{Listed, PairPlayed, pairThen}
 use Rattle.pairs.specs.Calls.{jointCall, jointMoveCall}
 use Rattle.pairs.specs.Walls.{fileIn, actionsIn, playWall}
-use Rattle.demands.specs.Joined.{inputsIn, startOf}
+use Rattle.demands.specs.Joined.{startOf}
 use Rattle.demands.specs.Walls.{wallEnd}
 
 -- the pair that a call hands back
@@ -44,7 +45,7 @@ unfoldable pub wallStartOf : List ℕ → Pair
 wallStartOf wall = pairOf (startOf (fileIn wall)) (freshSensorCall (actionsIn wall) .sensor)
 
 unfoldable pub wallInputsIn : List ℕ → List (List ℕ)
-wallInputsIn wall = inputsIn (fileIn wall) (inputCount (fileIn wall)) 0
+wallInputsIn wall = groupsIn (inputsIn (fileIn wall))
 
 unfoldable pub wallCallsOf : List ℕ → PairPlayed
 wallCallsOf wall =

@@ -1,0 +1,440 @@
+-- A whole scene change: cut in two anywhere it is the two changes one after the other, and a refused input leaves no trace.
+use Prim.Native.Nat.{ℕ, zero, suc, _+_, _*_, _-_, _/_, _%_, _≤_, _<_}
+use mathlib.Core.Bool.{Bool, true, false, cond}
+use mathlib.Core.List.{List, [], _∷_, _++_, append-assoc, append-nil}
+use mathlib.Core.Path.{_≡_, refl, sym, ap, _∙_}
+use native.Mathlib.Omega.{arith}
+use lib.ListN.{length, take, drop, length-append, length-drop, length-take, take-append-drop}
+use lib.Seq.{take-at, drop-at, drop-drop}
+use lib.Dec.{eqb}
+use borrow.Author.Tests.{eqb-true, eqb-false, ne-eqb}
+use Rattle.octets.specs.Groups.{stampAt}
+use Rattle.rules.specs.declared.state.State.{State}
+use Rattle.rules.specs.declared.parameters.Scene.{Scene}
+use Rattle.rules.specs.declared.input.Input.{Input}
+use Rattle.rules.specs.declared.input.Input.the-variants.{SwitchOnOff, TimedStartStop, NumberedSceneControl, SwitchOnOffForced, LockDevice, NightMode, Bus, Power}
+use Rattle.base.specs.declared.refusal.Refusal.{Refusal}
+use Rattle.base.specs.declared.refusal.Refusal.the-variants.{ShortBuffer, UnsoundState, WrongGroups}
+use Rattle.base.specs.declared.refusal.Check.the-variants.{Passed, Refused}
+use Rattle.base.specs.Refusals.{number}
+use Rattle.base.proofs.Tests.{either-way}
+use Rattle.rules.specs.Phases.{output}
+use Rattle.rules.specs.Scenes.{learnt}
+use Rattle.rules.specs.Said.{scenesAfter}
+use Rattle.rules.specs.Steps.{clockMove}
+use Rattle.rules.specs.Files.{lentFor}
+use Rattle.rules.proofs.Laws.Orders.{order-leaves}
+use Rattle.rules.proofs.Laws.Soundness.{move-keeps, step-case}
+use Rattle.rules.specs.declared.call.Single.{Single}
+use Rattle.rules.specs.Layout.{inputPlace}
+use Rattle.rules.specs.Lists.{Played, andThen, unplayed}
+use Rattle.rules.specs.Calls.{singleCall, singleDone, singleRefused}
+use Rattle.rules.specs.Soundness.{sound}
+use Rattle.rules.specs.Runs.{recordsOctets, over, Whole}
+use Rattle.rules.specs.Refusals.{GoodGroups, RoomFor}
+use Rattle.rules.specs.Changes.{groups, groupCount, groupsIn, Singles, singlePlayed, thenOthers, stopped, goesOn, singles, groupsFit, checkChange, changed, changeBy, changeCall}
+use Rattle.rules.proofs.Laws.Records.{an-input-writes-at-most-three}
+use Rattle.rules.proofs.Refusals.Calls.{SingleFinds, not-sound, wrong, untimely, plays, single-finds, single-refusal-changes-nothing, single-call-keeps-sound, single-call-keeps-version}
+use Rattle.rules.proofs.Refusals.Runs.{records-length, records-append, room-exactly-when}
+use Rattle.rules.proofs.Refusals.Changes.{step-played, groups-exactly-when}
+use Rattle.demands.specs.Changes.{thenSingles, joinedAfter, recordsLeft, answersLeft, oneThenTheOther, RefusedFrom}
+use Rattle.demands.proofs.Meets.{over-length}
+
+-- ---- single inputs, one part and then the other
+
+-- what was played before comes first, whichever way the rest is grouped
+then-in-turn : (a : Played) (b : Singles) (others : State → Singles) → thenOthers a (λ x. thenSingles b others) ≡ thenSingles (thenOthers a (λ x. b)) others
+then-in-turn a b others = by (eqb (b .code) 0)
+  where
+    by : (test : Bool) → thenOthers a (λ x. cond test (thenOthers (b .played) others) b) ≡ cond test (thenOthers (thenOthers a (λ x. b) .played) others) (thenOthers a (λ x. b))
+    by true = simp append-assoc
+    by false = refl
+
+pub one-part-then-the-other : (i : ℕ) (xs ys : List (List ℕ)) (s : State) → singles i (xs ++ ys) s ≡ thenSingles (singles i xs s) (singles (i + length xs) ys)
+unfolding singles goesOn
+one-part-then-the-other i [] ys s = let e : i + 0 ≡ i = omega arith in rw e refl
+one-part-then-the-other i (octets ∷ xs) ys s =
+    let e : i + 1 + length xs ≡ i + suc (length xs) = omega arith in
+    by (singleCall s octets) (rw e at (one-part-then-the-other (i + 1) xs ys (singleCall s octets .state)))
+  where
+    by : (r : Single) → singles (i + 1) (xs ++ ys) (r .state) ≡ thenSingles (singles (i + 1) xs (r .state)) (singles (i + suc (length xs)) ys) →
+        goesOn r i (singles (i + 1) (xs ++ ys)) ≡ thenSingles (goesOn r i (singles (i + 1) xs)) (singles (i + suc (length xs)) ys)
+    by r rest = go (eqb (r .code) 0) refl
+      where
+        go : (b : Bool) → eqb (r .code) 0 ≡ b →
+            cond b (thenOthers (singlePlayed r) (singles (i + 1) (xs ++ ys))) (stopped (r .state) (r .code) i)
+            ≡ thenSingles (cond b (thenOthers (singlePlayed r) (singles (i + 1) xs)) (stopped (r .state) (r .code) i)) (singles (i + suc (length xs)) ys)
+        go true e = ap (λ (c : Singles). thenOthers (singlePlayed r) (λ x. c)) rest ∙ then-in-turn (singlePlayed r) (singles (i + 1) xs (r .state)) (singles (i + suc (length xs)) ys)
+        go false e = rw e
+
+-- ---- the place of a refused input
+
+-- none was refused, and the place is 0; or one was, among these
+pub data Ended (i n : ℕ) : Singles → Type 0 where
+  none-refused : (p : Played) → Ended i n (record { played = p; code = 0; place = 0 })
+  one-refused : (p : Played) (code place : ℕ) → (code ≡ 0 → ⊥) → i ≤ place → place < i + n → Ended i n (record { played = p; code = code; place = place })
+
+later-ended : {i n : ℕ} {c : Singles} (a : Played) → Ended (i + 1) n c → Ended i (suc n) (thenOthers a (λ x. c))
+later-ended a (none-refused p) = none-refused (andThen a (λ x. p))
+later-ended a (one-refused p code place bad low high) = one-refused (andThen a (λ x. p)) code place bad (omega arith) (omega arith)
+
+pub singles-end : (i : ℕ) (xs : List (List ℕ)) (s : State) → Ended i (length xs) (singles i xs s)
+unfolding singles goesOn
+singles-end i [] s = none-refused (unplayed s)
+singles-end i (octets ∷ xs) s = by (singleCall s octets) (singles-end (i + 1) xs (singleCall s octets .state))
+  where
+    by : (r : Single) → Ended (i + 1) (length xs) (singles (i + 1) xs (r .state)) → Ended i (suc (length xs)) (goesOn r i (singles (i + 1) xs))
+    by r rest = go (eqb (r .code) 0) refl
+      where
+        go : (b : Bool) → eqb (r .code) 0 ≡ b → Ended i (suc (length xs)) (cond b (thenOthers (singlePlayed r) (singles (i + 1) xs)) (stopped (r .state) (r .code) i))
+        go true e = later-ended (singlePlayed r) rest
+        go false e = one-refused (unplayed (r .state)) (r .code) i (eqb-false (r .code) 0 e) (omega arith) (omega arith)
+
+-- counted from another index, the same but for the place
+abbrev shifted : ℕ → Singles → Singles
+shifted k c = record { played = c .played; code = c .code; place = cond (eqb (c .code) 0) 0 (k + c .place) }
+
+counted-from : (k i : ℕ) (xs : List (List ℕ)) (s : State) → singles (k + i) xs s ≡ shifted k (singles i xs s)
+unfolding singles goesOn
+counted-from k i [] s = refl
+counted-from k i (octets ∷ xs) s =
+    let e : k + i + 1 ≡ k + (i + 1) = omega arith in
+    by (singleCall s octets) (rw e (counted-from k (i + 1) xs (singleCall s octets .state)))
+  where
+    by : (r : Single) → singles (k + i + 1) xs (r .state) ≡ shifted k (singles (i + 1) xs (r .state)) → goesOn r (k + i) (singles (k + i + 1) xs) ≡ shifted k (goesOn r i (singles (i + 1) xs))
+    by r rest = go (eqb (r .code) 0) refl
+      where
+        go : (b : Bool) → eqb (r .code) 0 ≡ b →
+            cond b (thenOthers (singlePlayed r) (singles (k + i + 1) xs)) (stopped (r .state) (r .code) (k + i)) ≡ shifted k (cond b (thenOthers (singlePlayed r) (singles (i + 1) xs)) (stopped (r .state) (r .code) i))
+        go true e = rw rest refl
+        go false e = rw e refl
+
+-- ---- how much they give, and where they lead
+
+single-few : (s : State) (octets : List ℕ) → length (singlePlayed (singleCall s octets) .records) ≤ 3
+single-few s octets = by (single-finds s octets)
+  where
+    by : {r : Single} → SingleFinds s octets r → length (singlePlayed r .records) ≤ 3
+    by (not-sound h) = unfold singleRefused in omega arith
+    by (wrong h m) = unfold singleRefused in omega arith
+    by (untimely x h m t) = unfold singleRefused in omega arith
+    by (plays x h m t) = let e = ap (λ (p : Played). length (p .records)) (step-played s x (stampAt octets 0)) in omega (arith, e, an-input-writes-at-most-three s x (stampAt octets 0))
+
+singles-few : (i : ℕ) (xs : List (List ℕ)) (s : State) → length (singles i xs s .played .records) ≤ 3 * length xs
+unfolding singles goesOn
+singles-few i [] s = omega arith
+singles-few i (octets ∷ xs) s = by (singleCall s octets) (single-few s octets) (singles-few (i + 1) xs (singleCall s octets .state))
+  where
+    by : (r : Single) → length (singlePlayed r .records) ≤ 3 → length (singles (i + 1) xs (r .state) .played .records) ≤ 3 * length xs → length (goesOn r i (singles (i + 1) xs) .played .records) ≤ 3 * suc (length xs)
+    by r few rest = go (eqb (r .code) 0)
+      where
+        go : (b : Bool) → length (cond b (thenOthers (singlePlayed r) (singles (i + 1) xs)) (stopped (r .state) (r .code) i) .played .records) ≤ 3 * suc (length xs)
+        go true = rw length-append (omega (arith, few, rest))
+        go false = omega arith
+
+-- an answer for each, where none is refused
+an-answer-for-each : (i : ℕ) (xs : List (List ℕ)) (s : State) → singles i xs s .code ≡ 0 → length (singles i xs s .played .answers) ≡ length xs
+unfolding singles goesOn
+an-answer-for-each i [] s good = refl
+an-answer-for-each i (octets ∷ xs) s good = by (singleCall s octets) (an-answer-for-each (i + 1) xs (singleCall s octets .state)) good
+  where
+    by : (r : Single) → (singles (i + 1) xs (r .state) .code ≡ 0 → length (singles (i + 1) xs (r .state) .played .answers) ≡ length xs) → goesOn r i (singles (i + 1) xs) .code ≡ 0 →
+        length (goesOn r i (singles (i + 1) xs) .played .answers) ≡ suc (length xs)
+    by r rest = go (eqb (r .code) 0) refl
+      where
+        go : (b : Bool) → eqb (r .code) 0 ≡ b → cond b (thenOthers (singlePlayed r) (singles (i + 1) xs)) (stopped (r .state) (r .code) i) .code ≡ 0 →
+            length (cond b (thenOthers (singlePlayed r) (singles (i + 1) xs)) (stopped (r .state) (r .code) i) .played .answers) ≡ suc (length xs)
+        go true e good = ap suc (rest good)
+        go false e good = absurd (eqb-false (r .code) 0 e good)
+
+-- eight scenes stay eight
+learnt-length : (k : List Scene) (number : ℕ) (on : Bool) → length (learnt k number on) ≡ length k
+unfolding learnt
+learnt-length [] number on = refl
+learnt-length (e ∷ rest) number on = either-way (λ (k : List Scene). length k ≡ suc (length rest)) (eqb (e .number) number) _ _ refl (ap suc (learnt-length rest number on))
+
+scenes-after-length : (s : State) (i : Input) → length (scenesAfter s i) ≡ length (s .scenes)
+scenes-after-length s (SwitchOnOff value) = refl
+scenes-after-length s (TimedStartStop value) = refl
+scenes-after-length s (NumberedSceneControl true n) = either-way (λ (k : List Scene). length k ≡ length (s .scenes)) (s .params .learning) _ _ (learnt-length (s .scenes) n (output (s .phase))) refl
+scenes-after-length s (NumberedSceneControl false n) = refl
+scenes-after-length s (SwitchOnOffForced force) = refl
+scenes-after-length s (LockDevice on) = refl
+scenes-after-length s (NightMode on) = refl
+scenes-after-length s (Bus event) = refl
+scenes-after-length s (Power event) = refl
+
+single-scenes : (s : State) (octets : List ℕ) → length (singleCall s octets .state .scenes) ≡ length (s .scenes)
+single-scenes s octets = by (single-finds s octets)
+  where
+    moved-scenes : (t : ℕ) → length (clockMove s t .state .scenes) ≡ length (s .scenes)
+    moved-scenes t = ap (λ (u : State). length (u .scenes)) (move-keeps s t)
+
+    by : {r : Single} → SingleFinds s octets r → length (r .state .scenes) ≡ length (s .scenes)
+    by (not-sound h) = unfold singleRefused in refl
+    by (wrong h m) = unfold singleRefused in refl
+    by (untimely x h m t) = unfold singleRefused in refl
+    by (plays x h m t) =
+        let u : ℕ = stampAt octets 0 in
+        unfold singleDone in
+        step-case (λ (v : State). length (v .scenes) ≡ length (s .scenes)) s x u (λ way. ap (λ (k : List Scene). length k) (order-leaves (clockMove s u .state) x .scenes) ∙ scenes-after-length (clockMove s u .state) x ∙ moved-scenes u) (moved-scenes u)
+
+-- a sound state stays sound, and keeps its parameters, and so its version, and the length of its table
+abbrev pub Kept : State → State → Type 0
+Kept s u = (sound u ≡ true) × (u .params ≡ s .params) × (length (u .scenes) ≡ length (s .scenes))
+
+pub singles-keep : (i : ℕ) (xs : List (List ℕ)) (s : State) → sound s ≡ true → Kept s (singles i xs s .played .state)
+unfolding singles goesOn
+singles-keep i [] s safe = (safe, refl, refl)
+singles-keep i (octets ∷ xs) s safe =
+    let here = single-call-keeps-sound s octets safe in
+    by (singleCall s octets) (here, single-call-keeps-version s octets, single-scenes s octets) (singles-keep (i + 1) xs (singleCall s octets .state) here)
+  where
+    by : (r : Single) → Kept s (r .state) → Kept (r .state) (singles (i + 1) xs (r .state) .played .state) → Kept s (goesOn r i (singles (i + 1) xs) .played .state)
+    by r here rest = go (eqb (r .code) 0)
+      where
+        go : (b : Bool) → Kept s (cond b (thenOthers (singlePlayed r) (singles (i + 1) xs)) (stopped (r .state) (r .code) i) .played .state)
+        go true = (rest .0, rest .1 ∙ here .1, rest .2 ∙ here .2)
+        go false = here
+
+-- ---- the groups of two strings
+
+groups-length : (n : ℕ) (octets : List ℕ) → length (groups n octets) ≡ n
+unfolding groups
+groups-length zero octets = refl
+groups-length (suc n) octets = ap suc (groups-length n (drop 8 octets))
+
+groups-append : (k n : ℕ) (x y : List ℕ) → length x ≡ 8 * k → groups (k + n) (x ++ y) ≡ groups k x ++ groups n y
+unfolding groups
+groups-append zero n [] y e = let z : 0 + n ≡ n = omega arith in rw z refl
+groups-append zero n (o ∷ x) y e = absurd (omega arith)
+groups-append (suc k) n x y e =
+    let more : suc k + n ≡ suc (k + n) = omega arith in
+    let eight : length (take 8 x) ≡ 8 = length-take 8 x ∙ omega arith in
+    let parts : x ++ y ≡ take 8 x ++ (drop 8 x ++ y) = ap (λ (l : List ℕ). l ++ y) (sym (take-append-drop 8 x)) ∙ append-assoc (take 8 x) (drop 8 x) y in
+    let rest = groups-append k n (drop 8 x) y (length-drop 8 x ∙ omega arith) in
+    rw (more, parts, take-at (take 8 x) (drop 8 x ++ y) 8 eight, drop-at (take 8 x) (drop 8 x ++ y) 8 eight, rest) refl
+
+module _ (x y : List ℕ) (whole : length x % 8 ≡ 0) where
+  pub groups-of-both : groupsIn (x ++ y) ≡ groupsIn x ++ groupsIn y
+  unfolding groupsIn
+  groups-of-both =
+      let n : groupCount (x ++ y) ≡ groupCount x + groupCount y = rw length-append (omega (arith, whole)) in
+      rw n (groups-append (groupCount x) (groupCount y) x y (omega (arith, whole)))
+
+-- ---- two changes into the same buffers
+
+-- octets, and then others behind them
+over-in-turn : (xs ys b : List ℕ) (n : ℕ) → length xs ≡ n → over (xs ++ ys) b ≡ take n (over xs b) ++ over ys (drop n (over xs b))
+unfolding over
+over-in-turn xs ys b n e =
+    rw (take-at xs (drop (length xs) b) n e, drop-at xs (drop (length xs) b) n e, drop-drop (length ys) (length xs) b, length-append) (append-assoc xs ys (drop (length xs + length ys) b))
+
+-- a change that may be played is the single inputs, joined
+pub a-change-is-the-single-inputs : (s : State) (inputs r a : List ℕ) → sound s ≡ true → GoodGroups inputs → RoomFor (groupCount inputs) r a → changeCall s inputs r a ≡ changed (singles 0 (groupsIn inputs) s) r a
+unfolding changeCall changeBy checkChange
+a-change-is-the-single-inputs s inputs r a safe good room = rw (safe, groups-exactly-when inputs .1 good, room-exactly-when (groupCount inputs) r a .1 room) refl
+
+module _ (s : State) (x y r a : List ℕ) (safe : sound s ≡ true) (cut : length x % 8 ≡ 0) (good : GoodGroups (x ++ y)) (room : RoomFor (groupCount (x ++ y)) r a) where
+  abbrev k : ℕ
+  k = groupCount x
+
+  abbrev first : Singles
+  first = singles 0 (groupsIn x) s
+
+  both-lengths : length (x ++ y) ≡ length x + length y
+  both-lengths = length-append x y
+
+  k-groups : length (groupsIn x) ≡ k
+  unfolding groupsIn
+  k-groups = groups-length k x
+
+  few : length (first .played .records) ≤ 3 * k
+  few = rw k-groups at (singles-few 0 (groupsIn x) s)
+
+  one : changeCall s x r a ≡ changed first r a
+  one =
+      a-change-is-the-single-inputs s x r a safe (record { whole = cut; few = omega (arith, both-lengths, good .few) })
+      (record { wide = omega (arith, both-lengths, room .wide); long = omega (arith, both-lengths, room .long) })
+
+  all : changeCall s (x ++ y) r a ≡ changed (thenSingles first (singles k (groupsIn y))) r a
+  all =
+      let zeroth : 0 + length (groupsIn x) ≡ k = omega (arith, k-groups) in
+      a-change-is-the-single-inputs s (x ++ y) r a safe good room
+      ∙ ap (λ (c : Singles). changed c r a) (ap (λ (gs : List (List ℕ)). singles 0 gs s) (groups-of-both x y cut) ∙ one-part-then-the-other 0 (groupsIn x) (groupsIn y) s ∙ rw zeroth refl)
+
+  -- the first part is refused, and that ends it
+  stops : eqb (first .code) 0 ≡ false → changeCall s (x ++ y) r a ≡ oneThenTheOther s x y r a
+  unfolding changed
+  stops e = all ∙ rw (one, e) refl
+
+  -- the first part is accepted: what is left of the buffers has room for the other
+  module _ (passed : first .code ≡ 0) where
+    abbrev then : State
+    then = first .played .state
+
+    abbrev other : Singles
+    other = singles 0 (groupsIn y) then
+
+    left-records : length (recordsLeft (changed first r a)) ≡ length r - 8 * length (first .played .records)
+    unfolding changed
+    left-records =
+        let n = records-length (first .played .records) in
+        length-drop (8 * length (first .played .records)) _ ∙ rw (over-length (recordsOctets (first .played .records)) r (omega (arith, n, few, both-lengths, room .wide, good .whole, cut))) refl
+
+    left-answers : length (answersLeft k (changed first r a)) ≡ length a - k
+    unfolding changed
+    left-answers =
+        let n : length (first .played .answers) ≡ k = an-answer-for-each 0 (groupsIn x) s passed ∙ k-groups in
+        length-drop k _ ∙ rw (over-length (first .played .answers) a (omega (arith, n, both-lengths, room .long))) refl
+
+    two : changeCall then y (recordsLeft (changed first r a)) (answersLeft k (changed first r a)) ≡ changed other (recordsLeft (changed first r a)) (answersLeft k (changed first r a))
+    two =
+        a-change-is-the-single-inputs then y _ _ (singles-keep 0 (groupsIn x) s safe .0)
+        (record { whole = omega (arith, both-lengths, cut, good .whole); few = omega (arith, both-lengths, good .few) })
+        (record { wide = omega (arith, left-records, few, both-lengths, cut, room .wide); long = omega (arith, left-answers, both-lengths, cut, room .long) })
+
+    joined : changed (thenOthers (first .played) (singles k (groupsIn y))) r a ≡ joinedAfter k (changed first r a) (changed other (recordsLeft (changed first r a)) (answersLeft k (changed first r a)))
+    unfolding changed
+    joined =
+        let shift : singles k (groupsIn y) then ≡ shifted k other = let z : k + 0 ≡ k = omega arith in rw z at (counted-from k 0 (groupsIn y) then) in
+        let n : length (first .played .answers) ≡ k = an-answer-for-each 0 (groupsIn x) s passed ∙ k-groups in
+        rw (shift, records-append (first .played .records) (other .played .records), over-in-turn (recordsOctets (first .played .records)) (recordsOctets (other .played .records)) r (8 * length (first .played .records)) (records-length (first .played .records)), over-in-turn (first .played .answers) (other .played .answers) a k n, length-append)
+        refl
+
+    goes-on : changeCall s (x ++ y) r a ≡ oneThenTheOther s x y r a
+    unfolding changed singles
+    goes-on =
+        let e : eqb (first .code) 0 ≡ true = rw passed refl in
+        let f : changed first r a .report .code ≡ 0 = unfold changed in passed in
+        all ∙ rw (e, one, f) (joined ∙ ap (λ (w : Whole). joinedAfter k (changed first r a) w) (sym two))
+
+  -- "a change cut in two anywhere is the two changes one after the other"
+  pub cut-in-two : changeCall s (x ++ y) r a ≡ oneThenTheOther s x y r a
+  cut-in-two = by (eqb (first .code) 0) refl
+    where
+      by : (b : Bool) → eqb (first .code) 0 ≡ b → changeCall s (x ++ y) r a ≡ oneThenTheOther s x y r a
+      by true e = goes-on (eqb-true (first .code) 0 e)
+      by false e = stops e
+
+-- ---- a refused input leaves no trace
+
+-- where the very first is refused, nothing was played
+first-refused : (i : ℕ) (xs : List (List ℕ)) (s : State) → (singles i xs s .code ≡ 0 → ⊥) → singles i xs s .place ≡ i → singles i xs s .played ≡ unplayed s
+unfolding singles goesOn
+first-refused i [] s bad at = absurd (bad refl)
+first-refused i (octets ∷ xs) s bad at = by (singleCall s octets) (λ f. ap (λ (r : Single). r .state) (single-refusal-changes-nothing s octets f)) (singles-end (i + 1) xs (singleCall s octets .state)) bad at
+  where
+    by : (r : Single) → ((r .code ≡ 0 → ⊥) → r .state ≡ s) → Ended (i + 1) (length xs) (singles (i + 1) xs (r .state)) → (goesOn r i (singles (i + 1) xs) .code ≡ 0 → ⊥) → goesOn r i (singles (i + 1) xs) .place ≡ i →
+        goesOn r i (singles (i + 1) xs) .played ≡ unplayed s
+    by r back rest = go (eqb (r .code) 0) refl
+      where
+        after : {c : Singles} → Ended (i + 1) (length xs) c → (c .code ≡ 0 → ⊥) → c .place ≡ i → ⊥
+        after (none-refused p) f e = f refl
+        after (one-refused p code place f low high) g e = omega arith
+
+        go : (b : Bool) → eqb (r .code) 0 ≡ b → (cond b (thenOthers (singlePlayed r) (singles (i + 1) xs)) (stopped (r .state) (r .code) i) .code ≡ 0 → ⊥) →
+            cond b (thenOthers (singlePlayed r) (singles (i + 1) xs)) (stopped (r .state) (r .code) i) .place ≡ i →
+            cond b (thenOthers (singlePlayed r) (singles (i + 1) xs)) (stopped (r .state) (r .code) i) .played ≡ unplayed s
+        go true e f at = absurd (after rest f at)
+        go false e f at = rw (back (eqb-false (r .code) 0 e)) refl
+
+-- so all that was played, up to the refused one, the inputs before it play by themselves
+up-to : (xs ys : List (List ℕ)) (s : State) → (singles 0 (xs ++ ys) s .code ≡ 0 → ⊥) → singles 0 (xs ++ ys) s .place ≡ length xs →
+    (singles 0 xs s .code ≡ 0) × (singles 0 (xs ++ ys) s .played ≡ singles 0 xs s .played)
+up-to xs ys s bad at = by (singles 0 xs s) (singles-end 0 xs s) (one-part-then-the-other 0 xs ys s)
+  where
+    by : (a : Singles) → Ended 0 (length xs) a → singles 0 (xs ++ ys) s ≡ thenSingles a (singles (0 + length xs) ys) → (a .code ≡ 0) × (singles 0 (xs ++ ys) s .played ≡ a .played)
+    by a (one-refused p code place f low high) e =
+        let stop = ne-eqb code 0 f in
+        absurd (let there = rw (e, stop) at at in omega (arith, there, high))
+    by a (none-refused p) e =
+        let z : 0 + length xs ≡ length xs = omega arith in
+        let f = rw (e, z) at bad in
+        let there = rw (e, z) at at in
+        (refl, rw (e, z, first-refused (length xs) ys (p .state) f there) (simp append-nil))
+
+module _ (s : State) (inputs r a : List ℕ) (safe : sound s ≡ true) (good : GoodGroups inputs) (room : RoomFor (groupCount inputs) r a) where
+  abbrev given : Singles
+  given = singles 0 (groupsIn inputs) s
+
+  -- the inputs before the refused one
+  module _ (bad : given .code ≡ 0 → ⊥) where
+    abbrev p : ℕ
+    p = given .place
+
+    abbrev before : List ℕ
+    before = take (inputPlace p) inputs
+
+    within : p < groupCount inputs
+    unfolding groupsIn
+    within = by (singles-end 0 (groupsIn inputs) s) bad
+      where
+        by : {c : Singles} → Ended 0 (length (groupsIn inputs)) c → (c .code ≡ 0 → ⊥) → c .place < groupCount inputs
+        by (none-refused q) f = absurd (f refl)
+        by (one-refused q code place f low high) g = omega (arith, high, groups-length (groupCount inputs) inputs)
+
+    before-length : length before ≡ 8 * p
+    before-length = length-take (8 * p) inputs ∙ omega (arith, within, good .whole)
+
+    cut-there : groupsIn inputs ≡ groupsIn before ++ groupsIn (drop (inputPlace p) inputs)
+    cut-there = ap groupsIn (sym (take-append-drop (inputPlace p) inputs)) ∙ groups-of-both before (drop (inputPlace p) inputs) (omega (arith, before-length))
+
+    p-groups : length (groupsIn before) ≡ p
+    unfolding groupsIn
+    p-groups = groups-length (groupCount before) before ∙ omega (arith, before-length)
+
+    same : (singles 0 (groupsIn before) s .code ≡ 0) × (given .played ≡ singles 0 (groupsIn before) s .played)
+    same =
+        let rest : List (List ℕ) = groupsIn (drop (inputPlace p) inputs) in
+        let e = up-to (groupsIn before) rest s (λ h. bad (ap (λ (gs : List (List ℕ)). singles 0 gs s .code) cut-there ∙ h)) (sym (ap (λ (gs : List (List ℕ)). singles 0 gs s .place) cut-there) ∙ sym p-groups) in
+        (e .0, ap (λ (gs : List (List ℕ)). singles 0 gs s .played) cut-there ∙ e .1)
+
+    alone : changeCall s before r a ≡ changed (singles 0 (groupsIn before) s) r a
+    alone =
+        a-change-is-the-single-inputs s before r a safe (record { whole = omega (arith, before-length); few = omega (arith, before-length, within, good .few) })
+        (record { wide = omega (arith, before-length, within, room .wide); long = omega (arith, before-length, within, room .long) })
+
+    stands : RefusedFrom s inputs r a p
+    unfolding changed
+    stands =
+        let all = a-change-is-the-single-inputs s inputs r a safe good room in
+        record {
+          accepted = rw alone (same .0);
+          state = rw (all, alone, same .1) refl;
+          count = rw (all, alone, same .1) refl;
+          records = rw (all, alone, same .1) refl;
+          answers = rw (all, alone, same .1) refl;
+        }
+
+  -- "At a refused input it stops: what went before stands in state and buffers (demand 1 then holds from that input on)"
+  pub refused-from-that-input-on : (changeCall s inputs r a .report .code ≡ 0 → ⊥) → RefusedFrom s inputs r a (changeCall s inputs r a .report .place)
+  unfolding changed
+  refused-from-that-input-on bad = let all = a-change-is-the-single-inputs s inputs r a safe good room in rw all (stands (rw all at bad))
+
+-- ---- of every change, whatever it is refused for
+
+module _ (s : State) (inputs r a : List ℕ) where
+  by-check : (P : Whole → Type 0) → (GoodGroups inputs → P (changed (singles 0 (groupsIn inputs) s) r a)) → ((why : Refusal) → P (record { report = record { state = s; code = number why; place = 0; count = 0 }; records = r; answers = a })) → P (changeCall s inputs r a)
+  unfolding changeCall changeBy checkChange
+  by-check P f g = by (sound s) (groupsFit inputs) (lentFor (groupCount inputs) r a) refl
+    where
+      by : (b c d : Bool) → groupsFit inputs ≡ c → P (changeBy (cond b (cond c (cond d Passed (Refused ShortBuffer 0)) (Refused WrongGroups 0)) (Refused UnsoundState 0)) s inputs r a)
+      by false c d e = g UnsoundState
+      by true false d e = g WrongGroups
+      by true true false e = g ShortBuffer
+      by true true true e = f (groups-exactly-when inputs .0 e)
+
+  -- the state that comes back is sound where the given one is, and has its parameters, and so its version, and its eight scenes
+  pub a-change-keeps : sound s ≡ true → Kept s (changeCall s inputs r a .report .state)
+  unfolding changed
+  a-change-keeps safe = by-check (λ (w : Whole). Kept s (w .report .state)) (λ good. singles-keep 0 (groupsIn inputs) s safe) (λ why. (safe, refl, refl))
+
+  -- place and count have room in the number for C
+  pub a-change-is-narrow : (changeCall s inputs r a .report .place < 65_536) × (changeCall s inputs r a .report .count < 4_294_967_296)
+  unfolding changed groupsIn
+  a-change-is-narrow = by-check (λ (w : Whole). (w .report .place < 65_536) × (w .report .count < 4_294_967_296)) (λ good. (place good (singles-end 0 (groupsIn inputs) s), omega (arith, singles-few 0 (groupsIn inputs) s, groups-length (groupCount inputs) inputs, good .few))) (λ why. (omega arith, omega arith))
+    where
+      place : GoodGroups inputs → {c : Singles} → Ended 0 (length (groupsIn inputs)) c → c .place < 65_536
+      place good (none-refused p) = omega arith
+      place good (one-refused p code at f low high) = omega (arith, high, groups-length (groupCount inputs) inputs, good .few)
