@@ -1,7 +1,7 @@
 //! The calls of the archive from Rust, linked in or by the bridge, and the comparison of what they give with what the second model
-//! says. Shared by compare.rs and compare_walls.rs.
+//! says. Shared by compare.rs, compare_walls.rs and compare_live.rs.
 //!
-//! Built with `--cfg linked`, the real archive (libhouse.a) is linked in and does nearly all the work, and a sample goes by the
+//! Built with `--cfg linked`, the real archives (libhouse.a, libwalls.a) are linked in and do nearly all the work, and a sample goes by the
 //! bridge too; without it everything goes by the bridge.
 #![allow(dead_code)]
 
@@ -11,98 +11,145 @@ use std::io::{BufReader, BufWriter, Read, Write};
 use std::ops::RangeInclusive;
 use std::process::{Child, ChildStdin, ChildStdout, Command, Stdio};
 
-/// What stands in the lent buffers before a call.
+/// What stands in the lent buffers before a call, and in a lent state that is only written.
 const RECORDS_PATTERN: u8 = 0xA5;
 const ANSWERS_PATTERN: u8 = 0x5A;
+pub const STATE_PATTERN: u8 = 0xC3;
 
-/// The run over a cue file, or over a wall list; the letter is the bridge's.
-#[derive(Clone, Copy)]
+/// The calls for C; the letter is the bridge's.
+#[derive(Clone, Copy, Debug, PartialEq, Eq)]
 #[repr(u8)]
 pub enum Call {
     Run = b'c',
     WallRun = b'w',
+    Fresh = b'f',
+    Change = b'h',
+    Move = b'm',
+    RunTo = b't',
 }
 
-/// One call: a cue file or a wall list, and the sizes of the two lent buffers.
+/// One call, with what it is lent. A call that takes no list, state, stamp or buffer leaves it as it is.
+#[derive(Clone)]
 pub struct Case {
     pub call: Call,
+    /// A cue file, a wall list, parameters or inputs.
     pub list: Vec<u8>,
+    /// The octets that stand in the state before the call.
+    pub state: Vec<u8>,
+    pub stamp: u32,
     pub records_len: usize,
     pub answers_len: usize,
+    /// Whether NULL stands for what has length 0.
+    pub null: bool,
 }
 
-/// What a call gave: the number, both buffers whole, and whether the list was left alone.
+impl Case {
+    /// A run over a list, into buffers of these lengths.
+    pub fn run(call: Call, list: Vec<u8>, records_len: usize, answers_len: usize) -> Case {
+        Case { call, list, state: Vec::new(), stamp: 0, records_len, answers_len, null: false }
+    }
+}
+
+/// What a call gave: the number, the state and both buffers whole, and whether the list was left alone.
 #[derive(PartialEq, Eq, Debug)]
 pub struct Outcome {
     pub number: u64,
+    pub state: Vec<u8>,
     pub records: Vec<u8>,
     pub answers: Vec<u8>,
     pub list_unchanged: bool,
 }
 
 impl Outcome {
-    /// What the second model says of a call; a refused one has neither records nor answers.
-    pub fn of_model(case: &Case, number: u64, records: &[Record], answers: &[u8]) -> Outcome {
-        let mut lent_records = vec![RECORDS_PATTERN; case.records_len];
-        let mut lent_answers = vec![ANSWERS_PATTERN; case.answers_len];
-        for (i, record) in records.iter().enumerate() {
-            lent_records[8 * i..8 * i + 8].copy_from_slice(&record_octets(record));
+    /// All that is lent, as it stands before a call.
+    pub fn before(case: &Case) -> Outcome {
+        Outcome {
+            number: 0,
+            state: case.state.clone(),
+            records: vec![RECORDS_PATTERN; case.records_len],
+            answers: vec![ANSWERS_PATTERN; case.answers_len],
+            list_unchanged: true,
         }
-        lent_answers[..answers.len()].copy_from_slice(answers);
-        Outcome { number, records: lent_records, answers: lent_answers, list_unchanged: true }
+    }
+
+    /// What the second model says of a run; a refused one has neither records nor answers.
+    pub fn of_model(case: &Case, number: u64, records: &[Record], answers: &[u8]) -> Outcome {
+        let mut outcome = Outcome { number, ..Outcome::before(case) };
+        for (i, record) in records.iter().enumerate() {
+            outcome.records[8 * i..8 * i + 8].copy_from_slice(&record_octets(record));
+        }
+        outcome.answers[..answers.len()].copy_from_slice(answers);
+        outcome
     }
 
     pub fn code(&self) -> usize {
         (self.number >> 48) as usize
     }
+
+    pub fn place(&self) -> usize {
+        (self.number >> 32) as usize & 0xFFFF
+    }
+
+    pub fn count(&self) -> usize {
+        self.number as u32 as usize
+    }
 }
 
+/// The functions of the archives, as include/house.h declares them.
 #[cfg(linked)]
-type Function = unsafe extern "C" fn(*const u8, usize, *mut u8, usize, *mut u8, usize) -> u64;
-
-#[cfg(linked)]
-extern "C" {
-    fn house_run(
-        file: *const u8,
-        file_len: usize,
-        records: *mut u8,
-        records_len: usize,
-        answers: *mut u8,
-        answers_len: usize,
-    ) -> u64;
-
-    fn house_wall_run(
-        wall: *const u8,
-        wall_len: usize,
-        records: *mut u8,
-        records_len: usize,
-        answers: *mut u8,
-        answers_len: usize,
-    ) -> u64;
+mod archive {
+    extern "C" {
+        pub fn house_run(f: *const u8, fl: usize, r: *mut u8, rl: usize, a: *mut u8, al: usize) -> u64;
+        pub fn house_wall_run(w: *const u8, wl: usize, r: *mut u8, rl: usize, a: *mut u8, al: usize) -> u64;
+        pub fn house_fresh(p: *const u8, pl: usize, s: *mut u8, sl: usize) -> u64;
+        pub fn house_change(
+            s: *mut u8,
+            sl: usize,
+            i: *const u8,
+            il: usize,
+            r: *mut u8,
+            rl: usize,
+            a: *mut u8,
+            al: usize,
+        ) -> u64;
+        pub fn house_move(s: *mut u8, sl: usize, stamp: u32, r: *mut u8, rl: usize) -> u64;
+        pub fn house_run_to(
+            f: *const u8,
+            fl: usize,
+            s: *mut u8,
+            sl: usize,
+            r: *mut u8,
+            rl: usize,
+            a: *mut u8,
+            al: usize,
+        ) -> u64;
+    }
 }
 
 /// What the archive gives, linked into this program.
 #[cfg(linked)]
 fn by_link(case: &Case) -> Outcome {
     let list = case.list.clone();
-    let mut records = vec![RECORDS_PATTERN; case.records_len];
-    let mut answers = vec![ANSWERS_PATTERN; case.answers_len];
-    let function: Function = match case.call {
-        Call::Run => house_run,
-        Call::WallRun => house_wall_run,
+    let mut given = Outcome::before(case);
+    let from = |octets: &[u8]| if case.null && octets.is_empty() { std::ptr::null() } else { octets.as_ptr() };
+    let to = |octets: &mut [u8]| if case.null && octets.is_empty() { std::ptr::null_mut() } else { octets.as_mut_ptr() };
+    let (l, ll) = (from(&list), list.len());
+    let (s, sl) = (to(&mut given.state), given.state.len());
+    let (r, rl) = (to(&mut given.records), given.records.len());
+    let (a, al) = (to(&mut given.answers), given.answers.len());
+    // The slices are whole and do not overlap, which is all that the header asks.
+    given.number = unsafe {
+        match case.call {
+            Call::Run => archive::house_run(l, ll, r, rl, a, al),
+            Call::WallRun => archive::house_wall_run(l, ll, r, rl, a, al),
+            Call::Fresh => archive::house_fresh(l, ll, s, sl),
+            Call::Change => archive::house_change(s, sl, l, ll, r, rl, a, al),
+            Call::Move => archive::house_move(s, sl, case.stamp, r, rl),
+            Call::RunTo => archive::house_run_to(l, ll, s, sl, r, rl, a, al),
+        }
     };
-    // The three slices are whole and do not overlap, which is all that the header asks.
-    let number = unsafe {
-        function(
-            list.as_ptr(),
-            list.len(),
-            records.as_mut_ptr(),
-            records.len(),
-            answers.as_mut_ptr(),
-            answers.len(),
-        )
-    };
-    Outcome { number, records, answers, list_unchanged: list == case.list }
+    given.list_unchanged = list == case.list;
+    given
 }
 
 /// The same call in another program, over a pipe.
@@ -126,22 +173,27 @@ impl Bridge {
     }
 
     fn call(&mut self, case: &Case) -> Outcome {
-        self.to.write_all(&[case.call as u8]).unwrap();
-        for len in [case.list.len(), case.records_len, case.answers_len] {
-            self.to.write_all(&(len as u32).to_le_bytes()).unwrap();
+        self.ask(case).expect("the bridge stopped");
+        let mut given = Outcome::before(case);
+        let (mut number, mut unchanged) = ([0; 8], [0]);
+        for octets in [&mut number[..], &mut given.state, &mut given.records, &mut given.answers, &mut unchanged] {
+            self.from.read_exact(octets).expect("the bridge stopped");
         }
-        self.to.write_all(&[RECORDS_PATTERN, ANSWERS_PATTERN]).unwrap();
-        self.to.write_all(&case.list).unwrap();
-        self.to.flush().unwrap();
-        let mut number = [0; 8];
-        self.from.read_exact(&mut number).expect("the bridge stopped");
-        let mut records = vec![0; case.records_len];
-        self.from.read_exact(&mut records).unwrap();
-        let mut answers = vec![0; case.answers_len];
-        self.from.read_exact(&mut answers).unwrap();
-        let mut unchanged = [0];
-        self.from.read_exact(&mut unchanged).unwrap();
-        Outcome { number: u64::from_le_bytes(number), records, answers, list_unchanged: unchanged[0] == 1 }
+        given.number = u64::from_le_bytes(number);
+        given.list_unchanged = unchanged[0] == 1;
+        given
+    }
+
+    fn ask(&mut self, case: &Case) -> std::io::Result<()> {
+        self.to.write_all(&[case.call as u8])?;
+        for len in [case.list.len(), case.state.len(), case.records_len, case.answers_len] {
+            self.to.write_all(&(len as u32).to_le_bytes())?;
+        }
+        self.to.write_all(&case.stamp.to_le_bytes())?;
+        self.to.write_all(&[RECORDS_PATTERN, ANSWERS_PATTERN, u8::from(case.null)])?;
+        self.to.write_all(&case.list)?;
+        self.to.write_all(&case.state)?;
+        self.to.flush()
     }
 
     fn stop(self) {
@@ -187,16 +239,26 @@ impl Comparison {
         }
     }
 
+    /// What the archive alone gives.
+    pub fn given(&mut self, case: &Case) -> Outcome {
+        #[cfg(linked)]
+        return by_link(case);
+        #[cfg(not(linked))]
+        return self.bridge.call(case);
+    }
+
     fn differ(&mut self, way: &str, case: &Case, expected: &Outcome, found: &Outcome) {
         self.differing += 1;
         if self.differing <= 3 {
-            println!("DIFFERS ({}): list {:?}", way, case.list);
-            println!("  lent {} and {} octets", case.records_len, case.answers_len);
-            println!("  the model says {:#x}, the run {:#x}", expected.number, found.number);
-            let at = expected.records.iter().zip(&found.records).position(|(a, b)| a != b);
-            println!("  first differing octet of the records: {:?}", at);
-            let at = expected.answers.iter().zip(&found.answers).position(|(a, b)| a != b);
-            println!("  first differing answer: {:?}; list unchanged: {}", at, found.list_unchanged);
+            println!("DIFFERS ({}): {:?}, list {:?}", way, case.call, case.list);
+            println!("  state {:?}, stamp {}", case.state, case.stamp);
+            println!("  lent {} and {} octets; NULL for none: {}", case.records_len, case.answers_len, case.null);
+            println!("  the model says {:#x}, the archive {:#x}", expected.number, found.number);
+            let at = |a: &[u8], b: &[u8]| a.iter().zip(b).position(|(a, b)| a != b);
+            println!("  first differing octet of the state: {:?}", at(&expected.state, &found.state));
+            println!("  first differing octet of the records: {:?}", at(&expected.records, &found.records));
+            println!("  first differing answer: {:?}", at(&expected.answers, &found.answers));
+            println!("  list unchanged: {}", found.list_unchanged);
         }
     }
 
@@ -212,15 +274,19 @@ impl Comparison {
 /// Buffers as long as the list's n asks for, one too short, or longer.
 pub fn lent(call: Call, list: Vec<u8>, rng: &mut Rng) -> Case {
     let n = if list.len() >= 12 { u32::from_be_bytes([list[8], list[9], list[10], list[11]]) } else { 0 };
-    let n = n.min(4096) as usize;
-    let (records_len, answers_len) = match rng.below(16) {
+    let (records_len, answers_len) = room(n.min(4096) as usize, rng);
+    Case { null: rng.chance(50), ..Case::run(call, list, records_len, answers_len) }
+}
+
+/// As many octets of records and of answers as n inputs ask for, one too few, none, or more.
+pub fn room(n: usize, rng: &mut Rng) -> (usize, usize) {
+    match rng.below(16) {
         0 => (8 * (3 * n + 3) - 1, n),
         1 => (8 * (3 * n + 3), n.saturating_sub(1)),
         2 => (0, 0),
         3..=9 => (8 * (3 * n + 3) + rng.below(20) as usize, n + rng.below(5) as usize),
         _ => (8 * (3 * n + 3), n),
-    };
-    Case { call, list, records_len, answers_len }
+    }
 }
 
 /// Every prefix of a list, and every list that differs from it in one octet.
@@ -252,14 +318,17 @@ pub fn of_lengths(list: &[u8], lengths: RangeInclusive<usize>) -> Vec<Vec<u8>> {
     lengths.flat_map(resized).collect()
 }
 
+/// One more than the greatest code.
+const CODES: usize = 13;
+
 /// How many lists met each code, by the version that their first two octets name: the played ones, then any other.
 pub struct Codes {
-    met: Vec<[u64; 12]>,
+    met: Vec<[u64; CODES]>,
 }
 
 impl Codes {
     pub fn new() -> Codes {
-        Codes { met: vec![[0; 12]; LAYOUTS.len() + 1] }
+        Codes { met: vec![[0; CODES]; LAYOUTS.len() + 1] }
     }
 
     pub fn note(&mut self, list: &[u8], code: usize) {
@@ -269,7 +338,7 @@ impl Codes {
     }
 
     /// The rows by name, each with the codes that it can have: a version that is played has no 2, any other has 1 and 2.
-    fn rows<'a>(&'a self, codes: &'a [usize]) -> impl Iterator<Item = (String, Vec<usize>, &'a [u64; 12])> {
+    fn rows<'a>(&'a self, codes: &'a [usize]) -> impl Iterator<Item = (String, Vec<usize>, &'a [u64; CODES])> {
         self.met.iter().enumerate().map(move |(row, met)| match LAYOUTS.get(row) {
             Some(layout) => {
                 let possible = codes.iter().copied().filter(|&code| code != 2).collect();

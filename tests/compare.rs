@@ -51,7 +51,7 @@ impl Tally {
     fn ends(&mut self, layout: &'static Layout, rng: &mut Rng) {
         for n in [0, 1, 2, 255, 256, 2047, 2048] {
             let list = CueFile::random_in(layout, rng, n).octets();
-            self.check_case(Case { call: Call::Run, list, records_len: 8 * (3 * n + 3), answers_len: n }, true);
+            self.check_case(Case::run(Call::Run, list, 8 * (3 * n + 3), n), true);
         }
         let small = CueFile::random_in(layout, rng, 2).octets();
         for (i, other) in damaged(&small).into_iter().enumerate() {

@@ -57,10 +57,10 @@ impl Layout {
 }
 
 /// Modes, learning, two zeros and eight scenes, which are the same octets in every version.
-const REST: usize = 24;
+pub const REST: usize = 24;
 
 /// The longest time, in tenths.
-const LONGEST: u32 = 655_350;
+pub const LONGEST: u32 = 655_350;
 
 /// The parts of a cue file, in the order in which they are written; the times in tenths, whatever the version.
 pub struct CueFile {
@@ -146,6 +146,37 @@ fn kind_and_value(rng: &mut Rng) -> (u8, u8) {
     }
 }
 
+/// The widest gap between two inputs of a list.
+pub fn widest_gap(rng: &mut Rng) -> u64 {
+    [1, 5, 30, 200, 2000][rng.below(5) as usize]
+}
+
+/// So many inputs in order, from a stamp on, with ties.
+pub fn inputs_from(start: u32, widest: u64, n: usize, rng: &mut Rng) -> Vec<[u8; 8]> {
+    let mut stamp = u64::from(start);
+    let mut inputs = Vec::with_capacity(n);
+    for _ in 0..n {
+        if !rng.chance(35) {
+            stamp += rng.below(widest);
+        }
+        stamp = stamp.min(864_000);
+        let (kind, value) = kind_and_value(rng);
+        inputs.push(input(stamp as u32, kind, value));
+    }
+    inputs
+}
+
+/// An input: its stamp, kind and value, and two zeros.
+pub fn input(stamp: u32, kind: u8, value: u8) -> [u8; 8] {
+    let s = stamp.to_be_bytes();
+    [s[0], s[1], s[2], s[3], kind, value, 0, 0]
+}
+
+/// The stamp with which an input starts.
+pub fn stamp_of(input: &[u8]) -> u32 {
+    u32::from_be_bytes([input[0], input[1], input[2], input[3]])
+}
+
 impl CueFile {
     /// A show of n inputs that is in order, of any version.
     pub fn random(rng: &mut Rng, n: usize) -> CueFile {
@@ -155,21 +186,9 @@ impl CueFile {
 
     /// The same, of this version.
     pub fn random_in(layout: &'static Layout, rng: &mut Rng, n: usize) -> CueFile {
-        let mut stamp: u64 = 0;
-        let widest = [1, 5, 30, 200, 2000][rng.below(5) as usize];
-        let mut inputs = Vec::with_capacity(n);
-        for _ in 0..n {
-            if !rng.chance(35) {
-                stamp += rng.below(widest);
-            }
-            stamp = stamp.min(864_000);
-            let (kind, value) = kind_and_value(rng);
-            let mut octets = [0; 8];
-            octets[0..4].copy_from_slice(&(stamp as u32).to_be_bytes());
-            octets[4] = kind;
-            octets[5] = value;
-            inputs.push(octets);
-        }
+        let widest = widest_gap(rng);
+        let inputs = inputs_from(0, widest, n, rng);
+        let stamp = inputs.last().map_or(0, |input| u64::from(stamp_of(input)));
         let end = (stamp + rng.below(widest * 3 + 1)).min(864_000) as u32;
         let mut times = [0; 4].map(|_: u32| (layout.random_time)(rng));
         times[TIMED_ON] = times[TIMED_ON].max(layout.unit);
@@ -239,4 +258,4 @@ impl CueFile {
 }
 
 /// Which of the four times is TimedOn.
-const TIMED_ON: usize = 2;
+pub const TIMED_ON: usize = 2;

@@ -84,7 +84,7 @@ fn four_u16(octets: &[u8]) -> [u32; 4] {
     [0, 2, 4, 6].map(|at| u16_at(octets, at).into())
 }
 
-fn four_u32(octets: &[u8]) -> [u32; 4] {
+pub(crate) fn four_u32(octets: &[u8]) -> [u32; 4] {
     [0, 4, 8, 12].map(|at| u32_at(octets, at))
 }
 
@@ -141,7 +141,7 @@ impl Scene {
 
 /// "the rest follows" (document 02): after the times, modes, learning, zeros and scenes, the same
 /// octets in every version.
-const REST: usize = 24;
+pub(crate) const REST: usize = 24;
 
 /// Where the scene entries start in the rest: after five modes, learning and two zeros.
 const SCENES_AT: usize = 8;
@@ -154,7 +154,7 @@ fn times_and_rest<'a>(version: &Version, octets: &'a [u8]) -> ([u32; 4], &'a [u8
 }
 
 /// The rest of the parameters as it stands in a file, from a state's parameters and scene table.
-fn rest_of(p: &Params, scenes: &[Scene; 8]) -> [u8; REST] {
+pub(crate) fn rest_of(p: &Params, scenes: &[Scene; 8]) -> [u8; REST] {
     let mut rest = [0; REST];
     rest[0] = p.behaviour_at_locking;
     rest[1] = p.behaviour_at_unlocking;
@@ -233,18 +233,17 @@ fn bad_rest(rest: &[u8; REST]) -> Option<usize> {
             return Some(octet);
         }
     }
-    for entry in 0..8 {
-        let at = SCENES_AT + 2 * entry;
+    // a bit for each number that an entry before uses
+    let mut seen: u64 = 0;
+    for at in (SCENES_AT..REST).step_by(2) {
         let (number, flags) = (rest[at], rest[at + 1]);
         let used = number != UNUSED;
-        // "number (0 to 63, or 255 for unused)"
-        if used && number > 63 {
-            return Some(at);
-        }
-        // "Used numbers are distinct."
-        let repeated = (0..entry).any(|earlier| rest[SCENES_AT + 2 * earlier] == number);
-        if used && repeated {
-            return Some(at);
+        if used {
+            // "number (0 to 63, or 255 for unused)"; "Used numbers are distinct."
+            if number > 63 || seen >> number & 1 != 0 {
+                return Some(at);
+            }
+            seen |= 1 << number;
         }
         // "flags (bit 0 value, bit 1 taught in, others zero). Unused entries have flags 0."
         if flags > 3 || (!used && flags != 0) {
@@ -506,6 +505,9 @@ fn stopped(state: &State, kind: u8) -> Option<u8> {
 /// "A stopped input is dropped for good; every other is taken, though it may change nothing."
 ///
 /// "then 0 if anything but the clock changed after the due timers had run, else 1"
+///
+/// It stands in each loop that plays a list: a call for every input would cost that loop a fifth more.
+#[inline(always)]
 pub(crate) fn take_input(
     state: &mut State,
     octets: &[u8],
@@ -924,7 +926,7 @@ pub(crate) struct Cues<'a> {
 }
 
 /// An accepted list, from the start record to the end time; gives the end state.
-fn play(cues: &Cues, tape: &mut impl Tape) -> State {
+pub(crate) fn play(cues: &Cues, tape: &mut impl Tape) -> State {
     let mut state = cues.fresh;
     // "One record is written at the start"
     tape.record(record_of(&state, state.clock, CAUSE_START));
@@ -991,10 +993,15 @@ pub fn number(run: &Run) -> u64 {
     packed(run.code, run.place, run.records.len())
 }
 
+/// The number of a call that was refused and has written nothing.
+pub(crate) fn packed_refusal(refusal: Refusal) -> u64 {
+    packed(refusal.code, refusal.place, 0)
+}
+
 /// "calls the run with a file and two lent octet buffers"; a refused call writes nothing.
 pub fn run_into(file: &[u8], records: &mut [u8], answers: &mut [u8]) -> u64 {
     match accept(file, records.len(), answers.len()) {
-        Err(refusal) => packed(refusal.code, refusal.place, 0),
+        Err(refusal) => packed_refusal(refusal),
         Ok(cues) => {
             let mut tape = LentTape::new(records, answers);
             play(&cues, &mut tape);
@@ -1060,12 +1067,7 @@ pub fn clock_move(state: &State, stamp: u32) -> Move {
 
 /// "Parameters alone give the fresh state." With it code and place.
 pub fn fresh(parameters: &[u8]) -> (State, u8, u16) {
-    // "1 | ... parameters offered alone not 32 | 0", nor 40
-    let accepted = match Version::of_parameters(parameters.len()) {
-        Some(version) => accept_parameters(version, parameters),
-        None => refuse(1, 0),
-    };
-    match accepted {
+    match accept_fresh(parameters) {
         Err(refusal) => (state_of_a_refusal(), refusal.code, refusal.place),
         Ok(state) => (state, 0, 0),
     }
@@ -1122,10 +1124,14 @@ pub(crate) fn refuse<T>(code: u8, place: u16) -> Result<T, Refusal> {
 }
 
 /// "Order 1, 2, 3, 4, 5; then the first bad input, 6 before 7; then 8."
-fn accept(file: &[u8], records_len: usize, answers_len: usize) -> Result<Cues<'_>, Refusal> {
+pub(crate) fn accept(
+    file: &[u8],
+    records_len: usize,
+    answers_len: usize,
+) -> Result<Cues<'_>, Refusal> {
     let cues = accept_header_and_parameters(file)?;
     accept_inputs(&cues, |octets| decode_input(octets).is_some())?;
-    accept_room(&cues, records_len, answers_len)?;
+    accept_room(cues.inputs.len() / INPUT, records_len, answers_len)?;
     Ok(cues)
 }
 
@@ -1166,6 +1172,14 @@ pub(crate) fn accept_header_and_parameters(file: &[u8]) -> Result<Cues<'_>, Refu
     Ok(Cues { fresh: accept_parameters(version, parameters)?, inputs, end_time })
 }
 
+/// "Parameters alone give the fresh state"; "1 | ... parameters offered alone not 32 | 0", nor 40.
+pub(crate) fn accept_fresh(parameters: &[u8]) -> Result<State, Refusal> {
+    match Version::of_parameters(parameters.len()) {
+        Some(version) => accept_parameters(version, parameters),
+        None => refuse(1, 0),
+    }
+}
+
 /// "5 | parameter out of range"; otherwise the fresh state.
 fn accept_parameters(version: &Version, octets: &[u8]) -> Result<State, Refusal> {
     let (times, rest) = times_and_rest(version, octets);
@@ -1194,13 +1208,9 @@ pub(crate) fn accept_inputs(cues: &Cues, known: impl Fn(&[u8]) -> bool) -> Resul
     Ok(())
 }
 
-/// "8 | a lent buffer too short": "records, at least 8(3n+3) octets, and answers, at least n"
-pub(crate) fn accept_room(
-    cues: &Cues,
-    records_len: usize,
-    answers_len: usize,
-) -> Result<(), Refusal> {
-    let n = cues.inputs.len() / INPUT;
+/// "8 | a lent buffer too short": "records, at least 8(3n+3) octets, and answers, at least n", for n
+/// inputs.
+pub(crate) fn accept_room(n: usize, records_len: usize, answers_len: usize) -> Result<(), Refusal> {
     if records_len < RECORD * most_records(n) || answers_len < n {
         return refuse(8, 0);
     }
@@ -1236,18 +1246,31 @@ pub fn state_of_a_refusal() -> State {
 /// none of any other.
 fn in_range(p: &Params, scenes: &[Scene; 8]) -> bool {
     let times = [p.on_delay, p.off_delay, p.timed_on, p.prewarning];
-    match Version::of(p.version.into()) {
-        Some(version) => lowest_bad_octet(version, &times, &rest_of(p, scenes)).is_none(),
-        None => false,
+    ranged_parameters(p.version, times, &rest_of(p, scenes)).is_some()
+}
+
+/// The parameters and the scene table that four times in tenths and the rest spell, if they are in
+/// the ranges of this version.
+pub(crate) fn ranged_parameters(
+    version: u8,
+    times: [u32; 4],
+    rest: &[u8; REST],
+) -> Option<(Params, [Scene; 8])> {
+    let version = Version::of(version.into())?;
+    match lowest_bad_octet(version, &times, rest) {
+        Some(_) => None,
+        None => Some(decode_parameters(version, times, rest)),
     }
 }
 
-/// "A state is sound when ..."
+/// "A state is sound when its parameters and scenes are in range, ..."
 pub fn sound(state: &State) -> bool {
-    let lock_or_force = state.lock || state.force != Force::None;
+    in_range(&state.params, &state.scenes) && can_be(state)
+}
 
-    // "its parameters and scenes are in range,"
-    let in_range = in_range(&state.params, &state.scenes);
+/// The rules of a sound state that follow the ranges of its parameters.
+pub(crate) fn can_be(state: &State) -> bool {
+    let lock_or_force = state.lock || state.force != Force::None;
 
     // "the clock is at most 864,000,"
     let clock_good = state.clock <= LAST_STAMP;
@@ -1274,11 +1297,5 @@ pub fn sound(state: &State) -> bool {
     let power_good = state.link != Link::PowerDown
         || (state.phase == Phase::Dark && !state.night && !lock_or_force);
 
-    in_range
-        && clock_good
-        && deadline_good
-        && dark_or_lit
-        && force_agrees
-        && night_good
-        && power_good
+    clock_good && deadline_good && dark_or_lit && force_agrees && night_good && power_good
 }

@@ -84,6 +84,7 @@ tests_of() {
 # The model's own tests.
 tests_of model_tests "the model"
 tests_of wall_tests "the model of the wall buttons"
+tests_of live_tests "the model of the live calls"
 
 echo "$passed passed, $failed failed"
 [ "$failed" -eq 0 ]

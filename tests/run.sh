@@ -93,17 +93,18 @@ build_example() {
     fi && kit_link "$out/$name" "$out/$name.o" "${archives[@]}"
 }
 
-# example_says NAME SHOW: it writes examples/NAME.SHOW.txt of a show.
+# example_says NAME [SHOW]: it writes examples/NAME.SHOW.txt of a show, or examples/NAME.txt where it takes none.
 example_says() {
-    local name=$1 show=$2
-    "${kit_run[@]}" "$out/$name" <"shows/$show" | diff - "examples/$name.${show%.*}.txt"
+    local name=$1 show=${2:-}
+    "${kit_run[@]}" "$out/$name" <"${show:+shows/}${show:-/dev/null}" | diff - "examples/$name${show:+.${show%.*}}.txt"
 }
 
-# example NAME SHOW..: examples/NAME.c, built and run.
+# example NAME [SHOW..]: examples/NAME.c, built and run, over each show or by itself.
 example() {
     local name=$1 show
     shift
     done_or_not "examples/$name.c is built, warnings as errors" build_example "$name"
+    [ "$#" -gt 0 ] || done_or_not "examples/$name.c says what the house does" example_says "$name"
     for show in "$@"; do
         done_or_not "examples/$name.c says what the house does in shows/$show" example_says "$name" "$show"
     done
@@ -135,9 +136,11 @@ if command -v rustc >/dev/null; then
     echo "the Rust tests reach the archive by: $way"
     compared compare "the run against the second model"
     compared compare_walls "the run over wall lists against the second model"
+    compared compare_live "the live calls against the second model"
 fi
 counted "the shows" bash tests/shows.sh
 example preview example.cue tenths.cue
 example wall foyer.wall stage_door.wall
+example live
 echo "$passed passed, $failed failed"
 [ "$failed" -eq 0 ]

@@ -9,9 +9,9 @@
 
 use crate::model::{
     accept_header_and_parameters, accept_inputs, accept_room, decode_input, line, most_records,
-    move_clock, packed, print_records, record_of, refuse, sound, stamp_refused, state_of_a_refusal,
-    take_input, u32_at, Cues, Input, LentTape, Record, Refusal, State, Tape, VecTape, CAUSE_START,
-    INPUT, LAST_STAMP, LEAST_FILE,
+    move_clock, packed, packed_refusal, print_records, record_of, refuse, sound, stamp_refused,
+    state_of_a_refusal, take_input, u32_at, Cues, Input, LentTape, Record, Refusal, State, Tape,
+    VecTape, CAUSE_START, INPUT, LAST_STAMP, LEAST_FILE,
 };
 
 // ================================================================================================
@@ -437,7 +437,7 @@ fn accept_wall(wall: &[u8], records_len: usize, answers_len: usize) -> Result<Wa
     let cues = accept_header_and_parameters(file)?;
     let sensor = accept_actions(actions)?;
     accept_inputs(&cues, |octets| decode_item(octets).is_some())?;
-    accept_room(&cues, records_len, answers_len)?;
+    accept_room(cues.inputs.len() / INPUT, records_len, answers_len)?;
     Ok(Wall { cues, sensor })
 }
 
@@ -508,7 +508,7 @@ pub fn wall_number(run: &WallRun) -> u64 {
 /// The same straight into two lent buffers; a refused call writes nothing.
 pub fn wall_run_into(wall: &[u8], records: &mut [u8], answers: &mut [u8]) -> u64 {
     match accept_wall(wall, records.len(), answers.len()) {
-        Err(refusal) => packed(refusal.code, refusal.place, 0),
+        Err(refusal) => packed_refusal(refusal),
         Ok(wall) => {
             let mut tape = LentTape::new(records, answers);
             play_wall(&wall, &mut tape);
