@@ -1,7 +1,7 @@
 #!/usr/bin/env bash
-# Instructions and time of the proved runs against the second model in Rust, over the kinds of show of shows.rs.
-# Needs valgrind and rustc. Both sides are compiled for this machine's own processor: the proved run from the very code that
-# `rt staticlib house` and `rt staticlib walls` compile, at -O3.
+# Instructions and time of the proved calls against the second model in Rust, over the kinds of show of shows.rs: of an input, and of
+# a whole call where a show has none. Needs valgrind and rustc. Both sides are compiled for this machine's own processor: the proved
+# calls from the very code that `rt staticlib house` and `rt staticlib walls` compile, at -O3.
 set -eu
 cd "$(dirname "$0")/.."
 . tests/kit.sh
@@ -27,18 +27,18 @@ native_object() {
         -Wno-override-module 2>/dev/null
 }
 
-# counted SHOW N SIDE CALLS: the instructions of the whole program.
+# counted SHOW N SIDE TIMES: the instructions of the whole program.
 counted() {
     valgrind --tool=callgrind --callgrind-out-file=/dev/null "$out/bench" count "$@" 2>&1 |
         sed -n 's/.*Collected : *\([0-9]*\).*/\1/p'
 }
 
-# instructions SHOW N SIDE: those of one call, a tenth of what ten calls more cost.
+# instructions SHOW N SIDE: those of one show, a tenth of what ten times more cost.
 instructions() {
     echo $((($(counted "$@" 11) - $(counted "$@" 1)) / 10))
 }
 
-# per_input A N: of a call, or of one of its inputs.
+# per_input A N: of one input of a show; of the show, where it has none.
 per_input() {
     awk "BEGIN { printf \"%.1f\", $1 / ($2 ? $2 : 1) }"
 }

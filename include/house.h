@@ -2,7 +2,8 @@
  *
  * One call plays a cue file on the model of one KNX Light Switching Actuator Basic and writes what its status shows and how
  * each cue is answered. A second one plays a wall list, in which the edges of two wall buttons stand among the cues: a KNX Light
- * Switching Sensor turns them into telegrams. The models are written in Rattle, and each call is proved to give exactly what the
+ * Switching Sensor turns them into telegrams. The others play a house live: the state is yours, and they take it a few inputs or
+ * some time further. The models are written in Rattle, and each call is proved to give exactly what the
  * rules say, for every octet string and every pair of buffers. They have no state of their own, allocate nothing, print nothing
  * and always return: they may be called from any thread, and from several at once, as long as they lend different buffers.
  *
@@ -69,6 +70,74 @@ uint64_t house_run(const uint8_t *file, size_t file_len, uint8_t *records, size_
 uint64_t house_wall_run(const uint8_t *wall, size_t wall_len, uint8_t *records, size_t records_len, uint8_t *answers,
                         size_t answers_len);
 
+/* ---- Live: a house that is played input by input
+ *
+ * A state is HOUSE_STATE_OCTETS octets, its image. It holds all that the actuator remembers, so it may be stored, copied, compared
+ * (equal states have equal images, and equal images are equal states) and handed to another process. Numbers are most significant octet
+ * first; every octet has one meaning, and what is not listed is refused:
+ *
+ *     0-3 OnDelay, 4-7 OffDelay, 8-11 TimedOnDuration, 12-15 PrewarningDuration: in tenths of a second, whatever the version
+ *     16-20 the five modes, 21 scene learning, 22-23 zero, 24-39 the scene table as it stands: as in parameters of version 2
+ *     40 version (1, 2): that of the parameters, by which they are judged
+ *     41 night (0, 1)
+ *     42 lock (0, 1)
+ *     43 force (0 none, 2 off, 3 on)
+ *     44 link (0 up, 1 bus down, 2 power down)
+ *     45 the output remembered at locking (0 off, 1 on)
+ *     46 the output remembered at power failure (0 off, 1 on)
+ *     47 phase (enum house_phase)
+ *     48-51 clock, a stamp
+ *     52-55 the moment at which the phase ends by itself; 0 in HOUSE_DARK and HOUSE_LIT, which do not
+ *
+ * Octets that are no image of a sound state are refused with HOUSE_UNSOUND_STATE wherever a state is handed in: a wrong length, an octet
+ * without meaning, parameters out of range for the version, or a state that no actuator can be in.
+ *
+ * All that is lent is yours before and after a call, must not overlap while it runs, and may be NULL if its length is 0. Each call answers
+ * the packed number. A refused call writes nothing, but for house_change, which writes nothing from the refused input on.
+ */
+
+/* The fresh state of parameters alone (32 octets: version 1; 40: version 2) is written to state. Refusals: 1, 5 with the place of the
+ * lowest bad octet, then 8 for a state_len that is not HOUSE_STATE_OCTETS. The count is 0. */
+uint64_t house_fresh(const uint8_t *parameters, size_t parameters_len, uint8_t *state, size_t state_len);
+
+/* Plays inputs to a state, one after the other: a whole scene change, or a single input.
+ *
+ *   state, state_len        the image of a state; it is replaced by that of the state afterwards
+ *   inputs, inputs_len      up to HOUSE_MOST_GROUPS inputs of eight octets each, as in a cue file; they are only read
+ *   records, records_len    lent room for records: at least HOUSE_RECORDS_ROOM(n) octets for n inputs
+ *   answers, answers_len    lent room for answers: at least n octets
+ *
+ * No start record is written, and the clock stays at the last stamp. Refusals: 9; then 12 for more inputs or a length that is no multiple
+ * of 8; then 8; place 0, and nothing is written. Then the inputs are played until one is refused, with 6 or with 7 (a stamp below the
+ * clock, or above HOUSE_LAST_STAMP): the place is its index, and what went before it stands, in the state (whose clock is the last stamp
+ * before it), in the records (HOUSE_COUNT of them) and in the answers (as many as the place says). */
+uint64_t house_change(uint8_t *state, size_t state_len, const uint8_t *inputs, size_t inputs_len, uint8_t *records,
+                      size_t records_len, uint8_t *answers, size_t answers_len);
+
+/* Moves the clock of a state to a stamp: the timers due by then run, and the image is replaced. At most two records are written; the room
+ * lent for them is at least HOUSE_MOVE_ROOM octets. Refusals: 9, then 7 (below the clock, or above HOUSE_LAST_STAMP), then 8; place 0. */
+uint64_t house_move(uint8_t *state, size_t state_len, uint32_t stamp, uint8_t *records, size_t records_len);
+
+/* As house_run, and the image of the state at the end time is written to state, from which the house may be played on. Refusals: those of
+ * house_run; a state_len that is not HOUSE_STATE_OCTETS is refused with 8. */
+uint64_t house_run_to(const uint8_t *file, size_t file_len, uint8_t *state, size_t state_len, uint8_t *records,
+                      size_t records_len, uint8_t *answers, size_t answers_len);
+
+#define HOUSE_STATE_OCTETS 56u
+#define HOUSE_MOST_GROUPS 256u
+#define HOUSE_MOVE_ROOM 16u
+#define HOUSE_LAST_STAMP 864000u
+
+enum house_phase {
+    HOUSE_DARK = 0,
+    HOUSE_LIT = 1,
+    HOUSE_STARTING = 2,       /* dark, and lit at its end */
+    HOUSE_STARTING_TIMED = 3, /* dark, and lit for TimedOnDuration at its end */
+    HOUSE_TIMED = 4,
+    HOUSE_WARNING = 5,
+    HOUSE_ENDING = 6          /* lit, and dark at its end */
+};
+
 #define HOUSE_CODE(number) ((unsigned)((number) >> 48))
 #define HOUSE_PLACE(number) ((unsigned)((number) >> 32) & 0xFFFFu)
 #define HOUSE_COUNT(number) ((uint32_t)(number))
@@ -87,15 +156,19 @@ uint64_t house_wall_run(const uint8_t *wall, size_t wall_len, uint8_t *records, 
 /* Codes, in the order in which they are tested, and what the place means. */
 enum house_code {
     HOUSE_ACCEPTED = 0,        /* place 0 */
-    HOUSE_TOO_SHORT = 1,       /* a file under 52 octets (version 2: 60), a wall list under 56 (64); place 0 */
+    HOUSE_TOO_SHORT = 1,       /* a file under 52 octets (version 2: 60), a wall list under 56 (64); parameters alone that are
+                                * neither 32 nor 40; place 0 */
     HOUSE_WRONG_VERSION = 2,   /* neither version 1 nor 2, in a file of at least 52 octets; place 0 */
     HOUSE_WRONG_ACTUATORS = 3, /* count of actuators not 1; place 0 */
     HOUSE_WRONG_LAYOUT = 4,    /* an offset, the count of inputs, the length or the end time; place 0 */
     HOUSE_BAD_PARAMETER = 5,   /* place: the lowest bad octet of the parameters, 0 to 31 (version 2: 39); of a time its first */
     HOUSE_BAD_ACTION = 11,     /* a wall list's action above 3; place: the lowest bad octet of the four, 0 to 3 */
     HOUSE_BAD_INPUT = 6,       /* kind, value or zero octet; place: the input's index, from 0 */
-    HOUSE_BAD_STAMP = 7,       /* below the stamp before, or above the end time; place: the input's index */
-    HOUSE_SHORT_BUFFER = 8     /* a lent buffer is too short; place 0 */
+    HOUSE_BAD_STAMP = 7,       /* below the stamp before or the clock, above the end time or, live, HOUSE_LAST_STAMP; place: the
+                                * input's index; of house_move 0 */
+    HOUSE_SHORT_BUFFER = 8,    /* a lent buffer is too short, a lent state not HOUSE_STATE_OCTETS; place 0 */
+    HOUSE_UNSOUND_STATE = 9,   /* octets that are no image of a sound state; place 0; before all others */
+    HOUSE_WRONG_GROUPS = 12    /* more than HOUSE_MOST_GROUPS inputs, or a length that is no multiple of 8; place 0; right after 9 */
 };
 
 /* The kinds of a wall list's edges, beside the kinds 1 to 8 of a cue file; an edge has value 1 where it rises (the button is
@@ -114,7 +187,7 @@ enum house_action {
 };
 
 /* A record, eight octets: the stamp in tenths of a second (four octets, most significant first), value, attributes, cause,
- * zero. The first is written at the start, each other one after a timer or an input that changed value or attributes. */
+ * zero. One is written at the start of a run, and one after each timer or input that changed value or attributes. */
 #define HOUSE_STAMP(record) \
     ((uint32_t)(record)[0] << 24 | (uint32_t)(record)[1] << 16 | (uint32_t)(record)[2] << 8 | (uint32_t)(record)[3])
 #define HOUSE_VALUE(record) ((record)[4])      /* 0 off, 255 on */
