@@ -77,10 +77,15 @@ impl Fields {
 
     /// A fresh state with the parameters of a show, whose times are in tenths here.
     pub fn fresh(show: &CueFile) -> Fields {
+        Fields::fresh_with(show.times, show.rest, show.layout.version as u8)
+    }
+
+    /// A fresh state with these parameters.
+    pub fn fresh_with(times: [u32; 4], rest: [u8; REST], version: u8) -> Fields {
         Fields {
-            times: show.times,
-            rest: show.rest,
-            version: show.layout.version as u8,
+            times,
+            rest,
+            version,
             night: 0,
             lock: 0,
             force: 0,

@@ -68,20 +68,7 @@ pub fn rest_of(modes: [u8; 5], learning: u8, scenes: &[(u8, u8)]) -> [u8; REST] 
 
 /// A fresh state of a version, with the modes 0.
 fn usual(layout: &Layout) -> Fields {
-    Fields {
-        times: TIMES[usize::from(layout.version) - 1],
-        rest: rest_of([0; 5], 1, &SCENES),
-        version: layout.version as u8,
-        night: 0,
-        lock: 0,
-        force: 0,
-        link: 0,
-        at_locking: 0,
-        at_failure: 0,
-        phase: DARK,
-        clock: 0,
-        deadline: 0,
-    }
+    Fields::fresh_with(TIMES[usize::from(layout.version) - 1], rest_of([0; 5], 1, &SCENES), layout.version as u8)
 }
 
 /// A timed light at 1000 that ends at 1100.

@@ -5,7 +5,7 @@ use mathlib.Core.List.{List, [], _∷_, _++_, append-assoc, append-nil}
 use mathlib.Core.Path.{_≡_, refl, sym, ap, _∙_}
 use native.Mathlib.Omega.{arith}
 use lib.ListN.{length, take, drop, length-append, length-drop, length-take, take-append-drop}
-use lib.Seq.{take-at, drop-at, drop-drop}
+use lib.Seq.{take-at, take-all, drop-at, drop-drop}
 use lib.Dec.{eqb}
 use borrow.Author.Tests.{eqb-true, eqb-false, ne-eqb}
 use Rattle.octets.specs.Groups.{stampAt}
@@ -438,3 +438,15 @@ module _ (s : State) (inputs r a : List ℕ) where
       place : GoodGroups inputs → {c : Singles} → Ended 0 (length (groupsIn inputs)) c → c .place < 65_536
       place good (none-refused p) = omega arith
       place good (one-refused p code at f low high) = omega (arith, high, groups-length (groupCount inputs) inputs, good .few)
+
+-- ---- "One group is a single input."
+
+-- a change of one group: the state and the code of the single input, its records in the buffer, and its answer where it is accepted
+pub one-group-is-a-single-input : (s : State) (octets r a : List ℕ) → sound s ≡ true → length octets ≡ 8 → RoomFor 1 r a →
+    changeCall s octets r a ≡ changed (goesOn (singleCall s octets) 0 (λ u. record { played = unplayed u; code = 0; place = 0 })) r a
+unfolding groupsIn groups singles
+one-group-is-a-single-input s octets r a safe eight room =
+    let one : groupCount octets ≡ 1 = omega (arith, eight) in
+    let whole : take 8 octets ≡ octets = take-all 8 octets (omega (arith, eight)) in
+    a-change-is-the-single-inputs s octets r a safe (record { whole = omega (arith, eight); few = omega (arith, eight) }) (rw one room)
+    ∙ rw (one, whole) refl

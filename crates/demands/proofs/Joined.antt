@@ -4,7 +4,6 @@ use mathlib.Core.Bool.{true}
 use mathlib.Core.List.{List, [], _∷_}
 use mathlib.Core.Path.{_≡_, refl, sym, ap, _∙_}
 use native.Mathlib.Omega.{arith}
-use borrow.Author.Tests.{le-leb}
 use Rattle.rules.specs.declared.state.State.{State}
 use Rattle.rules.specs.declared.call.Fresh.{Fresh}
 use Rattle.base.specs.Time.{lastStamp}
@@ -14,7 +13,6 @@ use Rattle.rules.specs.Steps.{fresh, clockMove}
 use Rattle.rules.specs.Soundness.{sound}
 use Rattle.rules.specs.Status.{recordOf, byItself}
 use Rattle.rules.specs.Lists.{andThen, Cue, moved, plays, playsTo, playList}
-use Rattle.base.specs.Refusals.{stampInRange}
 use Rattle.rules.specs.Calls.{freshBy, freshCall, moveDone, moveCall}
 use Rattle.rules.specs.Forms.{formIn}
 use Rattle.rules.specs.Readings.{cues}
@@ -22,6 +20,8 @@ use Rattle.rules.specs.Files.{inputCount, endTime, parametersIn, inputsIn, cueA
 use Rattle.rules.specs.Refusals.{GoodStart}
 use Rattle.rules.specs.Runs.{playFile, accepted, runCall}
 use Rattle.rules.specs.Changes.{groupCount, groupsIn, Singles, singles}
+use Rattle.base.proofs.Codes.{timely-exactly-when}
+use Rattle.rules.proofs.Refusals.Calls.{good-is-made}
 use Rattle.rules.proofs.Laws.Records.{a-move-writes-at-most-two, used-places}
 use Rattle.rules.proofs.Laws.Lists.{andThen-from}
 use Rattle.rules.proofs.Laws.Forms.{file-row}
@@ -34,12 +34,11 @@ use Rattle.demands.specs.Joined.{movePlayed, calls, startOf, callsOf, Jo
 
 -- the move to the end is a clock move that is not refused
 move-played : (s : State) (end : ℕ) → sound s ≡ true → s .clock ≤ end → end ≤ lastStamp → (movePlayed (moveCall s end) ≡ moved (clockMove s end)) × (moveCall s end .code ≡ 0)
-unfolding moveCall stampInRange moveDone
+unfolding moveDone
 move-played s end safe later timely =
-    let low = le-leb (s .clock) end later in
-    let high = le-leb end lastStamp timely in
+    let made = good-is-made s end safe (timely-exactly-when (s .clock) end .1 (later, timely)) in
     let all = used-places 2 (clockMove s end .records) (a-move-writes-at-most-two s end) in
-    (simp (safe, low, high, all), simp (safe, low, high))
+    (rw (made, all) refl, rw made refl)
 
 -- a change is read as the inputs of an accepted file are, where the clock stands at 0
 read-as-a-change : (file : List ℕ) (s : State) (list : List Cue) → s .clock ≡ 0 → readFile file ≡ cues list → changeRead s (inputsIn file) (groupCount (inputsIn file)) ≡ cues list

@@ -1,9 +1,9 @@
 -- The live calls from C: refused exactly when the table says, and what they leave is an image again.
-use Prim.Native.Nat.{ℕ, _*_, _/_, _%_, _^_, _+_, _≤_, _<_}
+use Prim.Native.Nat.{ℕ, _/_, _%_, _^_, _≤_, _<_}
 use mathlib.Core.Bool.{Bool, true, false, cond}
-use mathlib.Core.List.{List, [], _∷_}
+use mathlib.Core.List.{List}
 use mathlib.Core.Logic.{_↔_, inl, inr}
-use mathlib.Core.Path.{_≡_, refl, sym, ap, _∙_}
+use mathlib.Core.Path.{_≡_, refl, _∙_}
 use native.Mathlib.Omega.{arith}
 use lib.ListN.{length}
 use lib.Dec.{eqb, leb}
@@ -12,15 +12,14 @@ use Rattle.base.specs.declared.refusal.Refusal.{Refusal}
 use Rattle.base.specs.declared.refusal.Refusal.the-variants.{WrongLength, BadParameter, BadStamp, ShortBuffer, UnsoundState}
 use Rattle.base.specs.declared.refusal.Check.{Check}
 use Rattle.base.specs.declared.refusal.Check.the-variants.{Passed, Refused}
-use Rattle.base.specs.Refusals.{number, codeOf, placeOf, stampInRange, orElse, Only, Then, Codes, Decides, Timely}
+use Rattle.base.specs.Refusals.{number, codeOf, placeOf, stampInRange, orElse, Only, Then, Decides, Timely}
 use Rattle.base.proofs.Codes.{codes-of-a-check, one-test-decides, then-decides, timely-exactly-when}
 use Rattle.rules.specs.Layout.{formAlone}
-use Rattle.rules.specs.Parameters.{checkParameters, checkAlone}
+use Rattle.rules.specs.Parameters.{checkAlone}
 use Rattle.rules.specs.Steps.{clockMove}
 use Rattle.rules.specs.Lists.{Cue}
 use Rattle.rules.specs.Soundness.{sound}
 use Rattle.rules.specs.Calls.{ownState, moveDone, moveCall}
-use Rattle.rules.specs.Readings.{verdict}
 use Rattle.rules.specs.Files.{inputCount, readFile, lentEnough, readCall}
 use Rattle.rules.specs.Refusals.{FoundWhen, GoodParameters, GivenWhen, GoodFile, RoomFor, TakenApart}
 use Rattle.rules.specs.Changes.{changeCall}
@@ -31,6 +30,7 @@ use Rattle.rules.proofs.Laws.Parameters.{lowest-bad-octet}
 use Rattle.rules.proofs.Laws.Forms.{few-octets}
 use Rattle.rules.proofs.Laws.Images.{image-is-accepted, read-scenes-are-eight, accepted-is-sound}
 use Rattle.rules.proofs.Laws.Records.{a-move-writes-at-most-two}
+use Rattle.rules.proofs.Refusals.Calls.{good-is-made}
 use Rattle.rules.proofs.Refusals.Readings.{verdict-if-lent}
 use Rattle.rules.proofs.Refusals.Files.{file-decides, accepted-exactly-when}
 use Rattle.rules.proofs.Refusals.Runs.{apart, lent-enough-exactly-when, a-good-file-is-played, record-count-is-one-plus-changes, narrow-place}
@@ -121,12 +121,9 @@ module _ (state : List ℕ) (stamp : ℕ) (records : List ℕ) where
       by Passed e =
           let g = rw e at move-decides in
           let good = g .passed .0 refl in
-          let made : moveCall (stateIn state) stamp ≡ moveDone (clockMove (stateIn state) stamp) = a-good-move (accepted-is-sound state (good .0)) (timely-exactly-when (stateIn state .clock) stamp .1 (good .1 .0)) in
+          let made = good-is-made (stateIn state) stamp (accepted-is-sound state (good .0)) (timely-exactly-when (stateIn state .clock) stamp .1 (good .1 .0)) in
           (length (clockMove (stateIn state) stamp .records), a-move-writes-at-most-two (stateIn state) stamp, rw-number e made)
         where
-          a-good-move : sound (stateIn state) ≡ true → stampInRange (stateIn state .clock) stamp ≡ true → moveCall (stateIn state) stamp ≡ moveDone (clockMove (stateIn state) stamp)
-          a-good-move safe timely = unfold moveCall in rw (safe, timely) refl
-
           rw-number : checkMove state stamp records ≡ Passed → moveCall (stateIn state) stamp ≡ moveDone (clockMove (stateIn state) stamp) → houseMove state stamp records .number ≡ packing 0 0 (length (clockMove (stateIn state) stamp .records))
           rw-number e made = unfold houseMove moveBy moveImaged moveDone in rw (e, made) refl
 

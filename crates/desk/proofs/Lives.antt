@@ -15,13 +15,14 @@ use Rattle.rules.specs.declared.state.State.{State}
 use Rattle.rules.specs.declared.call.Fresh.{Fresh}
 use Rattle.rules.specs.Parameters.{checkAlone}
 use Rattle.rules.specs.Steps.{clockMove}
-use Rattle.rules.specs.Calls.{freshBy, freshCall, moveDone, moveCall}
+use Rattle.rules.specs.Calls.{freshBy, freshCall, moveDone}
 use Rattle.rules.specs.Runs.{recordsOctets, Whole, packing, packed}
 use Rattle.rules.specs.Changes.{changeCall}
 use Rattle.rules.specs.Images.{image, stateIn, isImage}
 use Rattle.rules.specs.Live.{refusedNumber, checkFresh, freshImaged, houseFresh, checkMove, moveImaged, moveBy, houseMove, imaged, changeImaged, houseChange}
 use Rattle.rules.proofs.Laws.Images.{image-length, read-scenes-are-eight, accepted-is-the-image, accepted-is-sound}
 use Rattle.rules.proofs.Laws.Records.{a-move-writes-at-most-two, used-places}
+use Rattle.rules.proofs.Refusals.Calls.{good-is-made}
 use Rattle.octets.specs.Splice.{splice}
 use Rattle.buffers.proofs.Splices.{splice-front}
 use Rattle.timers.specs.declared.clock.Clocked.{Clocked}
@@ -98,14 +99,10 @@ module _ (state : List ℕ) (stamp : ℕ) (r : List ℕ) where
       unfolding houseMove checkMove moveBy
       move-short short = rw (is, timely, lt-leb 16 (length r) short) refl
 
-      made : moveCall (stateIn state) stamp ≡ moveDone (clockMove (stateIn state) stamp)
-      unfolding moveCall
-      made = rw (accepted-is-sound state is, timely) refl
-
       pub move-made : 16 ≤ length r → (m : Clocked) → m ≡ clocked (clockMove (stateIn state) stamp) →
           (r₁ : List ℕ) → r₁ ≡ splice r 0 (recordsOctets (take (m .notes .count) (m .notes .records))) →
           imagedMoveBy (packing 0 0 (m .notes .count)) (image (m .state)) r₁ ≡ houseMove state stamp r
       unfolding houseMove checkMove moveBy moveImaged moveDone
       move-made room m g r₁ put =
           let s : State = stateIn state in
-          rw (is, timely, le-leb 16 (length r) room, made, used-places 2 (clockMove s stamp .records) (a-move-writes-at-most-two s stamp), put, moved-records s stamp m g, moved-count s stamp m g, moved-state s stamp m g, splice-front r) refl
+          rw (is, timely, le-leb 16 (length r) room, good-is-made s stamp (accepted-is-sound state is) timely, used-places 2 (clockMove s stamp .records) (a-move-writes-at-most-two s stamp), put, moved-records s stamp m g, moved-count s stamp m g, moved-state s stamp m g, splice-front r) refl

@@ -1,5 +1,5 @@
 -- The whole run, one law for each way out.
-use Prim.Native.Nat.{ℕ, _≤_}
+use Prim.Native.Nat.{ℕ}
 use mathlib.Core.Bool.{Bool, true, false, cond, _&&_}
 use mathlib.Core.List.{List}
 use mathlib.Core.Path.{_≡_, refl, sym, ap, _∙_}
@@ -12,7 +12,7 @@ use Rattle.base.specs.declared.refusal.Refusal.{Refusal}
 use Rattle.base.specs.declared.refusal.Refusal.the-variants.{ShortBuffer}
 use Rattle.base.specs.declared.refusal.Check.{Check}
 use Rattle.base.specs.declared.refusal.Check.the-variants.{Passed, Refused}
-use Rattle.base.specs.Refusals.{number, orElse}
+use Rattle.base.specs.Refusals.{number, codeOf, orElse}
 use Rattle.base.proofs.Codes.{some-number}
 use Rattle.rules.specs.declared.form.Form.{Form}
 use Rattle.rules.specs.Forms.{formIn}
@@ -24,7 +24,7 @@ use Rattle.rules.specs.Files.{inputCount, endTime, inputsIn, readFile, lentEnou
 use Rattle.rules.specs.Runs.{Whole, whole, playFile, accepted, refusal, refused, runBy, runCall, packed}
 use Rattle.rules.proofs.Refusals.Readings.{verdict-if-lent, bad-read, good-read}
 use Rattle.rules.proofs.Refusals.Files.{good-file, good-start}
-use Rattle.rules.proofs.Refusals.Runs.{a-bad-file-is-refused, a-short-buffer-is-refused, a-good-file-is-played}
+use Rattle.rules.proofs.Refusals.Runs.{run-is-read, a-bad-file-is-refused, a-short-buffer-is-refused, a-good-file-is-played}
 use Rattle.sensor.specs.declared.state.Sensor.{Sensor}
 use Rattle.pairs.specs.Lists.{Listed}
 use Rattle.pairs.specs.Walls.{itemsRead}
@@ -97,20 +97,15 @@ module _ (file state r a : List ℕ) where
       by Passed false = refl
 
   module _ (long : length state ≡ 56) (w : Whole) (ran : w ≡ runCall file r a) where
-    accepted-code : (list : List Cue) → readCall file r a ≡ cues list → w .report .code ≡ 0
-    unfolding runCall runBy accepted
-    accepted-code list e = rw (ran, e) refl
-
-    refused-code : (why : Refusal) (place : ℕ) → readCall file r a ≡ readings.bad why place → w .report .code ≡ number why
-    unfolding runCall runBy refused
-    refused-code why place e = rw (ran, e) refl
+    told : (x : Reading Cue) → readCall file r a ≡ x → w .report .code ≡ codeOf (verdict x)
+    told x e = rw (ran, ← e) (run-is-read file r a .0)
 
     pub run-to-refused : (w .report .code ≡ 0 → ⊥) → imagedRunBy (packed (w .report)) state (w .records) (w .answers) ≡ houseRunTo file state r a
     unfolding runCall runBy houseRunTo checkRunTo runImaged refused packed
     run-to-refused bad = by (readCall file r a) refl
       where
         by : (x : Reading Cue) → readCall file r a ≡ x → imagedRunBy (packed (w .report)) state (w .records) (w .answers) ≡ houseRunTo file state r a
-        by (cues list) e = absurd (bad (accepted-code list e))
+        by (cues list) e = absurd (bad (told (cues list) e))
         by (readings.bad why place) e = rw (ran, e) refl
 
     pub run-to-done : w .report .code ≡ 0 → imagedRunBy (packed (w .report)) (image (w .report .state)) (w .records) (w .answers) ≡ houseRunTo file state r a
@@ -119,4 +114,4 @@ module _ (file state r a : List ℕ) where
       where
         by : (x : Reading Cue) → readCall file r a ≡ x → imagedRunBy (packed (w .report)) (image (w .report .state)) (w .records) (w .answers) ≡ houseRunTo file state r a
         by (cues list) e = rw (e, eq-eqb (length state) 56 long, ran) refl
-        by (readings.bad why place) e = absurd (omega (arith, some-number why, good, refused-code why place e))
+        by (readings.bad why place) e = let code : w .report .code ≡ number why = told (readings.bad why place) e in absurd (omega (arith, some-number why, good, code))

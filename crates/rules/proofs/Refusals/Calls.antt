@@ -127,6 +127,11 @@ move-finds s stamp = by (sound s) (stampInRange (s .clock) stamp) refl refl
     by true false h e = MoveFinds.untimely h e
     by true true h e = moves h e
 
+-- and the other way round: where no row fits, it is made
+pub good-is-made : (s : State) (stamp : ℕ) → sound s ≡ true → stampInRange (s .clock) stamp ≡ true → moveCall s stamp ≡ moveDone (clockMove s stamp)
+unfolding moveCall
+good-is-made s stamp h e = rw (h, e)
+
 module _ (s : State) (stamp : ℕ) where
   move-is-tested : let tested : Check = checkCall (sound s) true (stampInRange (s .clock) stamp) in (moveCall s stamp .code ≡ codeOf tested) × (moveCall s stamp .place ≡ placeOf tested)
   move-is-tested = by (move-finds s stamp)

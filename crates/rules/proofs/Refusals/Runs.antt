@@ -70,7 +70,7 @@ module _ (file records answers : List ℕ) where
   a-good-file-is-played list read room = rw (read, room)
 
 -- its code and its place are those of what it reads
-run-is-read : (file records answers : List ℕ) → let found : Check = verdict (readCall file records answers) in (runCall file records answers .report .code ≡ codeOf found) × (runCall file records answers .report .place ≡ placeOf found)
+pub run-is-read : (file records answers : List ℕ) → let found : Check = verdict (readCall file records answers) in (runCall file records answers .report .code ≡ codeOf found) × (runCall file records answers .report .place ≡ placeOf found)
 unfolding runCall
 run-is-read file records answers = by (readCall file records answers)
   where
