@@ -36,7 +36,7 @@ GROUPS = [g.split() for g in (
 # In these, and among fields, a name is changed to the next one only: the groups are long.
 RINGS = [g.split() for g in (
     'NoPower NoBus Locked Forced',
-    'WrongLength WrongVersion WrongActuators WrongLayout BadParameter BadInput BadStamp ShortBuffer UnsoundState',
+    'WrongLength WrongVersion WrongActuators WrongLayout BadParameter BadInput BadStamp ShortBuffer UnsoundState BadAction WrongGroups',
     '.ondelay .offdelay .timedon .prewarning', '.locking .unlocking .busfailure .busreturn .powerreturn',
     '.night .lock .atlocking .atfailure', '.power .bus .lock .force', '.value .taught', '.stamp .value .attributes .cause',
     '.records .answers', '.code .place .count', '.met .left')]
