@@ -1,6 +1,6 @@
 -- The live calls, one law for each way out.
 use Prim.Native.Nat.{ℕ, _≤_, _<_}
-use mathlib.Core.Bool.{true, false}
+use mathlib.Core.Bool.{Bool, true, false, cond}
 use mathlib.Core.List.{List}
 use mathlib.Core.Path.{_≡_, refl, sym, ap, _∙_}
 use native.Mathlib.Omega.{arith}
@@ -9,26 +9,32 @@ use borrow.Author.Tests.{eq-eqb, ne-eqb, le-leb, lt-leb}
 use Rattle.base.specs.declared.refusal.Refusal.the-variants.{BadStamp, ShortBuffer, UnsoundState}
 use Rattle.base.specs.declared.refusal.Check.{Check}
 use Rattle.base.specs.declared.refusal.Check.the-variants.{Passed, Refused}
-use Rattle.base.specs.Refusals.{stampInRange, codeOf, placeOf}
+use Rattle.base.specs.Refusals.{number, stampInRange, codeOf, placeOf, orElse}
 use Rattle.base.proofs.Codes.{some-number}
 use Rattle.rules.specs.declared.state.State.{State}
 use Rattle.rules.specs.declared.call.Fresh.{Fresh}
 use Rattle.rules.specs.Parameters.{checkAlone}
 use Rattle.rules.specs.Steps.{clockMove}
 use Rattle.rules.specs.Calls.{freshBy, freshCall, moveDone}
-use Rattle.rules.specs.Runs.{recordsOctets, Whole, packing, packed}
+use Rattle.rules.specs.Lists.{Cue}
+use Rattle.rules.specs.Readings as readings
+use Rattle.rules.specs.Readings.{Reading, cues, verdict}
+use Rattle.rules.specs.Files.{readFile, lentEnough, readCall}
+use Rattle.rules.specs.Runs.{recordsOctets, Whole, refused, runBy, runCall, packing, packed}
 use Rattle.rules.specs.Changes.{changeCall}
 use Rattle.rules.specs.Images.{image, stateIn, isImage}
-use Rattle.rules.specs.Live.{refusedNumber, checkFresh, freshImaged, houseFresh, checkMove, moveImaged, moveBy, houseMove, imaged, changeImaged, houseChange}
+use Rattle.rules.specs.Live.{refusedNumber, checkFresh, freshImaged, houseFresh, checkMove, moveImaged, moveBy, houseMove, imaged, changeImaged, houseChange, checkRunTo, runImaged, houseRunTo}
 use Rattle.rules.proofs.Laws.Images.{image-length, read-scenes-are-eight, accepted-is-the-image, accepted-is-sound}
 use Rattle.rules.proofs.Laws.Records.{a-move-writes-at-most-two, used-places}
 use Rattle.rules.proofs.Refusals.Calls.{good-is-made}
+use Rattle.rules.proofs.Refusals.Readings.{verdict-if-lent}
+use Rattle.rules.proofs.Refusals.Runs.{run-is-read}
 use Rattle.octets.specs.Splice.{splice}
 use Rattle.buffers.proofs.Splices.{splice-front}
 use Rattle.timers.specs.declared.clock.Clocked.{Clocked}
 use Rattle.timers.specs.Ticks.{clocked}
 use Rattle.timers.proofs.Moves.{moved-state, moved-count, moved-records}
-use Rattle.desk.specs.Answers.{imagedBy, imagedMoveBy, imagedRunBy}
+use Rattle.desk.specs.Answers.{imagedBy, imagedMoveBy, imagedRunBy, shortBy, shortNumber}
 
 -- an accepted image has the octets of one
 pub image-is-long : (state : List ℕ) → isImage state ≡ true → length state ≡ 56
@@ -106,3 +112,35 @@ module _ (state : List ℕ) (stamp : ℕ) (r : List ℕ) where
       move-made room m g r₁ put =
           let s : State = stateIn state in
           rw (is, timely, le-leb 16 (length r) room, good-is-made s stamp (accepted-is-sound state is) timely, used-places 2 (clockMove s stamp .records) (a-move-writes-at-most-two s stamp), put, moved-records s stamp m g, moved-count s stamp m g, moved-state s stamp m g, splice-front r) refl
+
+-- ---- a run, with its end state as an image
+
+module _ (file state r a : List ℕ) where
+  pub run-to-short : (length state ≡ 56 → ⊥) → imagedRunBy (shortNumber file) state r a ≡ houseRunTo file state r a
+  unfolding houseRunTo checkRunTo shortNumber readCall runImaged
+  run-to-short other = rw (verdict-if-lent (lentEnough file r a) (readFile file), ne-eqb (length state) 56 other) (by (verdict (readFile file)) (lentEnough file r a))
+    where
+      by : (c : Check) (b : Bool) → imagedRunBy (shortBy c) state r a ≡ runImaged (orElse (orElse c (cond b Passed (Refused ShortBuffer 0))) (Refused ShortBuffer 0)) file state r a
+      by (Refused why place) b = refl
+      by Passed true = refl
+      by Passed false = refl
+
+  module _ (long : length state ≡ 56) (w : Whole) (ran : w ≡ runCall file r a) where
+    told : (x : Reading Cue) → readCall file r a ≡ x → w .report .code ≡ codeOf (verdict x)
+    told x e = rw (ran, ← e) (run-is-read file r a .0)
+
+    pub run-to-refused : (w .report .code ≡ 0 → ⊥) → imagedRunBy (packed (w .report)) state (w .records) (w .answers) ≡ houseRunTo file state r a
+    unfolding runCall runBy houseRunTo checkRunTo runImaged refused packed
+    run-to-refused bad = by (readCall file r a) refl
+      where
+        by : (x : Reading Cue) → readCall file r a ≡ x → imagedRunBy (packed (w .report)) state (w .records) (w .answers) ≡ houseRunTo file state r a
+        by (cues list) e = absurd (bad (told (cues list) e))
+        by (readings.bad why place) e = rw (ran, e) refl
+
+    pub run-to-done : w .report .code ≡ 0 → imagedRunBy (packed (w .report)) (image (w .report .state)) (w .records) (w .answers) ≡ houseRunTo file state r a
+    unfolding houseRunTo checkRunTo runImaged imaged
+    run-to-done good = by (readCall file r a) refl
+      where
+        by : (x : Reading Cue) → readCall file r a ≡ x → imagedRunBy (packed (w .report)) (image (w .report .state)) (w .records) (w .answers) ≡ houseRunTo file state r a
+        by (cues list) e = rw (e, eq-eqb (length state) 56 long, ran) refl
+        by (readings.bad why place) e = let code : w .report .code ≡ number why = told (readings.bad why place) e in absurd (omega (arith, some-number why, good, code))

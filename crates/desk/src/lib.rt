@@ -5,9 +5,11 @@ use base::refusal::Refusal;
 use base::refusal::number_of;
 use buffers::report::pack;
 
+pub mod c;
 pub mod change;
 pub mod clock;
 pub mod fresh;
+pub mod run;
 
 // A refusal whose place is 0, as a number.
 pub(crate) fn refused(why: Refusal) -> u64

@@ -1,30 +1,24 @@
 -- The whole run, one law for each way out.
 use Prim.Native.Nat.{ℕ}
-use mathlib.Core.Bool.{Bool, true, false, cond, _&&_}
+use mathlib.Core.Bool.{true, false, _&&_}
 use mathlib.Core.List.{List}
-use mathlib.Core.Path.{_≡_, refl, sym, ap, _∙_}
-use native.Mathlib.Omega.{arith}
-use borrow.Author.Tests.{eq-eqb, ne-eqb}
+use mathlib.Core.Path.{_≡_, sym, ap, _∙_}
 use native.Mathlib.Nat.{zero-add}
 use lib.ListN.{length}
 use lib.Dec.{leb}
 use Rattle.base.specs.declared.refusal.Refusal.{Refusal}
 use Rattle.base.specs.declared.refusal.Refusal.the-variants.{ShortBuffer}
-use Rattle.base.specs.declared.refusal.Check.{Check}
 use Rattle.base.specs.declared.refusal.Check.the-variants.{Passed, Refused}
-use Rattle.base.specs.Refusals.{number, codeOf, orElse}
-use Rattle.base.proofs.Codes.{some-number}
 use Rattle.rules.specs.declared.form.Form.{Form}
 use Rattle.rules.specs.Forms.{formIn}
 use Rattle.rules.specs.Layout.{recordsRoom}
 use Rattle.rules.specs.Lists.{Cue, Played}
-use Rattle.rules.specs.Readings as readings
 use Rattle.rules.specs.Readings.{Reading, cues, found, verdict}
-use Rattle.rules.specs.Files.{inputCount, endTime, inputsIn, readFile, lentEnough, readCall}
-use Rattle.rules.specs.Runs.{Whole, whole, playFile, accepted, refusal, refused, runBy, runCall, packed}
-use Rattle.rules.proofs.Refusals.Readings.{verdict-if-lent, bad-read, good-read}
+use Rattle.rules.specs.Files.{inputCount, endTime, inputsIn, readFile, lentEnough}
+use Rattle.rules.specs.Runs.{whole, playFile, accepted, refusal, refused, runCall}
+use Rattle.rules.proofs.Refusals.Readings.{bad-read, good-read}
 use Rattle.rules.proofs.Refusals.Files.{good-file, good-start}
-use Rattle.rules.proofs.Refusals.Runs.{run-is-read, a-bad-file-is-refused, a-short-buffer-is-refused, a-good-file-is-played}
+use Rattle.rules.proofs.Refusals.Runs.{a-bad-file-is-refused, a-short-buffer-is-refused, a-good-file-is-played}
 use Rattle.sensor.specs.declared.state.Sensor.{Sensor}
 use Rattle.pairs.specs.Lists.{Listed}
 use Rattle.pairs.specs.Walls.{itemsRead}
@@ -33,10 +27,7 @@ use Rattle.pairs.proofs.Reading.{reads-plain, a-plain-list-is-the-actuators}
 use Rattle.runs.specs.declared.play.Ended.{Ended}
 use Rattle.player.specs.Playing.{Filled}
 use Rattle.runs.specs.Runs.{itemsIn, playIn, Fit}
-use Rattle.house.specs.Reports.{report, shortBy, shortNumber}
-use Rattle.rules.specs.Images.{image}
-use Rattle.rules.specs.Live.{imaged, checkRunTo, runImaged, houseRunTo}
-use Rattle.desk.specs.Answers.{imagedRunBy}
+use Rattle.house.specs.Reports.{report}
 use Rattle.buffers.proofs.Splices.{splice-front}
 
 -- what the check of a file has found
@@ -83,35 +74,3 @@ module _ (file r a : List ℕ) where
   run-accepted n same read room z e r₁ a₁ f =
       rw (f .state, f .count, f .records, f .answers, splice-front r, splice-front a, zero-add)
       (sym (a-good-file-is-played file r a (listIn file) read (rw (← same) room) ∙ ap (λ (p : Played). accepted p r a) (played-alone file read z)))
-
--- ---- with its end state as an image
-
-module _ (file state r a : List ℕ) where
-  pub run-to-short : (length state ≡ 56 → ⊥) → imagedRunBy (shortNumber file) state r a ≡ houseRunTo file state r a
-  unfolding houseRunTo checkRunTo shortNumber readCall runImaged
-  run-to-short other = rw (verdict-if-lent (lentEnough file r a) (readFile file), ne-eqb (length state) 56 other) (by (verdict (readFile file)) (lentEnough file r a))
-    where
-      by : (c : Check) (b : Bool) → imagedRunBy (shortBy c) state r a ≡ runImaged (orElse (orElse c (cond b Passed (Refused ShortBuffer 0))) (Refused ShortBuffer 0)) file state r a
-      by (Refused why place) b = refl
-      by Passed true = refl
-      by Passed false = refl
-
-  module _ (long : length state ≡ 56) (w : Whole) (ran : w ≡ runCall file r a) where
-    told : (x : Reading Cue) → readCall file r a ≡ x → w .report .code ≡ codeOf (verdict x)
-    told x e = rw (ran, ← e) (run-is-read file r a .0)
-
-    pub run-to-refused : (w .report .code ≡ 0 → ⊥) → imagedRunBy (packed (w .report)) state (w .records) (w .answers) ≡ houseRunTo file state r a
-    unfolding runCall runBy houseRunTo checkRunTo runImaged refused packed
-    run-to-refused bad = by (readCall file r a) refl
-      where
-        by : (x : Reading Cue) → readCall file r a ≡ x → imagedRunBy (packed (w .report)) state (w .records) (w .answers) ≡ houseRunTo file state r a
-        by (cues list) e = absurd (bad (told (cues list) e))
-        by (readings.bad why place) e = rw (ran, e) refl
-
-    pub run-to-done : w .report .code ≡ 0 → imagedRunBy (packed (w .report)) (image (w .report .state)) (w .records) (w .answers) ≡ houseRunTo file state r a
-    unfolding houseRunTo checkRunTo runImaged imaged
-    run-to-done good = by (readCall file r a) refl
-      where
-        by : (x : Reading Cue) → readCall file r a ≡ x → imagedRunBy (packed (w .report)) (image (w .report .state)) (w .records) (w .answers) ≡ houseRunTo file state r a
-        by (cues list) e = rw (e, eq-eqb (length state) 56 long, ran) refl
-        by (readings.bad why place) e = let code : w .report .code ≡ number why = told (readings.bad why place) e in absurd (omega (arith, some-number why, good, code))

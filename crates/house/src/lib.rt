@@ -1,4 +1,3 @@
-// The run over a cue file, for Rattle and for C: checked, then played into the two lent buffers; and all other calls from C.
+// The run over a cue file, for Rattle and for C: checked, then played into the two lent buffers.
 pub mod c;
-pub mod live;
 pub mod run;

@@ -1,8 +1,8 @@
 use mathlib.Core.Path.{sym, _∙_}
-use Rattle.house.specs.Reports.{shortNumber}
+use Rattle.desk.specs.Answers.{shortNumber}
 use borrow.Author.Needs.{needs}
-use Rattle.house.proofs.live.no_room.Statement.{statement}
-use Rattle.house.proofs.live.no_room.Tie as tie
+use Rattle.desk.proofs.run.no_room.Statement.{statement}
+use Rattle.desk.proofs.run.no_room.Tie as tie
 
 returns : tie.Need-returns
 unfolding shortNumber

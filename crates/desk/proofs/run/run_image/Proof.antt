@@ -1,8 +1,8 @@
 use Rattle.rules.specs.Runs.{packed}
-use Rattle.house.proofs.Runs.{run-to-short, run-to-refused, run-to-done}
+use Rattle.desk.proofs.Lives.{run-to-short, run-to-refused, run-to-done}
 use borrow.Author.Needs.{needs}
-use Rattle.house.proofs.live.run_image.Statement.{statement}
-use Rattle.house.proofs.live.run_image.Tie as tie
+use Rattle.desk.proofs.run.run_image.Statement.{statement}
+use Rattle.desk.proofs.run.run_image.Tie as tie
 
 returns : tie.Need-returns
 returns c = rw (c .no-room .ensures) (run-to-short _ _ _ _ (c .before .if1 .taken))

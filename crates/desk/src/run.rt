@@ -1,14 +1,13 @@
 // The run over a cue file, with its end state as an image, from which the house may be played on.
 ghost use mathlib.Core.Path.{_≡_};
 ghost use Rattle.rules.specs.Live.{houseRunTo};
-ghost use Rattle.desk.specs.Answers.{imagedRunBy};
-ghost use Rattle.house.specs.Reports.{shortNumber};
-use crate::run::run;
+ghost use Rattle.desk.specs.Answers.{imagedRunBy, shortNumber};
 use base::refusal::Check;
 use base::refusal::Refusal;
 use base::refusal::number_of;
 use buffers::report::pack;
 use cues::check::check_file;
+use house::run::run;
 use images::IMAGE_SIZE;
 use images::put::put_image;
 
