@@ -1,7 +1,7 @@
 #!/usr/bin/env bash
 # Instructions and time of the proved calls against the second model in Rust, over the kinds of show of shows.rs: of an input, and of
 # a whole call where a show has none. Needs valgrind and rustc. Both sides are compiled for this machine's own processor: the proved
-# calls from the very code that `rt staticlib house` and `rt staticlib walls` compile, at -O3.
+# calls from the very code that `rt staticlib` compiles of house, desk and walls, at -O3.
 set -eu
 cd "$(dirname "$0")/.."
 . tests/kit.sh
@@ -47,10 +47,12 @@ ratio() {
     awk "BEGIN { printf \"%.2f\", $1 / $2 }"
 }
 
-rt check house walls >"$out/check" 2>&1
+rt check house desk walls >"$out/check" 2>&1
 native_object house
+native_object desk
 native_object walls
-rustc --edition 2021 -C opt-level=3 -C codegen-units=1 bench/bench.rs -o "$out/bench" -C link-arg="$out/house.o" -C link-arg="$out/walls.o"
+rustc --edition 2021 -C opt-level=3 -C codegen-units=1 bench/bench.rs -o "$out/bench" -C link-arg="$out/house.o" -C link-arg="$out/desk.o" \
+    -C link-arg="$out/walls.o"
 "$out/bench" shows >"$out/shows"
 
 echo "| show | inputs | change | change nothing | stopped | records | of timers |"

@@ -5,20 +5,9 @@ ghost use Prim.Native.Nat.{_≤_};
 ghost use lib.Dec.{eqb};
 ghost use lib.ListN.{drop};
 ghost use Rattle.rules.specs.Scenes.{entryInRange, absent, scenesInRange};
-use base::logic::both;
 use base::logic::either;
 use base::logic::negated;
 use rules::parameters::Scene;
-
-fn entry_in_range(e: Scene) -> bool
-    ensures { λ r. ⌜ r ≡ entryInRange e ⌝ }
-{
-    if e.number == 255 {
-        negated(either(e.value, e.taught))
-    } else {
-        e.number <= 63
-    }
-}
 
 // No entry from a place on has this number.
 fn absent_from(k: [Scene; 8], from: usize, number: u8) -> bool
@@ -36,16 +25,19 @@ fn absent_from(k: [Scene; 8], from: usize, number: u8) -> bool
     true
 }
 
-// The entry at a place is in range, and its number does not come again.
+// The entry at a place is in range, and its number does not come again. An unused entry is done with at once: others may be unused too.
 fn entry_fits(k: [Scene; 8], e: Scene, next: usize) -> bool
     requires { ⌜ next ≤ 8 ⌝ }
     ensures { λ r. ⌜ r ≡ (entryInRange e && (eqb (e .number) 255 || absent (drop next k) (e .number))) ⌝ }
 {
-    let unused = e.number == 255;
-    both(
-        entry_in_range(e),
-        either(unused, absent_from(k, next, e.number)),
-    )
+    if e.number == 255 {
+        return negated(either(e.value, e.taught));
+    }
+    if e.number <= 63 {
+        absent_from(k, next, e.number)
+    } else {
+        false
+    }
 }
 
 pub fn scenes_in_range(k: [Scene; 8]) -> bool

@@ -1,6 +1,7 @@
 // Whether a state that a caller hands in is sound: one test for each rule.
 ghost use mathlib.Core.Path.{_≡_};
-ghost use Prim.Native.Nat.{_≤_};
+ghost use Prim.Native.Nat.{_≤_, _%_};
+ghost use lib.Dec.{eqb};
 ghost use Rattle.rules.specs.Forms.{unit};
 ghost use Rattle.rules.specs.Parameters.{timeInRange, timesInRange, modesInRange, paramsInRange};
 ghost use Rattle.rules.specs.Soundness.{soon, isDark, isLit, agrees, heldIsSteady, forceDecides, nightEnds, powerDownIsClear, consistent, sound};
@@ -33,13 +34,22 @@ fn unit_of(scale: Scale) -> u32
     }
 }
 
+// Whether a time is so many of them: no time is cut short by a scale of tenths.
+fn is_whole(scale: Scale, t: u32) -> bool
+    ensures { λ r. ⌜ r ≡ eqb (t % unit scale) 0 ⌝ }
+{
+    match scale {
+        Scale::Seconds => t % 10 == 0,
+        Scale::Tenths => true,
+    }
+}
+
 // A time that this scale can write.
 fn time_in_range(scale: Scale, t: u32) -> bool
     ensures { λ r. ⌜ r ≡ timeInRange scale t ⌝ }
 {
     let short = t <= LONGEST_DELAY;
-    let whole = t % unit_of(scale) == 0;
-    both(short, whole)
+    both(short, is_whole(scale, t))
 }
 
 fn times_in_range(scale: Scale, p: Params) -> bool
