@@ -1,7 +1,7 @@
 -- The numbers of the table tell its rows apart; so the code and the place of a check are given exactly when its row holds.
 use Prim.Native.Nat.{ℕ, _≤_}
 use mathlib.Core.Bool.{Bool, true, false, cond}
-use mathlib.Core.Logic.{_↔_, _⊎_, inl, inr, ⊎-elim}
+use mathlib.Core.Logic.{_↔_, inl, inr, ⊎-elim}
 use mathlib.Core.Path.{_≡_, refl, sym, ap, _∙_}
 use native.Mathlib.Omega.{arith}
 use lib.Dec.{eqb, leb}
@@ -121,22 +121,15 @@ timely-exactly-when clock stamp = (
   λ t. simp (le-leb clock stamp (t .0), le-leb stamp 864_000 (t .1)),
 )
 
--- its check is its three tests, one after the other
-call-is-three-tests : (sound known timely : Bool) →
-    checkCall sound known timely ≡ orElse (cond sound Passed (Refused UnsoundState 0)) (orElse (cond known Passed (Refused BadInput 0)) (cond timely Passed (Refused BadStamp 0)))
-unfolding checkCall
-call-is-three-tests true true timely = refl
-call-is-three-tests true false timely = refl
-call-is-three-tests false known timely = refl
-
 module _ (Sound Known InTime : Type 0) (sound known timely : Bool) (s : (sound ≡ true) ↔ Sound) (k : (known ≡ true) ↔ Known) (t : (timely ≡ true) ↔ InTime) where
+  -- its check is its three tests, one after the other
   three-tests-decide : Decides (CallWhen Sound Known InTime) (Sound × (Known × InTime)) (checkCall sound known timely)
+  unfolding checkCall
   three-tests-decide =
       let first = one-test-decides Sound sound UnsoundState 0 s in
       let second = one-test-decides Known known BadInput 0 k in
       let third = one-test-decides InTime timely BadStamp 0 t in
-      let both-later = then-decides _ _ second third in
-      rw (call-is-three-tests sound known timely) (then-decides _ _ first both-later)
+      then-decides _ _ first (then-decides _ _ second third)
 
   pub call-codes : CallCodes Sound Known InTime (codeOf (checkCall sound known timely)) (placeOf (checkCall sound known timely))
   call-codes = codes-of-a-check (checkCall sound known timely) three-tests-decide

@@ -35,6 +35,15 @@ abbrev pub placeOf : Check → ℕ
 placeOf Passed = 0
 placeOf (Refused why place) = place
 
+-- one test, and its row where it fails
+abbrev pub ifNot : Bool → Refusal → Check
+ifNot test why = cond test Passed (Refused why 0)
+
+-- one check, then another
+abbrev pub orElse : Check → Check → Check
+orElse Passed later = later
+orElse (Refused why place) later = Refused why place
+
 -- "7 | stamp below .. (or the clock), above .. (single input or clock move: 864,000)"
 unfoldable pub stampInRange : ℕ → ℕ → Bool
 stampInRange clock stamp = leb clock stamp && leb stamp lastStamp
@@ -42,13 +51,7 @@ stampInRange clock stamp = leb clock stamp && leb stamp lastStamp
 -- "For a single input 9, 6, 7, place 0. A clock move: 9, 7.": of a call that is handed a state and one thing to do. It is sound, what is
 -- asked for means something (a clock move always does), and its stamp is in range.
 unfoldable pub checkCall : Bool → Bool → Bool → Check
-checkCall sound known timely =
-    cond sound (cond known (cond timely Passed (Refused BadStamp 0)) (Refused BadInput 0)) (Refused UnsoundState 0)
-
--- one check, then another
-abbrev pub orElse : Check → Check → Check
-orElse Passed later = later
-orElse (Refused why place) later = Refused why place
+checkCall sound known timely = orElse (ifNot sound UnsoundState) (orElse (ifNot known BadInput) (ifNot timely BadStamp))
 
 -- ---- "Given exactly when", of any call
 

@@ -1,27 +1,25 @@
 -- What the code finds before it plays decides how far the change goes, and what is played then is the change.
 use Prim.Native.Nat.{ℕ, _*_, _≤_, _<_}
-use mathlib.Core.Bool.{true, false, _&&_}
+use mathlib.Core.Bool.{true, false}
 use mathlib.Core.List.{List}
 use mathlib.Core.Path.{_≡_, refl, ap}
 use native.Mathlib.Nat.{zero-add}
 use native.Mathlib.Omega.{arith}
 use lib.ListN.{length}
-use lib.Dec.{leb}
 use Rattle.base.specs.declared.refusal.Refusal.{Refusal}
-use Rattle.base.specs.declared.refusal.Refusal.the-variants.{ShortBuffer, UnsoundState, WrongGroups}
-use Rattle.base.specs.declared.refusal.Check.the-variants.{Passed}
+use Rattle.base.specs.declared.refusal.Refusal.the-variants.{UnsoundState}
+use Rattle.base.specs.declared.refusal.Check.the-variants.{Passed, Refused}
 use Rattle.base.specs.Time.{lastStamp}
 use Rattle.rules.specs.declared.state.State.{State}
-use Rattle.rules.specs.Layout.{recordsRoom}
 use Rattle.rules.specs.Lists.{Cue, Played, plays}
 use Rattle.rules.specs.Readings.{Reading, cues, bad, found, verdict, readInputs}
 use Rattle.rules.specs.Files.{cueAt}
 use Rattle.rules.specs.Runs.{whole}
 use Rattle.rules.specs.Soundness.{sound}
-use Rattle.rules.specs.Changes.{groupCount, groupsIn, singles, groupsFit, checkChange, changed, changeBy, changeCall}
+use Rattle.rules.specs.Changes.{groupCount, groupsIn, singles, checkLent, checkChange, changed, handedBack, changeBy, changeCall}
 use Rattle.rules.proofs.Refusals.Readings.{inputs-decide}
-use Rattle.rules.proofs.Refusals.Runs.{narrow-input, room-exactly-when}
-use Rattle.rules.proofs.Refusals.Changes.{ends, changeRead, all-are-played, played-up-to, groups-exactly-when}
+use Rattle.rules.proofs.Refusals.Runs.{narrow-input}
+use Rattle.rules.proofs.Refusals.Changes.{ends, changeRead, all-are-played, played-up-to, looked-at-exactly-when}
 use Rattle.sensor.specs.Sensors.{ownSensor}
 use Rattle.pairs.specs.Pairs.{Pair, pairOf}
 use Rattle.pairs.specs.Lists.{pairPlays}
@@ -38,24 +36,23 @@ use Rattle.turns.proofs.Turning.{all-heard}
 use Rattle.player.specs.declared.items.Reached.{Reached}
 use Rattle.player.specs.Playing.{itemsFrom, Ready, ItemsPlayed}
 use Rattle.changes.specs.declared.play.Reach.{Reach}
-use Rattle.changes.specs.Reaches.{handedBack, reachOf, Playable}
+use Rattle.changes.specs.Reaches.{reachOf}
 
 -- ---- before any input is looked at
 
 module _ (s : State) (inputs r a : List ℕ) where
-  pub not-sound : sound s ≡ false → whole (handedBack s UnsoundState) r a ≡ changeCall s inputs r a
-  unfolding changeCall changeBy checkChange handedBack
+  pub not-sound : sound s ≡ false → whole (handedBack s UnsoundState 0) r a ≡ changeCall s inputs r a
+  unfolding changeCall changeBy checkChange
   not-sound e = rw e
 
   module _ (safe : sound s ≡ true) where
-    pub not-groups : groupsFit inputs ≡ false → whole (handedBack s WrongGroups) r a ≡ changeCall s inputs r a
-    unfolding changeCall changeBy checkChange handedBack
-    not-groups e = rw (safe, e)
+    pub lent-badly : (why : Refusal) (place : ℕ) → checkLent inputs r a ≡ Refused why place → whole (handedBack s why place) r a ≡ changeCall s inputs r a
+    unfolding changeCall changeBy checkChange
+    lent-badly why place e = rw (safe, e)
 
-    module _ (fit : groupsFit inputs ≡ true) (n : ℕ) (counted : n ≡ groupCount inputs) where
-      pub not-roomy : (leb (recordsRoom n) (length r) && leb n (length a)) ≡ false → whole (handedBack s ShortBuffer) r a ≡ changeCall s inputs r a
-      unfolding changeCall changeBy checkChange handedBack
-      not-roomy e = rw (safe, fit, rw counted at e)
+    pub lent-well : checkLent inputs r a ≡ Passed → checkChange s inputs r a ≡ Passed
+    unfolding checkChange
+    lent-well e = rw (safe, e)
 
 -- ---- how far it goes
 
@@ -84,7 +81,7 @@ found-before s inputs = checked-as-read (cueAt inputs) (knownAt false inputs) (k
 
 -- ---- what is played
 
-module _ (s : State) (inputs : List ℕ) (n : ℕ) (r a : List ℕ) (play : Playable s inputs n r a) (reach : Reach) (up : Upto s inputs reach) where
+module _ (s : State) (inputs r a : List ℕ) (passed : checkChange s inputs r a ≡ Passed) (reach : Reach) (up : Upto s inputs reach) where
   -- the items are the cues that were read
   items-read : readInputs (itemIn inputs) inputs (reach .count) 0 (s .clock) lastStamp ≡ cues (plainItems (up .list))
   unfolding changeRead
@@ -100,23 +97,19 @@ module _ (s : State) (inputs : List ℕ) (n : ℕ) (r a : List ℕ) (play : Play
   start-is-sound : pairSound start ≡ true
   start-is-sound =
       rw (all-heard r 0 ownSensor)
-      (sound-pair-exactly-when (pairOf s ownSensor) .1 (record { actuator = play .safe; sensor = unfold ownSensor in omega arith; behind = unfold ownSensor in omega arith }))
+      (sound-pair-exactly-when (pairOf s ownSensor) .1 (record { actuator = looked-at-exactly-when s inputs r a .0 passed .0; sensor = unfold ownSensor in omega arith; behind = unfold ownSensor in omega arith }))
 
   pub ready : Ready inputs (reach .count) start
   ready =
       record {
-        few = omega (arith, groups-exactly-when inputs .0 (play .fit) .few, up .few);
+        few = omega (arith, looked-at-exactly-when s inputs r a .0 passed .1 .0 .few, up .few);
         whole = omega (arith, up .few);
         reads = rw the-items items-read;
         sound = start-is-sound;
       }
 
   pub room-for-them : (8 * (3 * reach .count) ≤ length r) × (reach .count ≤ length a)
-  room-for-them = let room = room-exactly-when n r a .0 (play .room) in (omega (arith, room .wide, up .few, play .counted), omega (arith, room .long, up .few, play .counted))
-
-  passed : checkChange s inputs r a ≡ Passed
-  unfolding checkChange
-  passed = rw (play .safe, play .fit, rw (play .counted) at (play .room))
+  room-for-them = let room = looked-at-exactly-when s inputs r a .0 passed .1 .1 in (omega (arith, room .wide, up .few), omega (arith, room .long, up .few))
 
   -- and what playing leaves is the change
   pub change-played : (d : Reached) (r₁ a₁ : List ℕ) → ItemsPlayed inputs (reach .count) s ownSensor 0 r a d r₁ a₁ →

@@ -1,10 +1,9 @@
 // A change of a sound state.
-ghost use mathlib.Core.Bool.{true};
 ghost use mathlib.Core.Path.{_≡_};
-ghost use Rattle.rules.specs.Soundness.{sound};
 ghost use Rattle.rules.specs.Runs.{whole};
-ghost use Rattle.rules.specs.Changes.{groupsFit, changeCall};
-ghost use Rattle.changes.specs.Reaches.{handedBack, reachOf, Playable};
+ghost use Rattle.base.specs.declared.refusal.Check.the-variants.{Passed};
+ghost use Rattle.rules.specs.Changes.{groupsFit, checkLent, checkChange, changeCall};
+ghost use Rattle.changes.specs.Reaches.{reachOf};
 use base::logic::both;
 use base::moment::LAST_STAMP;
 use base::refusal::Check;
@@ -25,18 +24,6 @@ pub struct Reach {
     pub count: u32,
     pub code: u8,
     pub place: u16,
-}
-
-// 9, 12 and 8: the state comes back.
-pub fn refused(s: State, why: Refusal) -> Ran
-    ensures { λ r. ⌜ r ≡ handedBack s why ⌝ }
-{
-    Ran {
-        state: s,
-        code: number_of(why),
-        place: 0,
-        count: 0,
-    }
 }
 
 // None of its groups is cut short, and there are not too many.
@@ -66,11 +53,35 @@ fn reach_of(met: Check, n: u32) -> Reach
     }
 }
 
-// An input is refused by its octets and by the stamp before it alone, so that the first one that is can be found before any is played.
-fn play_inputs(s: State, inputs: &[u8], n: u32, records: &mut [u8], answers: &mut [u8]) -> Ran
-    requires { ⌜ Playable s (now inputs) n (now records) (now answers) ⌝ }
+// What is lent: 12, then 8.
+pub fn check_lent(inputs: &[u8], records: &[u8], answers: &[u8]) -> Check
+    ensures { λ r. ⌜ r ≡ checkLent (now (inputs .entry)) (now (records .entry)) (now (answers .entry)) ⌝ }
+{
+    if groups_fit(inputs) {
+        let n = (inputs.len() / INPUT_SIZE) as u32;
+        if is_roomy(n, records.len(), answers.len()) {
+            Check::Passed
+        } else {
+            Check::Refused {
+                why: Refusal::ShortBuffer,
+                place: 0,
+            }
+        }
+    } else {
+        Check::Refused {
+            why: Refusal::WrongGroups,
+            place: 0,
+        }
+    }
+}
+
+// As far as the inputs go, where neither 9 nor 12 nor 8 is given. An input is refused by its octets and by the stamp before it alone, so that the
+// first one that is can be found before any is played.
+pub fn play_inputs(s: State, inputs: &[u8], records: &mut [u8], answers: &mut [u8]) -> Ran
+    requires { ⌜ checkChange s (now inputs) (now records) (now answers) ≡ Passed ⌝ }
     ensures { λ r. ⌜ whole r (now (records .exit)) (now (answers .exit)) ≡ changeCall s (now (inputs .entry)) (now (records .entry)) (now (answers .entry)) ⌝ }
 {
+    let n = (inputs.len() / INPUT_SIZE) as u32;
     let met = check_inputs(inputs, n, s.clock, LAST_STAMP, false);
     let reach = reach_of(met, n);
     let played = play_items(inputs, reach.count, s, own_sensor(), 0, records, answers);
@@ -80,22 +91,5 @@ fn play_inputs(s: State, inputs: &[u8], n: u32, records: &mut [u8], answers: &mu
         code: reach.code,
         place: reach.place,
         count: played.count,
-    }
-}
-
-// 12, then 8, then as far as the inputs go.
-pub fn play_change(s: State, inputs: &[u8], records: &mut [u8], answers: &mut [u8]) -> Ran
-    requires { ⌜ sound s ≡ true ⌝ }
-    ensures { λ r. ⌜ whole r (now (records .exit)) (now (answers .exit)) ≡ changeCall s (now (inputs .entry)) (now (records .entry)) (now (answers .entry)) ⌝ }
-{
-    if groups_fit(inputs) {
-        let n = (inputs.len() / INPUT_SIZE) as u32;
-        if is_roomy(n, records.len(), answers.len()) {
-            play_inputs(s, inputs, n, records, answers)
-        } else {
-            refused(s, Refusal::ShortBuffer)
-        }
-    } else {
-        refused(s, Refusal::WrongGroups)
     }
 }

@@ -6,6 +6,7 @@ use mathlib.Core.Path.{_≡_, refl, sym, ap, _∙_}
 use native.Mathlib.Omega.{arith}
 use lib.ListN.{length, take}
 use borrow.Author.Tests.{eq-eqb, ne-eqb, le-leb, lt-leb}
+use Rattle.base.specs.declared.refusal.Refusal.{Refusal}
 use Rattle.base.specs.declared.refusal.Refusal.the-variants.{BadStamp, ShortBuffer, UnsoundState}
 use Rattle.base.specs.declared.refusal.Check.{Check}
 use Rattle.base.specs.declared.refusal.Check.the-variants.{Passed, Refused}
@@ -21,7 +22,7 @@ use Rattle.rules.specs.Readings as readings
 use Rattle.rules.specs.Readings.{Reading, cues, verdict}
 use Rattle.rules.specs.Files.{readFile, lentEnough, readCall}
 use Rattle.rules.specs.Runs.{recordsOctets, Whole, refused, runBy, runCall, packing, packed}
-use Rattle.rules.specs.Changes.{changeCall}
+use Rattle.rules.specs.Changes.{checkLent, checkChange, changeBy, changeCall}
 use Rattle.rules.specs.Images.{image, stateIn, isImage}
 use Rattle.rules.specs.Live.{refusedNumber, checkFresh, freshImaged, houseFresh, checkMove, moveImaged, moveBy, houseMove, imaged, changeImaged, houseChange, checkRunTo, runImaged, houseRunTo}
 use Rattle.rules.proofs.Laws.Images.{image-length, read-scenes-are-eight, accepted-is-the-image, accepted-is-sound}
@@ -83,6 +84,11 @@ module _ (state inputs r a : List ℕ) where
   pub change-done : isImage state ≡ true → (w : Whole) → w ≡ changeCall (stateIn state) inputs r a → imagedRunBy (packed (w .report)) (image (w .report .state)) (w .records) (w .answers) ≡ houseChange state inputs r a
   unfolding houseChange changeImaged imaged
   change-done h w e = rw (h, e) refl
+
+  -- 12 and 8: the image of the state that comes back is the one that was lent
+  pub change-lent-badly : isImage state ≡ true → (why : Refusal) (place : ℕ) → checkLent inputs r a ≡ Refused why place → imagedRunBy (refusedNumber why place) state r a ≡ houseChange state inputs r a
+  unfolding houseChange changeImaged imaged changeCall changeBy checkChange packed
+  change-lent-badly h why place e = rw (h, accepted-is-sound state h, e, accepted-is-the-image state h) refl
 
   pub change-no-image : isImage state ≡ false → imagedRunBy (refusedNumber UnsoundState 0) state r a ≡ houseChange state inputs r a
   unfolding houseChange changeImaged

@@ -25,7 +25,7 @@ fn move_state(s: State, state: &mut [u8], stamp: u32, records: &mut [u8]) -> u64
 {
     if stamp_in_range(s.clock, stamp) {
         if records.len() < MOVE_ROOM {
-            return refused(Refusal::ShortBuffer);
+            return refused(Refusal::ShortBuffer, 0);
         }
         let m = move_clock(s, stamp);
         let after = m.state;
@@ -34,7 +34,7 @@ fn move_state(s: State, state: &mut [u8], stamp: u32, records: &mut [u8]) -> u64
         put_image(state, after);
         pack(0, 0, written.count as u32)
     } else {
-        refused(Refusal::BadStamp)
+        refused(Refusal::BadStamp, 0)
     }
 }
 
@@ -43,12 +43,12 @@ pub fn move_image(state: &mut [u8], stamp: u32, records: &mut [u8]) -> u64
     ensures { λ r. ⌜ imagedMoveBy r (now (state .exit)) (now (records .exit)) ≡ houseMove (now (state .entry)) stamp (now (records .entry)) ⌝ }
 {
     if state.len() != IMAGE_SIZE {
-        return refused(Refusal::UnsoundState);
+        return refused(Refusal::UnsoundState, 0);
     }
     let s = state_in(state);
     if is_image_of(state, s) {
         move_state(s, state, stamp, records)
     } else {
-        refused(Refusal::UnsoundState)
+        refused(Refusal::UnsoundState, 0)
     }
 }

@@ -22,6 +22,6 @@ pub fn fresh_image(parameters: &[u8], state: &mut [u8]) -> u64
         put_image(state, s);
         pack(0, 0, 0)
     } else {
-        refused(Refusal::ShortBuffer)
+        refused(Refusal::ShortBuffer, 0)
     }
 }

@@ -11,9 +11,9 @@ pub mod clock;
 pub mod fresh;
 pub mod run;
 
-// A refusal whose place is 0, as a number.
-pub(crate) fn refused(why: Refusal) -> u64
-    ensures { λ r. ⌜ r ≡ refusedNumber why 0 ⌝ }
+// A refusal as a number: no record was written.
+pub(crate) fn refused(why: Refusal, place: u16) -> u64
+    ensures { λ r. ⌜ r ≡ refusedNumber why place ⌝ }
 {
-    pack(number_of(why), 0, 0)
+    pack(number_of(why), place, 0)
 }

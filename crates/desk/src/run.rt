@@ -2,9 +2,9 @@
 ghost use mathlib.Core.Path.{_≡_};
 ghost use Rattle.rules.specs.Live.{houseRunTo};
 ghost use Rattle.desk.specs.Answers.{imagedRunBy, shortNumber};
+use crate::refused;
 use base::refusal::Check;
 use base::refusal::Refusal;
-use base::refusal::number_of;
 use buffers::report::pack;
 use cues::check::check_file;
 use house::run::run;
@@ -17,8 +17,8 @@ fn no_room(file: &[u8]) -> u64
 {
     let checked = check_file(file);
     match checked {
-        Check::Refused { why, place } => pack(number_of(why), place, 0),
-        Check::Passed => pack(number_of(Refusal::ShortBuffer), 0, 0),
+        Check::Refused { why, place } => refused(why, place),
+        Check::Passed => refused(Refusal::ShortBuffer, 0),
     }
 }
 

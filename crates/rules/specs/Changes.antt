@@ -4,12 +4,14 @@ use mathlib.Core.Bool.{Bool, cond, _&&_}
 use mathlib.Core.List.{List, [], _∷_}
 use lib.ListN.{length, take, drop}
 use lib.Dec.{eqb, leb}
+use Rattle.base.specs.declared.refusal.Refusal.{Refusal}
 use Rattle.base.specs.declared.refusal.Refusal.the-variants.{ShortBuffer, UnsoundState, WrongGroups}
 use Rattle.base.specs.declared.refusal.Check.{Check}
 use Rattle.base.specs.declared.refusal.Check.the-variants.{Passed, Refused}
-use Rattle.base.specs.Refusals.{number}
+use Rattle.base.specs.Refusals.{number, ifNot, orElse}
 use Rattle.rules.specs.declared.state.State.{State}
 use Rattle.rules.specs.declared.call.Single.{Single}
+use Rattle.rules.specs.declared.call.Ran.{Ran}
 use Rattle.rules.specs.Layout.{inputSize}
 use Rattle.rules.specs.Lists.{Played, andThen, unplayed}
 use Rattle.rules.specs.Calls.{singleCall}
@@ -68,14 +70,13 @@ singles i (octets ∷ later) s = goesOn (singleCall s octets) i (singles (i + 1)
 unfoldable pub groupsFit : List ℕ → Bool
 groupsFit inputs = eqb (length inputs % inputSize) 0 && leb (groupCount inputs) mostGroups
 
+-- what is lent, whatever the state: 12, then 8
+unfoldable pub checkLent : List ℕ → List ℕ → List ℕ → Check
+checkLent inputs records answers =
+    orElse (ifNot (groupsFit inputs) WrongGroups) (ifNot (lentFor (groupCount inputs) records answers) ShortBuffer)
+
 unfoldable pub checkChange : State → List ℕ → List ℕ → List ℕ → Check
-checkChange s inputs records answers =
-    cond (sound s)
-    (cond (groupsFit inputs)
-    (cond (lentFor (groupCount inputs) records answers) Passed
-    (Refused ShortBuffer 0))
-    (Refused WrongGroups 0))
-    (Refused UnsoundState 0)
+checkChange s inputs records answers = orElse (ifNot (sound s) UnsoundState) (checkLent inputs records answers)
 
 -- ---- the whole: report and both buffers
 
@@ -88,11 +89,15 @@ changed c records answers =
       answers = over (c .played .answers) answers;
     }
 
+-- the report where nothing was played
+abbrev pub handedBack : State → Refusal → ℕ → Ran
+handedBack s why place = record { state = s; code = number why; place = place; count = 0 }
+
 -- 9, 12 and 8 write nothing and hand back the state
 unfoldable pub changeBy : Check → State → List ℕ → List ℕ → List ℕ → Whole
 changeBy Passed s inputs records answers = changed (singles 0 (groupsIn inputs) s) records answers
 changeBy (Refused why place) s inputs records answers =
-    record { report = record { state = s; code = number why; place = place; count = 0 }; records = records; answers = answers }
+    record { report = handedBack s why place; records = records; answers = answers }
 
 unfoldable pub changeCall : State → List ℕ → List ℕ → List ℕ → Whole
 changeCall s inputs records answers = changeBy (checkChange s inputs records answers) s inputs records answers

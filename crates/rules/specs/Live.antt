@@ -1,7 +1,6 @@
 -- The live calls from C: a state goes in and comes out as its image. "All answer the packed number .. and write nothing on refusal
 -- (`house_change`: nothing from the refused input on)."
 use Prim.Native.Nat.{ℕ}
-use mathlib.Core.Bool.{Bool, cond}
 use mathlib.Core.List.{List}
 use lib.ListN.{length, take}
 use lib.Dec.{eqb, leb}
@@ -9,7 +8,7 @@ use Rattle.base.specs.declared.refusal.Refusal.{Refusal}
 use Rattle.base.specs.declared.refusal.Refusal.the-variants.{BadStamp, ShortBuffer, UnsoundState}
 use Rattle.base.specs.declared.refusal.Check.{Check}
 use Rattle.base.specs.declared.refusal.Check.the-variants.{Passed, Refused}
-use Rattle.base.specs.Refusals.{number, orElse, stampInRange}
+use Rattle.base.specs.Refusals.{number, ifNot, orElse, stampInRange}
 use Rattle.rules.specs.declared.call.Move.{Move}
 use Rattle.rules.specs.Layout.{recordPlace}
 use Rattle.rules.specs.Parameters.{checkAlone}
@@ -23,10 +22,6 @@ use Rattle.rules.specs.Images.{imageSize, image, stateIn, isImage}
 -- what a refusal answers
 abbrev pub refusedNumber : Refusal → ℕ → ℕ
 refusedNumber why place = packing (number why) place 0
-
--- one test, and its row where it fails
-abbrev ifNot : Bool → Refusal → Check
-ifNot test why = cond test Passed (Refused why 0)
 
 -- "9": "every other string of octets is refused with 9"
 abbrev pub checkImage : List ℕ → Check

@@ -16,7 +16,7 @@ use Rattle.base.specs.declared.refusal.Refusal.the-variants.{BadInput, BadStamp
 use Rattle.base.specs.declared.refusal.Check.{Check}
 use Rattle.base.specs.declared.refusal.Check.the-variants.{Passed, Refused}
 use Rattle.base.specs.Time.{lastStamp}
-use Rattle.base.specs.Refusals.{number, codeOf, placeOf, stampInRange, orElse}
+use Rattle.base.specs.Refusals.{number, codeOf, placeOf, stampInRange, ifNot, orElse, Decides, Only}
 use Rattle.base.proofs.Tests.{both}
 use Rattle.base.proofs.Codes.{some-number, codes-of-a-check, one-test-decides, then-decides}
 use Rattle.rules.specs.declared.input.Input.{Input}
@@ -34,7 +34,7 @@ use Rattle.rules.specs.Readings.{Reading, cues, bad, verdict, readOne, r
 use Rattle.rules.specs.Files.{stamped, cueAt, lentFor}
 use Rattle.rules.specs.Runs.{Whole}
 use Rattle.rules.specs.Soundness.{sound}
-use Rattle.rules.specs.Changes.{groups, groupCount, groupsIn, Singles, singlePlayed, thenOthers, stopped, goesOn, singles, groupsFit, checkChange, changed, changeBy, changeCall}
+use Rattle.rules.specs.Changes.{groups, groupCount, groupsIn, Singles, singlePlayed, thenOthers, stopped, goesOn, singles, groupsFit, checkLent, checkChange, changed, changeBy, changeCall}
 use Rattle.rules.specs.Refusals.{GoodGroups, RoomFor, ChangeCodes}
 use Rattle.rules.proofs.Laws.Inputs.{input-number}
 use Rattle.rules.proofs.Laws.Soundness.{step-is-sound, step-clock}
@@ -215,20 +215,6 @@ module _ (s : State) (inputs : List ℕ) (safe : sound s ≡ true) where
       let same : m ≡ place = omega (arith, at) in
       (list, rw same at read, said)
 
--- 9, 12 and 8, one test after the other
-pub checked-in-turn : (s : State) (inputs records answers : List ℕ) →
-    checkChange s inputs records answers
-    ≡ orElse (cond (sound s) Passed (Refused UnsoundState 0)) (orElse (cond (groupsFit inputs) Passed (Refused WrongGroups 0)) (cond (lentFor (groupCount inputs) records answers) Passed (Refused ShortBuffer 0)))
-unfolding checkChange
-checked-in-turn s inputs records answers = by (sound s) (groupsFit inputs)
-  where
-    by : (a b : Bool) →
-        cond a (cond b (cond (lentFor (groupCount inputs) records answers) Passed (Refused ShortBuffer 0)) (Refused WrongGroups 0)) (Refused UnsoundState 0)
-        ≡ orElse (cond a Passed (Refused UnsoundState 0)) (orElse (cond b Passed (Refused WrongGroups 0)) (cond (lentFor (groupCount inputs) records answers) Passed (Refused ShortBuffer 0)))
-    by false b = refl
-    by true false = refl
-    by true true = refl
-
 pub groups-exactly-when : (inputs : List ℕ) → (groupsFit inputs ≡ true) ↔ GoodGroups inputs
 unfolding groupsFit
 groups-exactly-when inputs = (
@@ -241,14 +227,22 @@ module _ (s : State) (inputs records answers : List ℕ) where
   abbrev met : Check
   met = orElse (checkChange s inputs records answers) (verdict (changeRead s inputs (groupCount inputs)))
 
-  -- where none of the three is given, no state but a sound one is played
-  pub a-checked-state-is-sound : checkChange s inputs records answers ≡ Passed → sound s ≡ true
-  unfolding checkChange
-  a-checked-state-is-sound h = by (sound s) _ h
-    where
-      by : (b : Bool) (c : Check) → cond b c (Refused UnsoundState 0) ≡ Passed → b ≡ true
-      by true c e = refl
-      by false c e = absurd (let z : _≡_ {A = ℕ} 0 1 = cc in omega arith)
+  abbrev n : ℕ
+  n = groupCount inputs
+
+  safe-decides : Decides (Only UnsoundState 0 (sound s ≡ true → ⊥)) (sound s ≡ true) (ifNot (sound s) UnsoundState)
+  safe-decides = one-test-decides (sound s ≡ true) (sound s) UnsoundState 0 (λ h. h, λ h. h)
+
+  groups-decide : Decides (Only WrongGroups 0 (GoodGroups inputs → ⊥)) (GoodGroups inputs) (ifNot (groupsFit inputs) WrongGroups)
+  groups-decide = one-test-decides (GoodGroups inputs) (groupsFit inputs) WrongGroups 0 (groups-exactly-when inputs)
+
+  room-decides : Decides (Only ShortBuffer 0 (RoomFor n records answers → ⊥)) (RoomFor n records answers) (ifNot (lentFor n records answers) ShortBuffer)
+  room-decides = one-test-decides (RoomFor n records answers) (lentFor n records answers) ShortBuffer 0 (room-exactly-when n records answers)
+
+  -- inputs are looked at exactly where none of the three is given
+  pub looked-at-exactly-when : (checkChange s inputs records answers ≡ Passed) ↔ ((sound s ≡ true) × (GoodGroups inputs × RoomFor n records answers))
+  unfolding checkChange checkLent
+  looked-at-exactly-when = then-decides _ _ safe-decides (then-decides _ _ groups-decide room-decides) .passed
 
   change-is-met : (changeCall s inputs records answers .report .code ≡ codeOf met) × (changeCall s inputs records answers .report .place ≡ placeOf met)
   unfolding changeCall changed
@@ -258,20 +252,16 @@ module _ (s : State) (inputs records answers : List ℕ) where
           let w : Whole = changeBy c s inputs records answers in
           (w .report .code ≡ codeOf (orElse c (verdict r))) × (w .report .place ≡ placeOf (orElse c (verdict r)))
       by (Refused why place) r h e = unfold changeBy in (refl, refl)
-      by Passed (cues list) h e = unfold changeBy changed in rw (all-are-played s inputs (a-checked-state-is-sound h) list e) (refl, refl)
-      by Passed (bad why place) h e = unfold changeBy changed in rw (played-up-to s inputs (a-checked-state-is-sound h) why place e .2) (refl, refl)
+      by Passed (cues list) h e = unfold changeBy changed in rw (all-are-played s inputs (looked-at-exactly-when .0 h .0) list e) (refl, refl)
+      by Passed (bad why place) h e = unfold changeBy changed in rw (played-up-to s inputs (looked-at-exactly-when .0 h .0) why place e .2) (refl, refl)
 
   -- "Given exactly when", of a change
   pub change-refused-exactly-when : ChangeCodes s inputs records answers (changeCall s inputs records answers .report .code) (changeCall s inputs records answers .report .place)
-  unfolding changeRead
+  unfolding changeRead checkChange checkLent
   change-refused-exactly-when =
       let e = change-is-met in
-      let n : ℕ = groupCount inputs in
-      let unsound = one-test-decides (sound s ≡ true) (sound s) UnsoundState 0 (λ h. h, λ h. h) in
-      let cut = one-test-decides (GoodGroups inputs) (groupsFit inputs) WrongGroups 0 (groups-exactly-when inputs) in
-      let short = one-test-decides (RoomFor n records answers) (lentFor n records answers) ShortBuffer 0 (room-exactly-when n records answers) in
       let each = inputs-decide (cueAt inputs) inputs n (s .clock) lastStamp in
-      rw (e .0, e .1) (codes-of-a-check met (rw (checked-in-turn s inputs records answers, in-turn _ _ _ _) (then-decides _ _ unsound (then-decides _ _ cut (then-decides _ _ short each)))))
+      rw (e .0, e .1) (codes-of-a-check met (rw (in-turn _ _ _ _) (then-decides _ _ safe-decides (then-decides _ _ groups-decide (then-decides _ _ room-decides each)))))
     where
       in-turn : (a b c d : Check) → orElse (orElse a (orElse b c)) d ≡ orElse a (orElse b (orElse c d))
       in-turn (Refused why place) b c d = refl

@@ -6,11 +6,11 @@ use Rattle.desk.proofs.run.no_room.Tie as tie
 
 returns : tie.Need-returns
 unfolding shortNumber
-returns c = rw (c .pack .ensures, c .before .number-of .ensures, sym (c .before .before .before .before .before .check-file .ensures) ∙ c .before .before .before .checked .given .1)
+returns c = rw (c .refused .ensures, sym (c .before .before .before .before .check-file .ensures) ∙ c .before .before .checked .given .1)
 
 returns-2 : tie.Need-returns-2
 unfolding shortNumber
-returns-2 c = rw (c .pack2 .ensures, c .before .number-of2 .ensures, sym (c .before .before .before .before .check-file .ensures) ∙ c .before .before .enum-told .given .1)
+returns-2 c = rw (c .refused2 .ensures, sym (c .before .before .before .check-file .ensures) ∙ c .before .enum-told .given .1)
 
 pub no-room-spec : {M : Type 1} → statement M
 no-room-spec =
@@ -19,9 +19,7 @@ no-room-spec =
     (λ c κs. search needs)
     (λ c. search needs)
     (λ c κs. search needs)
-    (λ c κs. search needs)
     (λ c. search needs)
-    (λ c κs. search needs)
     (λ c κs. search needs)
     returns
     returns-2)
