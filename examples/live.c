@@ -1,6 +1,6 @@
 /* A house that is played live, as by a cue editor: the operator drags sixty inputs into it, waits, and drags some more, one of
  * which is refused. What the operator sees is said in words.
- * x86-64: cc -I include examples/live.c target/staticlib/libhouse.a -o live && ./live */
+ * x86-64: cc -I include examples/live.c target/staticlib/libdesk.a -o live && ./live */
 #include <stdio.h>
 #include <stdlib.h>
 #include <string.h>
@@ -60,7 +60,7 @@ static void play(const uint8_t *inputs, unsigned n) {
         first += played;
         if (first < n) {
             say_time(input);
-            printf("input %u is refused: %s\n", first, bad ? "there is no such kind or value" : "its stamp is over, or past the last");
+            printf("input %u is refused: %s\n", first, bad ? "there is no such kind or value" : "its stamp is before the clock, or after the last one");
         }
     }
 }
@@ -68,10 +68,13 @@ static void play(const uint8_t *inputs, unsigned n) {
 int main(void) {
     /* seconds: OnDelay 1, OffDelay 2, TimedOn 10, Prewarning 3; all modes 0, no scenes */
     static const uint8_t parameters[32] = {0, 1, 0, 2, 0, 10, 0, 3, [16] = 255, 0, 255, 0, 255, 0, 255, 0, 255, 0, 255, 0, 255, 0, 255};
-    /* kinds and values: On, Off; a timed light; night, On, day; lock, Off, unlock; Off */
-    static const uint8_t orders[10][2] = {{1, 1}, {1, 0}, {2, 1}, {6, 1}, {1, 1}, {6, 0}, {5, 1}, {1, 0}, {5, 0}, {1, 0}};
+    /* On, Off; a timed light; night, On, day; lock, Off, unlock; Off */
+    static const uint8_t orders[10][2] = {{HOUSE_SWITCH, 1}, {HOUSE_SWITCH, 0},     {HOUSE_TIMED_LIGHT, 1}, {HOUSE_NIGHT_MODE, 1},
+                                          {HOUSE_SWITCH, 1}, {HOUSE_NIGHT_MODE, 0}, {HOUSE_LOCK, 1},        {HOUSE_SWITCH, 0},
+                                          {HOUSE_LOCK, 0},   {HOUSE_SWITCH, 0}};
     /* On; a value that no switch has; force On; a timed light */
-    static const uint8_t more[] = {0, 0, 3, 52, 1, 1, 0, 0, 0, 0, 3, 62, 1, 2, 0, 0, 0, 0, 3, 72, 4, 3, 0, 0, 0, 0, 3, 82, 2, 1, 0, 0};
+    static const uint8_t more[] = {0, 0, 3, 52, HOUSE_SWITCH, 1, 0, 0, 0, 0, 3, 62, HOUSE_SWITCH,      2, 0, 0,
+                                   0, 0, 3, 72, HOUSE_FORCE,  3, 0, 0, 0, 0, 3, 82, HOUSE_TIMED_LIGHT, 1, 0, 0};
     uint8_t drag[60 * 8] = {0};
     for (unsigned i = 0; i < 60; i++) {
         unsigned stamp = 8 * (i - i % 2); /* every second one at the stamp of the one before */

@@ -1,7 +1,7 @@
 //! The calls of the archive from Rust, linked in or by the bridge, and the comparison of what they give with what the second model
 //! says. Shared by compare.rs, compare_walls.rs and compare_live.rs.
 //!
-//! Built with `--cfg linked`, the real archives (libhouse.a, libwalls.a) are linked in and do nearly all the work, and a sample goes by the
+//! Built with `--cfg linked`, the real archives (libhouse.a, libdesk.a, libwalls.a) are linked in and do nearly all the work, and a sample goes by the
 //! bridge too; without it everything goes by the bridge.
 #![allow(dead_code)]
 

@@ -12,7 +12,9 @@ cd "$(dirname "$0")/.." || exit 2
 passed=0
 failed=0
 out=target/tests
-archives=(target/staticlib/libhouse.a target/staticlib/libwalls.a)
+libraries=(house desk walls)
+archives=("${libraries[@]/#/target/staticlib/lib}")
+archives=("${archives[@]/%/.a}")
 mkdir -p "$out"
 
 # counted NAME COMMAND..: a command whose last line is 'N passed, M failed'.
@@ -71,7 +73,7 @@ rust() {
 # compared NAME WORDS: tests/NAME.rs, which compares the archive with the second model.
 compared() {
     local name=$1 words=$2 linked=()
-    [ "$way" != linked ] || linked=(--cfg linked -L target/staticlib -l static=house -l static=walls)
+    [ "$way" != linked ] || linked=(--cfg linked -L target/staticlib "${libraries[@]/#/-lstatic=}")
     done_or_not "tests/$name.rs is built${linked[*]:+ and linked with the archive}" rust "$name" "${linked[@]}"
     counted "$words" "${run[@]}" "$out/$name" "${kit_run[@]}" "$out/bridge"
 }
@@ -110,9 +112,10 @@ example() {
     done
 }
 
-# make_archives: one for each run. Making one proves its crate once more.
+# make_archives: making one proves its crate once more.
 make_archives() {
-    rt staticlib house && rt staticlib walls
+    local name
+    for name in "${libraries[@]}"; do rt staticlib "$name" || return 1; done
 }
 
 # The archives are made beside what needs neither them nor rt.
@@ -129,7 +132,7 @@ else
     echo "FAILED: there is no Rust compiler"
 fi
 
-done_or_not "the archives for C are built (rt staticlib house, rt staticlib walls)" wait "$archive"
+done_or_not "the archives for C are built (rt staticlib ${libraries[*]})" wait "$archive"
 tail -n 1 "$out/staticlib"
 done_or_not "the bridge is built by the kit alone" build_bridge
 if command -v rustc >/dev/null; then
