@@ -352,6 +352,21 @@ def pair_orders():
                 pair_clock(LAST)
 
 
+def orders_in_phases():
+    """Each order to a pair in each phase, and what the timers make of it: what it gives to the actuator alone."""
+    for name, night in (('by day', 0), ('by night', 1)):
+        for text, phase in (('Dark', DARK), ('Lit', LIT), ('Starting, steady,', STARTING), ('Starting, timed,', STARTING_TIMED),
+                            ('Timed', TIMED), ('Warning', WARNING), ('Ending', ENDING)):
+            if night and phase == LIT:
+                continue
+            title('orders in %s %s' % (text, name))
+            deadline = 90 if phase >= STARTING else 0
+            for order in ORDERS:
+                pair(seconds(learning=1, scenes=SCENES, phase=phase, night=night, clock=20, deadline=deadline), sensor(ONE_OF_EACH, 20))
+                pair_octets(30, *order)
+                pair_clock(LAST)
+
+
 def pair_tenths():
     for stamp in (624, 625):
         pair_script('a press at %d of a prewarning of 2.5 seconds' % stamp, tenths(0, 13, 600, 25), TOGGLE, [(0, START), (stamp, PRESS_1)], LAST)
@@ -458,6 +473,7 @@ pair_actions()
 pair_phases()
 pair_held()
 pair_orders()
+orders_in_phases()
 pair_tenths()
 pair_refusals()
 handed_pairs()

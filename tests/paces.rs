@@ -112,7 +112,7 @@ fn sensor_octets(sensor: &Sensor) -> Vec<u8> {
     octets
 }
 
-/// "hexadecimal digits, a space before every eighth"
+/// "hexadecimal digits, in groups of eight"
 fn digits(octets: &[u8]) -> String {
     let mut text = String::new();
     for eight in octets.chunks(8) {

@@ -21,8 +21,8 @@
 //     J octets > code place answer count | record | record | record | octets sent | state | sensor
 //     M stamp > code place 0 count | record | record | state | sensor
 //
-// Octets are hexadecimal digits, a space before every eighth; the report behind > is decimal, 0 where a call gives no answer or count. A record
-// is its stamp in four octets, its value, its attributes, its cause.
+// Octets are hexadecimal digits, in groups of eight; the report behind > is decimal, 0 where a call gives no answer or count. A record is its
+// stamp in four octets, its value, its attributes, its cause.
 mod play;
 mod read;
 mod show;

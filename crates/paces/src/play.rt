@@ -33,7 +33,7 @@ fn fresh() -> [u8; 9] {
     sensor_octets(z)
 }
 
-fn edge(now: [u8; 9]) -> [u8; 9] {
+fn signal(now: [u8; 9]) -> [u8; 9] {
     let b = read::input();
     show::octets(&b);
     let r = sensor_input(sensor_in(now), b);
@@ -93,7 +93,7 @@ fn sensor_step(letter: u8, now: Pair) -> Pair {
     let after = if letter == b'N' {
         fresh()
     } else {
-        edge(sensor)
+        signal(sensor)
     };
     show::sensor(after);
     Pair {
@@ -110,7 +110,7 @@ fn pair_step(letter: u8, now: Pair) -> Pair {
     } else {
         clock(now)
     };
-    show::both(after);
+    show::pair(after);
     after
 }
 

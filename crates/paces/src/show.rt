@@ -7,7 +7,7 @@ fn wide(x: u8) -> u64 {
     x as u64
 }
 
-// Octets as hexadecimal digits, a space before every eighth.
+// Octets as hexadecimal digits, in groups of eight.
 pub(crate) fn octets(b: &[u8]) {
     let mut i = 0;
     while i < b.len() {
@@ -53,7 +53,7 @@ pub(crate) fn sensor(b: [u8; 9]) {
 }
 
 // The end of a line: a pair.
-pub(crate) fn both(p: Pair) {
+pub(crate) fn pair(p: Pair) {
     let state = p.state;
     let b = p.sensor;
     part(&state);

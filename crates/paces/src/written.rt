@@ -39,6 +39,7 @@ pub(crate) fn sensor_octets(z: Sensor) -> [u8; 9] {
     b
 }
 
+// The actions are those of a fresh sensor, which are its first four octets too.
 pub(crate) fn sensor_in(b: [u8; 9]) -> Sensor {
     let mut z = fresh_with(&b);
     z.clock = read32(&b, 4);
