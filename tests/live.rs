@@ -84,7 +84,7 @@ pub fn state_of(octets: &[u8]) -> Option<State> {
 }
 
 /// "(0, 1)"
-fn flag_of(octet: u8) -> Option<bool> {
+pub fn flag_of(octet: u8) -> Option<bool> {
     match octet {
         0 => Some(false),
         1 => Some(true),
@@ -101,7 +101,7 @@ fn force_number(force: Force) -> u8 {
     }
 }
 
-fn force_of(octet: u8) -> Option<Force> {
+pub fn force_of(octet: u8) -> Option<Force> {
     match octet {
         0 => Some(Force::None),
         2 => Some(Force::Off),
@@ -119,7 +119,7 @@ fn link_number(link: Link) -> u8 {
     }
 }
 
-fn link_of(octet: u8) -> Option<Link> {
+pub fn link_of(octet: u8) -> Option<Link> {
     match octet {
         0 => Some(Link::Up),
         1 => Some(Link::BusDown),
@@ -142,7 +142,7 @@ fn phase_numbers(phase: Phase) -> (u8, u32) {
     }
 }
 
-fn phase_of(octet: u8, deadline: u32) -> Option<Phase> {
+pub fn phase_of(octet: u8, deadline: u32) -> Option<Phase> {
     match (octet, deadline) {
         (0, 0) => Some(Phase::Dark),
         (1, 0) => Some(Phase::Lit),

@@ -243,7 +243,7 @@ pub fn inputs(layout: &Layout, play: &mut Play) {
     }
 }
 
-/// Stamps around the clock and around the last one, of a good input, of a bad one and of a clock move.
+/// Stamps around the clock and around the last one, of a good input, of a bad one and of a clock move; and an early one of every order.
 pub fn stamps(layout: &Layout, play: &mut Play) {
     for (phase, clock) in (0..PHASES).flat_map(|phase| [1000, LAST - 1, LAST].map(|clock| (phase, clock))) {
         let deadline = if phase >= STARTING { clock + 100 } else { 0 };
@@ -256,6 +256,9 @@ pub fn stamps(layout: &Layout, play: &mut Play) {
                 play(change_in_room(&state, &[input(clock, 5, 1), input(stamp, 1, value), input(clock, 1, 2)]));
             }
             play(clock_move(&state, stamp, MOVE_ROOM));
+        }
+        for (kind, value) in ORDERS {
+            play(change_in_room(&state, &[input(clock - 1, kind, value)]));
         }
     }
 }
@@ -359,12 +362,13 @@ pub fn first_refusals(layout: &Layout, play: &mut Play) {
 
 // ---- Images
 
-/// Every prefix of an image and every one that differs in one octet, handed to a change and to a clock move; and every combination of
-/// phase, night, lock, force and link with moments at the ends of their ranges.
+/// Every prefix of an image and every one that differs in one octet, handed to a change, to one whose input is bad too, and to a clock move;
+/// and every phase with moments, and every time, at the ends of their ranges.
 pub fn images(layout: &Layout, play: &mut Play) {
     let fields = timed(layout);
     for octets in damaged(&fields.octets()) {
         play(change_in_room(&octets, &[input(fields.clock, 1, 1)]));
+        play(change_in_room(&octets, &[input(fields.clock, 9, 1)]));
         play(clock_move(&octets, LAST, MOVE_ROOM));
     }
     for clock in [0, 1000, LAST, LAST + 1, u32::MAX - LONGEST - 1, u32::MAX] {
@@ -386,6 +390,7 @@ pub fn images(layout: &Layout, play: &mut Play) {
             for version in 0..4 {
                 let octets = Fields { version, ..fields.clone() }.octets();
                 play(change_in_room(&octets, &[input(0, 1, 1)]));
+                play(change_in_room(&octets, &[input(0, 9, 1)]));
                 play(change_in_room(&octets, &[input(0, 6, 1), input(0, 1, 1), input(1, 1, 0)]));
                 play(clock_move(&octets, LAST, MOVE_ROOM));
             }
@@ -399,10 +404,10 @@ fn deadlines(clock: u32) -> [u32; 8] {
     [0, clock.saturating_sub(1), clock, after(1), after(2), after(LONGEST), after(LONGEST + 1), u32::MAX]
 }
 
-/// Scene tables with two entries changed: numbers at the ends, repeated numbers, flags.
+/// Scene tables with two entries changed: numbers at the ends, repeated numbers, flags, and both wrong in one entry.
 pub fn scene_tables(layout: &Layout, play: &mut Play) {
     let fields = usual(layout);
-    let entries = [(1, 0), (2, 3), (63, 3), (64, 0), (254, 0), (255, 0), (255, 1), (255, 2), (9, 4), (9, 128)];
+    let entries = [(1, 0), (2, 3), (63, 3), (64, 0), (254, 0), (255, 0), (255, 1), (255, 2), (9, 4), (9, 128), (2, 4)];
     for place in 0..8 {
         for other in (0..8).filter(|other| *other != place) {
             for (one, two) in entries.iter().flat_map(|one| entries.map(|two| (*one, two))) {
@@ -410,7 +415,9 @@ pub fn scene_tables(layout: &Layout, play: &mut Play) {
                 rest[8 + 2 * place..10 + 2 * place].copy_from_slice(&[one.0, one.1]);
                 rest[8 + 2 * other..10 + 2 * other].copy_from_slice(&[two.0, two.1]);
                 play(fresh(parameters(layout, fields.times, &rest), OCTETS));
-                play(clock_move(&Fields { rest, ..fields.clone() }.octets(), 5, MOVE_ROOM));
+                let state = Fields { rest, ..fields.clone() }.octets();
+                play(clock_move(&state, 5, MOVE_ROOM));
+                play(change_in_room(&state, &[input(5, 9, 1)]));
             }
         }
     }
@@ -435,7 +442,8 @@ pub fn parameters_alone(layout: &Layout, play: &mut Play) {
 /// Times at the ends of their ranges, two at once, beside a good rest and a bad one; and all at their most.
 pub fn times_alone(layout: &Layout, play: &mut Play) {
     let fields = usual(layout);
-    let ends = [0, 1, 9, 10, 65_535, 65_536, LONGEST, LONGEST + 1, LONGEST + 10, 1 << 24, u32::MAX];
+    // 256 seconds have a last octet of 0
+    let ends = [0, 1, 9, 10, 2_560, 65_535, 65_536, LONGEST, LONGEST + 1, LONGEST + 10, 1 << 24, u32::MAX];
     for (which, beside) in [(0, 1), (0, 2), (0, 3), (1, 2), (1, 3), (2, 3)] {
         for (time, other) in ends.iter().flat_map(|time| ends.map(|other| (*time, other))) {
             let mut times = fields.times;

@@ -59,8 +59,8 @@ const DOCUMENT: [Script; 15] = [
     (WORKED, AS_BEFORE, &[(0, ON), (100, NIGHT)], &[799, 800]),
 ];
 
-/// The slips that were seen, ties, the longest delays, night and the standing force.
-const SLIPS: [Script; 15] = [
+/// The slips that were seen, ties, the longest delays, night and the standing force; and the state that a refusal gives.
+const SLIPS: [Script; 16] = [
     (WORKED, AS_BEFORE, &[(0, START)], &[LAST]),
     (WORKED, AS_BEFORE, &[(0, START), (LAST, ON)], &[LAST]),
     (WORKED, AS_BEFORE, &[(0, START), (LAST, LOCK)], &[LAST]),
@@ -86,6 +86,7 @@ const SLIPS: [Script; 15] = [
     ([20, 6000, 600, 100], NONE, &[(0, ON), (20, OFF), (100, NIGHT), (110, NIGHT), (120, DAY), (130, NIGHT)], &[LAST]),
     (WORKED, AS_BEFORE, &[(0, FORCE_ON), (10, LOCK), (20, UNLOCK), (30, FREE)], &[LAST]),
     (WORKED, AS_BEFORE, &[(0, NIGHT), (0, FORCE_ON), (10, LOCK), (20, UNLOCK), (30, FREE)], &[LAST]),
+    ([0, 0, 10, 0], NONE, &[(5, ON), (6, NIGHT)], &[LAST]),
 ];
 
 /// Times that no whole seconds give.

@@ -126,7 +126,7 @@ if command -v rustc >/dev/null; then
     done_or_not "the printout's comparison is built" rust prints
     counted "the printout against the second model" "${run[@]}" "$out/prints" "${kit_run[@]}" target/bin/cueprint
     counted "the printout of wall lists against the second model" "${run[@]}" "$out/prints" --wall ./preview --wall /dev/stdin
-    counted "the by-value calls against the second model, and that model's own tests" bash tests/paces.sh
+    counted "the by-value calls of sensor and pair against the second model, and that model's own tests" bash tests/paces.sh
 else
     failed=$((failed + 1))
     echo "FAILED: there is no Rust compiler"

@@ -28,7 +28,7 @@ pub enum Action {
 }
 
 /// The action that an octet of the sensor's parameters spells; none "above 3".
-fn action(octet: u8) -> Option<Action> {
+pub fn action(octet: u8) -> Option<Action> {
     match octet {
         0 => Some(Action::Nothing),
         1 => Some(Action::SendOff),

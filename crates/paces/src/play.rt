@@ -1,15 +1,18 @@
 // One step of the play: what it does, and what is printed of it.
-use crate::change;
 use crate::read;
 use crate::show;
-use rules::state::State;
-use sensor::state::Sensor;
-
-// What a step is done to.
-pub(crate) struct Pair {
-    pub state: State,
-    pub sensor: Sensor,
-}
+use crate::written::Pair;
+use crate::written::pair_of;
+use crate::written::sensor_in;
+use crate::written::sensor_octets;
+use images::read::state_in;
+use joined::pair::joined_input;
+use joined::pair::joined_move;
+use octets::read32;
+use pairs::call::Joint;
+use pairs::call::JointMove;
+use sensor::call::fresh_sensor;
+use sensor::call::sensor_input;
 
 fn title() {
     let n = read::octet();
@@ -19,127 +22,109 @@ fn title() {
     show::mark(b'\n');
 }
 
-pub(crate) fn fresh(n: u8) -> State {
+fn fresh() -> [u8; 9] {
+    let n = read::octet();
     let b = read::some(n);
     let size = io::count(n as isize, &b);
-    let r = live::fresh::fresh_state(&b[..size]);
-    show::fresh(n, r);
-    r.state
+    show::octets(&b[..size]);
+    let r = fresh_sensor(&b[..size]);
+    let z = r.sensor;
+    show::report(r.code, r.place, 0, 0);
+    sensor_octets(z)
 }
 
-fn single(now: State) -> State {
-    let b = read::few(8);
-    let r = live::single::single_input(now, b);
-    show::single(b, r);
-    r.state
+fn signal(now: [u8; 9]) -> [u8; 9] {
+    let b = read::input();
+    show::octets(&b);
+    let r = sensor_input(sensor_in(now), b);
+    let z = r.sensor;
+    let told = r.sent;
+    show::report(r.code, r.place, 0, 0);
+    show::sent(told);
+    sensor_octets(z)
 }
 
-fn clock(now: State) -> State {
-    let b = read::few(4);
-    let stamp = read::number(b);
-    let r = live::clock::clock_move(now, stamp);
-    show::moved(stamp, r);
-    r.state
+fn show_joint(r: Joint) {
+    let k = r.records;
+    let told = r.sent;
+    show::report(r.code, r.place, r.answer, r.count);
+    show::record(k[0]);
+    show::record(k[1]);
+    show::record(k[2]);
+    show::sent(told);
 }
 
-fn change(now: State) -> State {
-    let field = read::octet();
-    let b = read::few(4);
-    let s = change::changed(now, field, read::number(b), b[2], b[3]);
-    show::changed(field, b, s);
-    s
+fn input(now: Pair) -> Pair {
+    let image = now.state;
+    let sensor = now.sensor;
+    let b = read::input();
+    show::octets(&b);
+    let r = joined_input(state_in(&image), sensor_in(sensor), b);
+    show_joint(r);
+    let s = r.state;
+    let z = r.sensor;
+    pair_of(s, z)
 }
 
-pub(crate) fn fresh_sensor(n: u8) -> Sensor {
-    let b = read::some(n);
-    let size = io::count(n as isize, &b);
-    let r = sensor::call::fresh_sensor(&b[..size]);
-    show::fresh_sensor(n, r);
-    r.sensor
+fn show_move(r: JointMove) {
+    let k = r.records;
+    show::report(r.code, r.place, 0, r.count);
+    show::record(k[0]);
+    show::record(k[1]);
 }
 
-fn edge(z: Sensor) -> Sensor {
-    let b = read::few(8);
-    let r = sensor::call::sensor_input(z, b);
-    show::sensed(b, r);
-    r.sensor
+fn clock(now: Pair) -> Pair {
+    let image = now.state;
+    let sensor = now.sensor;
+    let b = read::stamp();
+    show::octets(&b);
+    let r = joined_move(state_in(&image), sensor_in(sensor), read32(&b, 0));
+    show_move(r);
+    let s = r.state;
+    let z = r.sensor;
+    pair_of(s, z)
 }
 
-fn change_sensor(z: Sensor) -> Sensor {
-    let field = read::octet();
-    let b = read::few(4);
-    let y = change::sensor_changed(z, field, read::number(b), b[3]);
-    show::sensor_changed(field, b, y);
-    y
-}
-
-fn joined(s: State, z: Sensor) -> Pair {
-    let b = read::few(8);
-    let r = joined::pair::joined_input(s, z, b);
-    show::joined(b, r);
-    let state = r.state;
-    let sensor = r.sensor;
-    Pair { state, sensor }
-}
-
-fn joined_clock(s: State, z: Sensor) -> Pair {
-    let b = read::few(4);
-    let stamp = read::number(b);
-    let r = joined::pair::joined_move(s, z, stamp);
-    show::joined_move(stamp, r);
-    let state = r.state;
-    let sensor = r.sensor;
-    Pair { state, sensor }
-}
-
-// The state after a step to the actuator alone.
-fn actuator_step(letter: u8, now: State) -> State {
-    match letter {
-        b'F' => fresh(read::octet()),
-        b'S' => single(now),
-        b'C' => clock(now),
-        _ => change(now),
+// A step to the sensor alone.
+fn sensor_step(letter: u8, now: Pair) -> Pair {
+    let state = now.state;
+    let sensor = now.sensor;
+    show::mark(letter);
+    let after = if letter == b'N' {
+        fresh()
+    } else {
+        signal(sensor)
+    };
+    show::sensor(after);
+    Pair {
+        state,
+        sensor: after,
     }
 }
 
-// The sensor after a step to it alone.
-fn sensor_step(letter: u8, now: Sensor) -> Sensor {
-    match letter {
-        b'N' => fresh_sensor(read::octet()),
-        b'E' => edge(now),
-        _ => change_sensor(now),
-    }
+// A step to the pair.
+fn pair_step(letter: u8, now: Pair) -> Pair {
+    show::mark(letter);
+    let after = if letter == b'J' {
+        input(now)
+    } else {
+        clock(now)
+    };
+    show::pair(after);
+    after
 }
 
-// State and sensor after a step.
+// The pair after a step. (K leaves it as it is, and so does a letter that is no step.)
 pub(crate) fn step(letter: u8, now: Pair, kept: Pair) -> Pair {
-    let s = now.state;
-    let z = now.sensor;
     match letter {
         b'T' => {
             title();
             now
         }
-        b'F' | b'S' | b'C' | b'U' => Pair {
-            state: actuator_step(letter, s),
-            sensor: z,
-        },
-        b'N' | b'E' | b'V' => Pair {
-            state: s,
-            sensor: sensor_step(letter, z),
-        },
-        b'J' => joined(s, z),
-        b'M' => joined_clock(s, z),
+        b'P' => read::pair(),
+        b'N' | b'E' => sensor_step(letter, now),
+        b'J' | b'M' => pair_step(letter, now),
         b'B' => kept,
         _ => now,
-    }
-}
-
-pub(crate) fn is_step(letter: u8) -> bool {
-    match letter {
-        b'T' | b'F' | b'S' | b'C' | b'U' => true,
-        b'N' | b'E' | b'J' | b'M' | b'V' => true,
-        b'K' | b'B' => true,
-        _ => false,
     }
 }
