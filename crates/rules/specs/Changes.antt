@@ -16,7 +16,7 @@ use Rattle.rules.specs.Layout.{inputSize}
 use Rattle.rules.specs.Lists.{Played, andThen, unplayed}
 use Rattle.rules.specs.Calls.{singleCall}
 use Rattle.rules.specs.Files.{lentFor}
-use Rattle.rules.specs.Runs.{recordsOctets, over, Whole}
+use Rattle.rules.specs.Runs.{Whole, handedOut}
 use Rattle.rules.specs.Soundness.{sound}
 
 -- ---- "up to 256 input octet groups"
@@ -82,12 +82,7 @@ checkChange s inputs records answers = orElse (ifNot (sound s) UnsoundState) (ch
 
 -- "what went before stands in state and buffers .., the record count tells what stands"
 unfoldable pub changed : Singles → List ℕ → List ℕ → Whole
-changed c records answers =
-    record {
-      report = record { state = c .played .state; code = c .code; place = c .place; count = length (c .played .records) };
-      records = over (recordsOctets (c .played .records)) records;
-      answers = over (c .played .answers) answers;
-    }
+changed c records answers = handedOut (c .played) (c .code) (c .place) records answers
 
 -- the report where nothing was played
 abbrev pub handedBack : State → Refusal → ℕ → Ran

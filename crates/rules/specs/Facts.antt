@@ -169,7 +169,7 @@ pub record SoundState (s : State) : Type 0 where
   pub ends : s .night ≡ true → s .phase ≡ Lit → Held (s .lock) (s .force)
   pub clear : s .link ≡ PowerDown → (s .phase ≡ Dark) × (s .night ≡ false) × (s .lock ≡ false) × (s .force ≡ Free)
 
--- ---- the image of a state, octet by octet: "every octet with a meaning, numbers most significant octet first, no padding that may differ"
+-- ---- the image of a state, octet by octet: "every octet with a meaning .., numbers most significant octet first, no padding that may differ"
 
 -- an octet that is 1 where this holds, and 0 where it does not
 abbrev pub Tells : ℕ → Bool → Type 0

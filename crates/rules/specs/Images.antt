@@ -1,5 +1,5 @@
--- The image of a state, for an editor in C. What is quoted here and in Live.antt is what its people asked for, and stands in no document of KNX:
--- "An image of a state: a fixed number of octets .., every octet with a meaning .., numbers most significant octet first, no
+-- The image of a state, for an editor in C. What is quoted here and in Live.antt are the words in which the editor's people asked for it, with
+-- request 3; they stand in none of the documents. "An image of a state: a fixed number of octets .., every octet with a meaning .., numbers most significant octet first, no
 -- padding that may differ." proofs/Laws/Images.antt proves that an image is read back as its state, and which octets are an image.
 use Prim.Native.Nat.{ℕ}
 use mathlib.Core.Bool.{Bool, true, false, _&&_}

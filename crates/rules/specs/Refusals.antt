@@ -1,5 +1,5 @@
--- "Given exactly when" (01, "Refusal numbers"): the table as statements, of parameters, of files and of each public call. That the
--- calls keep to them is proved in proofs/Laws/Parameters.antt and proofs/Refusals/.
+-- "Given exactly when" (01, "Refusal numbers"): the table as statements, of parameters, of files and of each public call (of the live
+-- calls from C: demands/specs/Live.antt). That the calls keep to them is proved in proofs/Laws/Parameters.antt and proofs/Refusals/.
 use Prim.Native.Nat.{ℕ, zero, suc, _+_, _*_, _/_, _%_, _^_, _≤_, _<_}
 use mathlib.Core.Bool.{true, false}
 use mathlib.Core.List.{List}

@@ -39,13 +39,17 @@ whole r records answers = record { report = r; records = records; answers = answ
 unfoldable pub playFile : List ℕ → List Cue → Played
 playFile file list = playList (paramsIn file) (scenesIn file) list (endTime file)
 
-unfoldable pub accepted : Played → List ℕ → List ℕ → Whole
-accepted p records answers =
+-- what was played stands at the front of the buffers, and the count tells how many records do
+abbrev pub handedOut : Played → ℕ → ℕ → List ℕ → List ℕ → Whole
+handedOut p code place records answers =
     record {
-      report = record { state = p .state; code = 0; place = 0; count = length (p .records) };
+      report = record { state = p .state; code = code; place = place; count = length (p .records) };
       records = over (recordsOctets (p .records)) records;
       answers = over (p .answers) answers;
     }
+
+unfoldable pub accepted : Played → List ℕ → List ℕ → Whole
+accepted p records answers = handedOut p 0 0 records answers
 
 -- "Where no state was handed in, a refusal's state is the fresh one .."
 abbrev pub refusal : Refusal → ℕ → Ran
