@@ -2,8 +2,8 @@
 use Prim.Native.Nat.{ℕ, _/_, _%_, _^_, _≤_, _<_}
 use mathlib.Core.Bool.{Bool, true, false, cond}
 use mathlib.Core.List.{List}
-use mathlib.Core.Logic.{_↔_, inl, inr}
-use mathlib.Core.Path.{_≡_, refl, _∙_}
+use mathlib.Core.Logic.{_↔_, inl, inr, ⊎-elim}
+use mathlib.Core.Path.{_≡_, refl, sym, _∙_}
 use native.Mathlib.Omega.{arith}
 use lib.ListN.{length}
 use lib.Dec.{eqb, leb}
@@ -12,7 +12,8 @@ use Rattle.base.specs.declared.refusal.Refusal.{Refusal}
 use Rattle.base.specs.declared.refusal.Refusal.the-variants.{WrongLength, BadParameter, BadStamp, ShortBuffer, UnsoundState}
 use Rattle.base.specs.declared.refusal.Check.{Check}
 use Rattle.base.specs.declared.refusal.Check.the-variants.{Passed, Refused}
-use Rattle.base.specs.Refusals.{number, codeOf, placeOf, stampInRange, orElse, Only, Then, Decides, Timely}
+use Rattle.base.specs.Refusals.{number, codeOf, placeOf, stampInRange, orElse, Only, Then, Decides, Codes, Timely}
+use Rattle.base.proofs.Tests.{no}
 use Rattle.base.proofs.Codes.{codes-of-a-check, one-test-decides, then-decides, timely-exactly-when}
 use Rattle.rules.specs.Layout.{formAlone}
 use Rattle.rules.specs.Parameters.{checkAlone}
@@ -34,8 +35,9 @@ use Rattle.rules.proofs.Refusals.Calls.{good-is-made}
 use Rattle.rules.proofs.Refusals.Readings.{verdict-if-lent}
 use Rattle.rules.proofs.Refusals.Files.{file-decides, accepted-exactly-when}
 use Rattle.rules.proofs.Refusals.Runs.{apart, lent-enough-exactly-when, a-good-file-is-played, record-count-is-one-plus-changes, narrow-place}
+use Rattle.rules.proofs.Refusals.Changes.{change-refused-exactly-when}
 use Rattle.demands.proofs.Changes.{a-change-is-narrow, a-change-keeps}
-use Rattle.demands.specs.Live.{NumberCodes, HouseFreshCodes, HouseMoveCodes, HouseRunToCodes}
+use Rattle.demands.specs.Live.{NumberCodes, HouseFreshCodes, HouseMoveCodes, HouseRunToCodes, HouseChangeCodes}
 
 -- ---- numbers
 
@@ -180,6 +182,26 @@ module _ (file state records answers : List ℕ) where
 
 -- ---- house_change
 
+-- the first row holds: its code, whatever the others say
+first-row-holds : {Good Fine : Type 0} {Next : Refusal → ℕ → Type 0} (row : Refusal) → (Good → ⊥) → Codes (Then (Only row 0 (Good → ⊥)) Good Next) (Good × Fine) (number row) 0
+first-row-holds row not =
+    codes-of-a-check (Refused row 0)
+    (record {
+      refused = λ why p. (λ e. inl (sym cc, sym cc, not), λ g. ⊎-elim (λ f. rw (f .0, f .1) refl) (λ n. absurd (not (n .0))) g);
+      passed = (λ e. absurd (let z : _≡_ {A = ℕ} 0 1 = cc in omega arith), λ g. absurd (not (g .0)));
+    })
+
+-- the first row does not hold: it may say so in other words
+in-other-words : {Good Same Fine : Type 0} {Next : Refusal → ℕ → Type 0} {row : Refusal} {code place : ℕ} → Good → Same → Codes (Then (Only row 0 (Good → ⊥)) Good Next) (Good × Fine) code place → Codes (Then (Only row 0 (Same → ⊥)) Same Next) (Same × Fine) code place
+in-other-words good same c =
+    record {
+      refused = λ why p. (
+        λ e. ⊎-elim (λ f. absurd (f .2 good)) (λ n. inr (same, n .1)) (c .refused why p .0 e),
+        λ g. c .refused why p .1 (⊎-elim (λ f. absurd (f .2 same)) (λ n. inr (good, n .1)) g),
+      );
+      accepted = λ p. (λ e. let g = c .accepted p .0 e in (g .0, (same, g .1 .1)), λ g. c .accepted p .1 (g .0, (good, g .1 .1)));
+    }
+
 module _ (state inputs r a : List ℕ) where
   -- octets that are no image of a sound state are refused with 9, and nothing is written
   pub no-image-is-refused : isImage state ≡ false → houseChange state inputs r a ≡ untouched UnsoundState 0 state r a
@@ -205,3 +227,15 @@ module _ (state inputs r a : List ℕ) where
     what-comes-back-is-an-image =
         let kept = a-change-keeps (stateIn state) inputs r a (accepted-is-sound state is) in
         rw an-image-is-changed (image-is-accepted (changeCall (stateIn state) inputs r a .report .state) (kept .2 ∙ read-scenes-are-eight state) (kept .0))
+
+  -- 9 exactly when the octets are no image, then 12, 8, and 6 or 7 of the first input that they hold for
+  pub house-change-refused-exactly-when : HouseChangeCodes state inputs r a (houseChange state inputs r a .number)
+  house-change-refused-exactly-when = by (isImage state) refl
+    where
+      by : (b : Bool) → isImage state ≡ b → HouseChangeCodes state inputs r a (houseChange state inputs r a .number)
+      by true e =
+          let t = the-change-number-is-taken-apart e in
+          rw (t .code, t .place) (in-other-words (accepted-is-sound state e) e (change-refused-exactly-when (stateIn state) inputs r a))
+      by false e =
+          let t = taken 9 0 0 (omega arith) (omega arith) in
+          rw (no-image-is-refused e, t .0, t .1) (first-row-holds UnsoundState (λ is. no (sym e ∙ is)))

@@ -6,12 +6,12 @@ use mathlib.Core.List.{List}
 use mathlib.Core.Path.{_≡_}
 use lib.ListN.{length}
 use Rattle.base.specs.declared.refusal.Refusal.{Refusal}
-use Rattle.base.specs.declared.refusal.Refusal.the-variants.{BadStamp, ShortBuffer, UnsoundState}
+use Rattle.base.specs.declared.refusal.Refusal.the-variants.{BadStamp, ShortBuffer, UnsoundState, WrongGroups}
 use Rattle.base.specs.declared.refusal.Check.the-variants.{Refused}
 use Rattle.base.specs.Refusals.{Only, Then, Codes, Timely}
 use Rattle.rules.specs.Layout.{formAlone}
-use Rattle.rules.specs.Files.{inputCount}
-use Rattle.rules.specs.Refusals.{FoundWhen, GoodParameters, GivenWhen, GoodFile, RoomFor}
+use Rattle.rules.specs.Files.{inputCount, cueAt}
+use Rattle.rules.specs.Refusals.{FoundWhen, GoodParameters, GivenWhen, GoodFile, RoomFor, GoodGroups, InputsWhen, GoodInputs}
 use Rattle.rules.specs.Images.{stateIn, isImage}
 
 -- a number, taken apart
@@ -37,3 +37,17 @@ abbrev pub HouseRunToCodes : List ℕ → List ℕ → List ℕ → List ℕ →
 HouseRunToCodes file state records answers =
     let Room : Type 0 = RoomFor (inputCount file) records answers in
     NumberCodes (Then (Then (GivenWhen file) (GoodFile file) (Only ShortBuffer 0 (Room → ⊥))) (GoodFile file × Room) (Only ShortBuffer 0 (length state ≡ 56 → ⊥))) ((GoodFile file × Room) × (length state ≡ 56))
+
+-- house_change: the rows of a change, with 9 for octets that are no image: 9, 12, 8, then 6 or 7 as met, with the index of that input
+abbrev pub HouseChangeCodes : List ℕ → List ℕ → List ℕ → List ℕ → ℕ → Type 0
+HouseChangeCodes state inputs records answers =
+    let n : ℕ = length inputs / 8 in
+    let clock : ℕ = stateIn state .clock in
+    let Image : Type 0 = isImage state ≡ true in
+    let Room : Type 0 = RoomFor n records answers in
+    NumberCodes
+    (Then (Only UnsoundState 0 (Image → ⊥)) Image
+    (Then (Only WrongGroups 0 (GoodGroups inputs → ⊥)) (GoodGroups inputs)
+    (Then (Only ShortBuffer 0 (Room → ⊥)) Room
+    (InputsWhen (cueAt inputs) inputs n clock 864_000))))
+    (Image × (GoodGroups inputs × (Room × GoodInputs (cueAt inputs) inputs n clock 864_000)))
