@@ -1,11 +1,11 @@
 -- The live calls from C: refused exactly when the table says, and what they leave is an image again.
 use Prim.Native.Nat.{ℕ, _/_, _%_, _^_, _≤_, _<_}
 use mathlib.Core.Bool.{Bool, true, false, cond}
-use mathlib.Core.List.{List}
+use mathlib.Core.List.{List, [], _∷_}
 use mathlib.Core.Logic.{_↔_, inl, inr, ⊎-elim}
-use mathlib.Core.Path.{_≡_, refl, sym, _∙_}
+use mathlib.Core.Path.{_≡_, refl, sym, ap, _∙_}
 use native.Mathlib.Omega.{arith}
-use lib.ListN.{length}
+use lib.ListN.{length, take, length-take}
 use lib.Dec.{eqb, leb}
 use borrow.Author.Tests.{eqb-true, eq-eqb, leb-true, le-leb}
 use Rattle.base.specs.declared.refusal.Refusal.{Refusal}
@@ -14,43 +14,81 @@ use Rattle.base.specs.declared.refusal.Check.{Check}
 use Rattle.base.specs.declared.refusal.Check.the-variants.{Passed, Refused}
 use Rattle.base.specs.Refusals.{number, codeOf, placeOf, stampInRange, orElse, Only, Then, Decides, Codes, Timely}
 use Rattle.base.proofs.Tests.{no}
-use Rattle.base.proofs.Codes.{codes-of-a-check, one-test-decides, then-decides, timely-exactly-when}
+use Rattle.base.proofs.Codes.{some-number, codes-of-a-check, one-test-decides, then-decides, timely-exactly-when}
 use Rattle.rules.specs.Layout.{formAlone}
-use Rattle.rules.specs.Parameters.{checkAlone}
-use Rattle.rules.specs.Steps.{clockMove}
+use Rattle.rules.specs.Parameters.{scenesOf, checkAlone}
+use Rattle.rules.specs.declared.state.State.{State}
+use Rattle.rules.specs.declared.call.Move.{Move}
+use Rattle.rules.specs.declared.call.Ran.{Ran}
+use Rattle.rules.specs.Steps.{fresh, clockMove}
 use Rattle.rules.specs.Lists.{Cue}
 use Rattle.rules.specs.Soundness.{sound}
-use Rattle.rules.specs.Calls.{ownState, moveDone, moveCall}
-use Rattle.rules.specs.Files.{inputCount, readFile, lentEnough, readCall}
+use Rattle.rules.specs.Calls.{noScenes, ownState, freshBy, freshCall, moveDone, moveRefused, moveCall}
+use Rattle.rules.specs.Files.{inputCount, endTime, parametersIn, inputsIn, readFile, lentEnough, readCall}
 use Rattle.rules.specs.Refusals.{FoundWhen, GoodParameters, GivenWhen, GoodFile, RoomFor, TakenApart}
-use Rattle.rules.specs.Changes.{changeCall}
-use Rattle.rules.specs.Runs.{playFile, accepted, runCall, packing, packed}
+use Rattle.rules.specs.Readings.{cues, verdict}
+use Rattle.rules.specs.Changes.{groupsIn, singles, changeCall}
+use Rattle.rules.specs.Runs.{recordsOctets, accepted, runCall, packing, packed}
 use Rattle.rules.specs.Images.{image, stateIn, isImage}
 use Rattle.rules.specs.Live.{checkFresh, freshImaged, houseFresh, checkMove, moveImaged, moveBy, houseMove, imaged, checkRunTo, runImaged, houseRunTo, untouched, houseChange, changeImaged}
 use Rattle.rules.proofs.Laws.Parameters.{lowest-bad-octet}
 use Rattle.rules.proofs.Laws.Forms.{few-octets}
-use Rattle.rules.proofs.Laws.Images.{image-is-accepted, read-scenes-are-eight, accepted-is-sound}
+use Rattle.rules.proofs.Laws.Images.{image-length, image-is-accepted, read-scenes-are-eight, accepted-is-the-image, accepted-is-sound}
 use Rattle.rules.proofs.Laws.Records.{a-move-writes-at-most-two}
-use Rattle.rules.proofs.Refusals.Calls.{good-is-made}
+use Rattle.rules.proofs.Laws.Soundness.{move-keeps}
+use Rattle.rules.proofs.Refusals.Calls.{MoveFinds, move-finds, good-is-made, fresh-call-is-sound, move-call-keeps-sound}
 use Rattle.rules.proofs.Refusals.Readings.{verdict-if-lent}
 use Rattle.rules.proofs.Refusals.Files.{file-decides, accepted-exactly-when}
-use Rattle.rules.proofs.Refusals.Runs.{apart, lent-enough-exactly-when, a-good-file-is-played, record-count-is-one-plus-changes, narrow-place}
+use Rattle.rules.proofs.Refusals.Runs.{apart, run-is-read, records-length, lent-enough-exactly-when, a-good-file-is-played, record-count-is-one-plus-changes, narrow-place}
 use Rattle.rules.proofs.Refusals.Changes.{change-refused-exactly-when}
-use Rattle.demands.proofs.Changes.{a-change-is-narrow, a-change-keeps}
-use Rattle.demands.specs.Live.{NumberCodes, HouseFreshCodes, HouseMoveCodes, HouseRunToCodes, HouseChangeCodes}
+use Rattle.demands.proofs.Meets.{over-length, our-model-meets-every-demand}
+use Rattle.demands.proofs.Joined.{run-is-the-calls-joined}
+use Rattle.demands.proofs.Changes.{singles-keep, a-change-is-narrow, a-change-keeps}
+use Rattle.demands.specs.Joined.{calls, startOf, callsOf}
+use Rattle.demands.specs.Demands.{Among}
+use Rattle.demands.specs.Live.{codeIn, placeIn, countIn, FreshAnswered, MoveAnswered, RunToAnswered, NumberCodes, HouseFreshCodes, HouseMoveCodes, HouseRunToCodes, HouseChangeCodes}
 
 -- ---- numbers
 
--- code and place are found again in a number
-taken : (code place count : ℕ) → place < 65_536 → count < 4_294_967_296 → (packing code place count / 2 ^ 48 ≡ code) × (packing code place count / 2 ^ 32 % 2 ^ 16 ≡ place)
+-- code, place and count are found again in a number
+taken : (code place count : ℕ) → place < 65_536 → count < 4_294_967_296 → (codeIn (packing code place count) ≡ code) × (placeIn (packing code place count) ≡ place) × (countIn (packing code place count) ≡ count)
 taken code place count narrow few =
     let t = apart (record { state = ownState; code = code; place = place; count = count }) narrow few in
     let e : packed (record { state = ownState; code = code; place = place; count = count }) ≡ packing code place count = unfold packed in refl in
-    (rw e at (t .code), rw e at (t .place))
+    (rw e at (t .code), rw e at (t .place), rw e at (t .count))
+
+taken-0 : (code : ℕ) → (codeIn (packing code 0 0) ≡ code) × (countIn (packing code 0 0) ≡ 0)
+taken-0 code = let t = taken code 0 0 (omega arith) (omega arith) in (t .0, t .2)
 
 -- so a call whose number is that of a check is refused as the check decides
 by-its-check : {Given : Refusal → ℕ → Type 0} {Good : Type 0} (c : Check) (count n : ℕ) → Decides Given Good c → n ≡ packing (codeOf c) (placeOf c) count → placeOf c < 65_536 → count < 4_294_967_296 → NumberCodes Given Good n
 by-its-check c count n decides same narrow few = let t = taken (codeOf c) (placeOf c) count narrow few in rw (same, t .0, t .1) (codes-of-a-check c decides)
+
+-- and where its code is 0, its check has passed
+has-passed : {Given : Refusal → ℕ → Type 0} {Good : Type 0} {c : Check} (n : ℕ) → NumberCodes Given Good n → Decides Given Good c → codeIn n ≡ 0 → c ≡ Passed
+has-passed n codes decides good = decides .passed .1 (codes .accepted (placeIn n) .0 (good, refl) .1)
+
+-- octets that are an image are 56
+images-are-56 : (octets : List ℕ) → isImage octets ≡ true → length octets ≡ 56
+images-are-56 octets is = ap length (sym (accepted-is-the-image octets is)) ∙ image-length (stateIn octets) (read-scenes-are-eight octets)
+
+-- ---- scene tables have eight entries
+
+fresh-scenes-are-eight : (parameters : List ℕ) → length (freshCall parameters .state .scenes) ≡ 8
+unfolding freshCall
+fresh-scenes-are-eight parameters = by (checkAlone parameters)
+  where
+    by : (c : Check) → length (freshBy parameters c .state .scenes) ≡ 8
+    by Passed = unfold freshBy fresh scenesOf in refl
+    by (Refused why place) = unfold freshBy ownState fresh noScenes in refl
+
+move-keeps-scenes : (s : State) (stamp : ℕ) → length (moveCall s stamp .state .scenes) ≡ length (s .scenes)
+move-keeps-scenes s stamp = by (move-finds s stamp)
+  where
+    by : {m : Move} → MoveFinds s stamp m → length (m .state .scenes) ≡ length (s .scenes)
+    by (MoveFinds.not-sound h) = unfold moveRefused in refl
+    by (MoveFinds.untimely h t) = unfold moveRefused in refl
+    by (MoveFinds.moves h t) = unfold moveDone in ap (λ (u : State). length (u .scenes)) (move-keeps s stamp)
 
 -- ---- house_fresh
 
@@ -91,6 +129,36 @@ module _ (parameters state : List ℕ) where
   pub house-fresh-refused-exactly-when : HouseFreshCodes parameters state (houseFresh parameters state .number)
   house-fresh-refused-exactly-when = by-its-check (checkFresh parameters state) 0 (houseFresh parameters state .number) fresh-decides fresh-number fresh-narrow (omega arith)
 
+  fresh-as-checked : (c : Check) → checkFresh parameters state ≡ c → houseFresh parameters state ≡ freshImaged c parameters state
+  unfolding houseFresh
+  fresh-as-checked c e = rw e refl
+
+  pub every-fresh-state-is-answered : FreshAnswered state (houseFresh parameters state)
+  every-fresh-state-is-answered = by (checkFresh parameters state) refl
+    where
+      found : (why : Refusal) (p : ℕ) → FoundWhen (formAlone parameters) parameters (Refused why p) → Among (number why) (0 ∷ 1 ∷ 5 ∷ 8 ∷ [])
+      found WrongLength p g = inr (inl refl)
+      found BadParameter p g = inr (inr (inl refl))
+
+      row : (why : Refusal) (p : ℕ) → Then (λ why p. FoundWhen (formAlone parameters) parameters (Refused why p)) (GoodParameters (formAlone parameters) parameters) (Only ShortBuffer 0 (length state ≡ 56 → ⊥)) why p → Among (number why) (0 ∷ 1 ∷ 5 ∷ 8 ∷ [])
+      row why p (inl g) = found why p g
+      row why p (inr g) = rw (g .1 .0) (inr (inr (inr (inl refl))))
+
+      by : (c : Check) → checkFresh parameters state ≡ c → FreshAnswered state (houseFresh parameters state)
+      by Passed e =
+          rw (fresh-as-checked Passed e)
+          (unfold freshImaged in record { numbered = inl (taken-0 0 .0); counted = taken-0 0 .1; refused = λ f. absurd (f (taken-0 0 .0)); within = image-length (freshCall parameters .state) (fresh-scenes-are-eight parameters) ∙ sym (fresh-decides .passed .0 e .1) })
+      by (Refused why place) e =
+          let t = taken (number why) place 0 (rw e at fresh-narrow) (omega arith) in
+          rw (fresh-as-checked (Refused why place) e)
+          (unfold freshImaged in record { numbered = rw (t .0) (row why place (fresh-decides .refused why place .0 e)); counted = t .2; refused = λ f. refl; within = refl })
+
+  -- an accepted one leaves an image, to be played on from
+  pub a-fresh-state-is-an-image : codeIn (houseFresh parameters state .number) ≡ 0 → isImage (houseFresh parameters state .state) ≡ true
+  a-fresh-state-is-an-image good =
+      rw (fresh-as-checked Passed (has-passed (houseFresh parameters state .number) house-fresh-refused-exactly-when fresh-decides good))
+      (unfold freshImaged in image-is-accepted (freshCall parameters .state) (fresh-scenes-are-eight parameters) (fresh-call-is-sound parameters))
+
 -- ---- house_move
 
 module _ (state : List ℕ) (stamp : ℕ) (records : List ℕ) where
@@ -114,27 +182,77 @@ module _ (state : List ℕ) (stamp : ℕ) (records : List ℕ) where
       by true true false = refl
       by true true true = refl
 
-  -- the count of a move that is made, at most two
+  move-as-checked : (c : Check) → checkMove state stamp records ≡ c → houseMove state stamp records ≡ moveBy c state stamp records
+  unfolding houseMove
+  move-as-checked c e = rw e refl
+
+  -- a move that is made writes at most two records
+  made : checkMove state stamp records ≡ Passed → let m : Move = moveCall (stateIn state) stamp in (m .code ≡ 0) × (m .place ≡ 0) × (m .count ≤ 2)
+  unfolding moveDone
+  made e =
+      let good = move-decides .passed .0 e in
+      rw (good-is-made (stateIn state) stamp (accepted-is-sound state (good .0)) (timely-exactly-when (stateIn state .clock) stamp .1 (good .1 .0))) (refl, refl, a-move-writes-at-most-two (stateIn state) stamp)
+
   move-number : (n : ℕ) × (n ≤ 2) × (houseMove state stamp records .number ≡ packing (codeOf (checkMove state stamp records)) (placeOf (checkMove state stamp records)) n)
   move-number = by (checkMove state stamp records) refl
     where
       by : (c : Check) → checkMove state stamp records ≡ c → (n : ℕ) × (n ≤ 2) × (houseMove state stamp records .number ≡ packing (codeOf c) (placeOf c) n)
-      by (Refused why place) e = (0, omega arith, unfold houseMove moveBy in rw e refl)
-      by Passed e =
-          let g = rw e at move-decides in
-          let good = g .passed .0 refl in
-          let made = good-is-made (stateIn state) stamp (accepted-is-sound state (good .0)) (timely-exactly-when (stateIn state .clock) stamp .1 (good .1 .0)) in
-          (length (clockMove (stateIn state) stamp .records), a-move-writes-at-most-two (stateIn state) stamp, rw-number e made)
-        where
-          rw-number : checkMove state stamp records ≡ Passed → moveCall (stateIn state) stamp ≡ moveDone (clockMove (stateIn state) stamp) → houseMove state stamp records .number ≡ packing 0 0 (length (clockMove (stateIn state) stamp .records))
-          rw-number e made = unfold houseMove moveBy moveImaged moveDone in rw (e, made) refl
+      by (Refused why place) e = (0, omega arith, rw (move-as-checked (Refused why place) e) (unfold moveBy in refl))
+      by Passed e = let m = made e in (moveCall (stateIn state) stamp .count, m .2, rw (move-as-checked Passed e) (unfold moveBy moveImaged in rw (m .0, m .1) refl))
 
   pub house-move-refused-exactly-when : HouseMoveCodes state stamp records (houseMove state stamp records .number)
   house-move-refused-exactly-when =
       let n = move-number in
       by-its-check (checkMove state stamp records) (n .0) (houseMove state stamp records .number) move-decides (n .2) (omega (arith, move-place)) (omega (arith, n .1))
 
+  move-among : Among (codeOf (checkMove state stamp records)) (0 ∷ 9 ∷ 7 ∷ 8 ∷ [])
+  unfolding checkMove
+  move-among = by (isImage state) (stampInRange (stateIn state .clock) stamp) (leb 16 (length records))
+    where
+      by : (a b c : Bool) → Among (codeOf (orElse (cond a Passed (Refused UnsoundState 0)) (orElse (cond b Passed (Refused BadStamp 0)) (cond c Passed (Refused ShortBuffer 0))))) (0 ∷ 9 ∷ 7 ∷ 8 ∷ [])
+      by false b c = inr (inl refl)
+      by true false c = inr (inr (inl refl))
+      by true true false = inr (inr (inr (inl refl)))
+      by true true true = inl refl
+
+  pub every-clock-move-is-answered : MoveAnswered state stamp records (houseMove state stamp records)
+  unfolding moveBy moveImaged
+  every-clock-move-is-answered = by (checkMove state stamp records) refl
+    where
+      by : (c : Check) → checkMove state stamp records ≡ c → MoveAnswered state stamp records (houseMove state stamp records)
+      by (Refused why place) e =
+          let t = taken (number why) place 0 (omega (arith, rw e at move-place)) (omega arith) in
+          rw (move-as-checked (Refused why place) e)
+          (record { numbered = rw (t .0) (rw e at move-among); counted = λ z. absurd (omega (arith, z, t .0, some-number why)); refused = λ f. (t .2, refl, refl); within = (refl, refl) })
+      by Passed e =
+          let good = move-decides .passed .0 e in
+          let m : Move = moveCall (stateIn state) stamp in
+          let few = made e in
+          let t = taken (m .code) (m .place) (m .count) (omega (arith, few .1)) (omega (arith, few .2)) in
+          let code = t .0 ∙ few .0 in
+          let eight = move-keeps-scenes (stateIn state) stamp ∙ read-scenes-are-eight state in
+          let fits : length (recordsOctets (take (m .count) (m .records))) ≤ length records = omega (arith, records-length (take (m .count) (m .records)), length-take (m .count) (m .records), few .2, good .1 .1) in
+          rw (move-as-checked Passed e)
+          (record { numbered = inl code; counted = λ z. t .2; refused = λ f. absurd (f code); within = (image-length (m .state) eight ∙ sym (images-are-56 state (good .0)), over-length (recordsOctets (take (m .count) (m .records))) records fits) })
+
+  -- an accepted one leaves an image, to be played on from
+  pub a-moved-state-is-an-image : codeIn (houseMove state stamp records .number) ≡ 0 → isImage (houseMove state stamp records .state) ≡ true
+  a-moved-state-is-an-image code =
+      let passed = has-passed (houseMove state stamp records .number) house-move-refused-exactly-when move-decides code in
+      let safe = accepted-is-sound state (move-decides .passed .0 passed .0) in
+      rw (move-as-checked Passed passed)
+      (unfold moveBy moveImaged in image-is-accepted (moveCall (stateIn state) stamp .state) (move-keeps-scenes (stateIn state) stamp ∙ read-scenes-are-eight state) (move-call-keeps-sound (stateIn state) stamp safe))
+
 -- ---- house_run_to
+
+-- what the calls of a file lead to is sound, and its table has eight entries
+the-calls-keep : (file : List ℕ) → (sound (callsOf file .state) ≡ true) × (length (callsOf file .state .scenes) ≡ 8)
+unfolding callsOf calls startOf
+the-calls-keep file =
+    let s : State = freshCall (parametersIn file) .state in
+    let kept = singles-keep 0 (groupsIn (inputsIn file)) s (fresh-call-is-sound (parametersIn file)) in
+    let last : State = singles 0 (groupsIn (inputsIn file)) s .played .state in
+    (move-call-keeps-sound last (endTime file) (kept .0), move-keeps-scenes last (endTime file) ∙ kept .2 ∙ fresh-scenes-are-eight (parametersIn file))
 
 module _ (file state records answers : List ℕ) where
   abbrev Room : Type 0
@@ -159,26 +277,86 @@ module _ (file state records answers : List ℕ) where
           given (inl (inr g)) = omega (arith, g .1 .1)
           given (inr g) = omega (arith, g .1 .1)
 
-  -- the count of a run that is accepted is the run's
+  run-to-as-checked : (c : Check) → checkRunTo file state records answers ≡ c → houseRunTo file state records answers ≡ runImaged c file state records answers
+  unfolding houseRunTo
+  run-to-as-checked c e = rw e refl
+
+  abbrev run : Ran
+  run = runCall file records answers .report
+
+  -- a run that is accepted: code, place and count, and where it ends
+  module _ (passed : checkRunTo file state records answers ≡ Passed) where
+    read : (list : List Cue) × (readFile file ≡ cues list)
+    read = accepted-exactly-when file .1 (run-to-decides .passed .0 passed .0 .0)
+
+    room : lentEnough file records answers ≡ true
+    room = lent-enough-exactly-when file records answers .1 (run-to-decides .passed .0 passed .0 .1)
+
+    ran : (runCall file records answers .report .code ≡ 0) × (runCall file records answers .report .place ≡ 0) × (run .count < 4_294_967_296)
+    unfolding accepted
+    ran =
+        let few = record-count-is-one-plus-changes file records answers (read .0) (read .1) room .1 in
+        let played = a-good-file-is-played file records answers (read .0) (read .1) room in
+        (rw played refl, rw played refl, omega (arith, few, run-to-decides .passed .0 passed .0 .0 .start .header .layout .few))
+
+    ended : (sound (runCall file records answers .report .state) ≡ true) × (length (runCall file records answers .report .state .scenes) ≡ 8)
+    unfolding accepted
+    ended = rw (run-is-the-calls-joined file records answers (read .0) (read .1) room) (the-calls-keep file)
+
   run-to-number : (n : ℕ) × (n < 4_294_967_296) × (houseRunTo file state records answers .number ≡ packing (codeOf (checkRunTo file state records answers)) (placeOf (checkRunTo file state records answers)) n)
   run-to-number = by (checkRunTo file state records answers) refl
     where
       by : (c : Check) → checkRunTo file state records answers ≡ c → (n : ℕ) × (n < 4_294_967_296) × (houseRunTo file state records answers .number ≡ packing (codeOf c) (placeOf c) n)
-      by (Refused why place) e = (0, omega arith, unfold houseRunTo runImaged in rw e refl)
-      by Passed e =
-          let good = run-to-decides .passed .0 e in
-          let read = accepted-exactly-when file .1 (good .0 .0) in
-          let room = lent-enough-exactly-when file records answers .1 (good .0 .1) in
-          let few = record-count-is-one-plus-changes file records answers (read .0) (read .1) room .1 in
-          (runCall file records answers .report .count, omega (arith, few, good .0 .0 .start .header .layout .few), number-of-it (read .0) e (a-good-file-is-played file records answers (read .0) (read .1) room))
-        where
-          number-of-it : (list : List Cue) → checkRunTo file state records answers ≡ Passed → runCall file records answers ≡ accepted (playFile file list) records answers → houseRunTo file state records answers .number ≡ packing 0 0 (runCall file records answers .report .count)
-          number-of-it list e played = unfold houseRunTo runImaged imaged packed accepted in rw (e, played) refl
+      by (Refused why place) e = (0, omega arith, rw (run-to-as-checked (Refused why place) e) (unfold runImaged in refl))
+      by Passed e = let m = ran e in (run .count, m .2, rw (run-to-as-checked Passed e) (unfold runImaged imaged packed in rw (m .0, m .1) refl))
 
   pub house-run-to-refused-exactly-when : HouseRunToCodes file state records answers (houseRunTo file state records answers .number)
   house-run-to-refused-exactly-when =
       let n = run-to-number in
       by-its-check (checkRunTo file state records answers) (n .0) (houseRunTo file state records answers .number) run-to-decides (n .2) run-to-narrow (n .1)
+
+  -- the numbers of the run, and 8 for the lent state
+  run-to-table : codeOf (checkRunTo file state records answers) ≤ 8
+  unfolding checkRunTo
+  run-to-table = room-last (verdict (readCall file records answers)) (rw (run-is-read file records answers .0) at (our-model-meets-every-demand .answers-all file records answers)) (eqb (length state) 56)
+    where
+      room-last : (c : Check) → codeOf c ≤ 8 → (b : Bool) → codeOf (orElse c (cond b Passed (Refused ShortBuffer 0))) ≤ 8
+      room-last Passed few true = omega arith
+      room-last Passed few false = omega arith
+      room-last (Refused why place) few b = few
+
+  pub every-run-to-a-state-is-answered : RunToAnswered file state records answers (houseRunTo file state records answers)
+  unfolding runImaged imaged
+  every-run-to-a-state-is-answered = by (checkRunTo file state records answers) refl
+    where
+      by : (c : Check) → checkRunTo file state records answers ≡ c → RunToAnswered file state records answers (houseRunTo file state records answers)
+      by (Refused why place) e =
+          let t = taken (number why) place 0 (rw e at run-to-narrow) (omega arith) in
+          rw (run-to-as-checked (Refused why place) e)
+          (record {
+            numbered = rw (t .0) (rw e at run-to-table);
+            counted = λ z. absurd (omega (arith, z, t .0, some-number why));
+            refused = λ f. record { count = t .2; state = refl; records = refl; answers = refl };
+            within = record { state = refl; records = refl; answers = refl };
+          })
+      by Passed e =
+          let m = ran e in
+          let t = apart run (omega (arith, m .1)) (m .2) in
+          let code = t .code ∙ m .0 in
+          let within = our-model-meets-every-demand .stays-within file records answers in
+          rw (run-to-as-checked Passed e)
+          (record {
+            numbered = omega (arith, code);
+            counted = λ z. t .count;
+            refused = λ f. absurd (f code);
+            within = record { state = image-length (run .state) (ended e .1) ∙ sym (run-to-decides .passed .0 e .1); records = within .0; answers = within .1 };
+          })
+
+  -- "play a show to its end and go on live from there": an accepted one leaves an image
+  pub a-show-ends-in-an-image : codeIn (houseRunTo file state records answers .number) ≡ 0 → isImage (houseRunTo file state records answers .state) ≡ true
+  a-show-ends-in-an-image code =
+      let passed = has-passed (houseRunTo file state records answers .number) house-run-to-refused-exactly-when run-to-decides code in
+      rw (run-to-as-checked Passed passed) (unfold runImaged imaged in image-is-accepted (run .state) (ended passed .1) (ended passed .0))
 
 -- ---- house_change
 

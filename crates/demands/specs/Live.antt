@@ -1,22 +1,39 @@
--- "Given exactly when", of the live calls from C: proved in proofs/Live.antt. Code and place are found in the number by the shifts and masks of
+-- What is claimed of the live calls from C: proved in proofs/Live.antt. Code, place and count are found in the number by the shifts and masks of
 -- the header.
-use Prim.Native.Nat.{ℕ, _/_, _%_, _^_, _≤_}
-use mathlib.Core.Bool.{true}
-use mathlib.Core.List.{List}
+use Prim.Native.Nat.{ℕ, _+_, _/_, _%_, _^_, _≤_}
+use mathlib.Core.Bool.{true, cond}
+use mathlib.Core.List.{List, [], _∷_, _++_}
 use mathlib.Core.Path.{_≡_}
-use lib.ListN.{length}
+use lib.ListN.{length, take, drop}
+use lib.Dec.{eqb}
 use Rattle.base.specs.declared.refusal.Refusal.{Refusal}
 use Rattle.base.specs.declared.refusal.Refusal.the-variants.{BadStamp, ShortBuffer, UnsoundState, WrongGroups}
 use Rattle.base.specs.declared.refusal.Check.the-variants.{Refused}
 use Rattle.base.specs.Refusals.{Only, Then, Codes, Timely}
-use Rattle.rules.specs.Layout.{formAlone}
 use Rattle.rules.specs.Files.{inputCount, cueAt}
 use Rattle.rules.specs.Refusals.{FoundWhen, GoodParameters, GivenWhen, GoodFile, RoomFor, GoodGroups, InputsWhen, GoodInputs}
+use Rattle.rules.specs.Layout.{formAlone, inputPlace, recordPlace}
+use Rattle.rules.specs.Calls.{moveCall}
+use Rattle.rules.specs.Runs.{runCall, packing}
+use Rattle.rules.specs.Changes.{groupCount}
 use Rattle.rules.specs.Images.{stateIn, isImage}
+use Rattle.rules.specs.Live.{Imaged, ImagedMove, ImagedRun, houseChange}
+use Rattle.demands.specs.Demands.{Among}
 
 -- a number, taken apart
+abbrev pub codeIn : ℕ → ℕ
+codeIn number = number / 2 ^ 48
+
+abbrev pub placeIn : ℕ → ℕ
+placeIn number = number / 2 ^ 32 % 2 ^ 16
+
+abbrev pub countIn : ℕ → ℕ
+countIn number = number % 2 ^ 32
+
+-- ---- "Given exactly when"
+
 abbrev pub NumberCodes : (Refusal → ℕ → Type 0) → Type 0 → ℕ → Type 0
-NumberCodes Given Good number = Codes Given Good (number / 2 ^ 48) (number / 2 ^ 32 % 2 ^ 16)
+NumberCodes Given Good number = Codes Given Good (codeIn number) (placeIn number)
 
 -- house_fresh: "1, 5, then 8"
 abbrev pub HouseFreshCodes : List ℕ → List ℕ → ℕ → Type 0
@@ -51,3 +68,75 @@ HouseChangeCodes state inputs records answers =
     (Then (Only ShortBuffer 0 (Room → ⊥)) Room
     (InputsWhen (cueAt inputs) inputs n clock 864_000))))
     (Image × (GoodGroups inputs × (Room × GoodInputs (cueAt inputs) inputs n clock 864_000)))
+
+-- ---- demand 1: "gets a numbered answer, with no condition on the caller"; "A refused call writes nothing to the lent memory"; the count of an
+-- accepted one is that of its records; what is lent keeps its length, so that nothing is written past its end
+
+-- house_fresh: 1, 5, 8
+pub record FreshAnswered (lent : List ℕ) (w : Imaged) : Type 0 where
+  pub numbered : Among (codeIn (w .number)) (0 ∷ 1 ∷ 5 ∷ 8 ∷ [])
+  pub counted : countIn (w .number) ≡ 0
+  pub refused : (codeIn (w .number) ≡ 0 → ⊥) → w .state ≡ lent
+  pub within : length (w .state) ≡ length lent
+
+-- house_move: 9, 7, 8
+pub record MoveAnswered (lent : List ℕ) (stamp : ℕ) (r : List ℕ) (w : ImagedMove) : Type 0 where
+  pub numbered : Among (codeIn (w .number)) (0 ∷ 9 ∷ 7 ∷ 8 ∷ [])
+  pub counted : codeIn (w .number) ≡ 0 → countIn (w .number) ≡ moveCall (stateIn lent) stamp .count
+  pub refused : (codeIn (w .number) ≡ 0 → ⊥) → (countIn (w .number) ≡ 0) × (w .state ≡ lent) × (w .records ≡ r)
+  pub within : (length (w .state) ≡ length lent) × (length (w .records) ≡ length r)
+
+-- all that is lent is as it was, and no record is counted
+pub record AsLent (lent r a : List ℕ) (w : ImagedRun) : Type 0 where
+  pub count : countIn (w .number) ≡ 0
+  pub state : w .state ≡ lent
+  pub records : w .records ≡ r
+  pub answers : w .answers ≡ a
+
+pub record Within (lent r a : List ℕ) (w : ImagedRun) : Type 0 where
+  pub state : length (w .state) ≡ length lent
+  pub records : length (w .records) ≡ length r
+  pub answers : length (w .answers) ≡ length a
+
+-- house_run_to: 1 to 8
+pub record RunToAnswered (file lent r a : List ℕ) (w : ImagedRun) : Type 0 where
+  pub numbered : codeIn (w .number) ≤ 8
+  pub counted : codeIn (w .number) ≡ 0 → countIn (w .number) ≡ runCall file r a .report .count
+  pub refused : (codeIn (w .number) ≡ 0 → ⊥) → AsLent lent r a w
+  pub within : Within lent r a w
+
+-- "nothing from the refused input on": all but code and place is what the inputs before it give by themselves, and these are accepted
+pub record HouseRefusedFrom (lent inputs r a : List ℕ) (place : ℕ) (w : ImagedRun) : Type 0 where
+  pub accepted : codeIn (houseChange lent (take (inputPlace place) inputs) r a .number) ≡ 0
+  pub count : countIn (w .number) ≡ countIn (houseChange lent (take (inputPlace place) inputs) r a .number)
+  pub state : w .state ≡ houseChange lent (take (inputPlace place) inputs) r a .state
+  pub records : w .records ≡ houseChange lent (take (inputPlace place) inputs) r a .records
+  pub answers : w .answers ≡ houseChange lent (take (inputPlace place) inputs) r a .answers
+
+-- house_change: 9, 12 and 8 of the whole, 6 and 7 of an input
+pub record HouseChangeAnswered (lent inputs r a : List ℕ) (w : ImagedRun) : Type 0 where
+  pub numbered : Among (codeIn (w .number)) (0 ∷ 9 ∷ 12 ∷ 8 ∷ 6 ∷ 7 ∷ [])
+  pub refused : Among (codeIn (w .number)) (9 ∷ 12 ∷ 8 ∷ []) → AsLent lent r a w
+  pub stopped : Among (codeIn (w .number)) (6 ∷ 7 ∷ []) → HouseRefusedFrom lent inputs r a (placeIn (w .number)) w
+  pub within : Within lent r a w
+
+-- ---- a change from C, cut in two
+
+-- a second change after a first one of k inputs, if none of these was refused: the index of a refused input counts from the first input of all
+abbrev pub houseJoined : ℕ → ImagedRun → ImagedRun → ImagedRun
+houseJoined k a b =
+    cond (eqb (codeIn (a .number)) 0)
+    (record {
+      number = packing (codeIn (b .number)) (cond (eqb (codeIn (b .number)) 0) 0 (k + placeIn (b .number))) (countIn (a .number) + countIn (b .number));
+      state = b .state;
+      records = take (recordPlace (countIn (a .number))) (a .records) ++ b .records;
+      answers = take k (a .answers) ++ b .answers;
+    })
+    a
+
+-- one change, and then the other on the image that came back, into what the first one left of the buffers
+abbrev pub houseOneThenTheOther : List ℕ → List ℕ → List ℕ → List ℕ → List ℕ → ImagedRun
+houseOneThenTheOther state one other records answers =
+    let a : ImagedRun = houseChange state one records answers in
+    let k : ℕ = groupCount one in
+    houseJoined k a (houseChange (a .state) other (drop (recordPlace (countIn (a .number))) (a .records)) (drop k (a .answers)))
