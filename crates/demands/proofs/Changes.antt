@@ -44,7 +44,7 @@ use Rattle.rules.proofs.Refusals.Readings.{inputs-decide}
 use Rattle.rules.proofs.Refusals.Files.{first-cue}
 use Rattle.rules.proofs.Refusals.Runs.{records-length, records-append, room-exactly-when}
 use Rattle.rules.proofs.Refusals.Changes.{step-played, groups-exactly-when, ends, changeRead, all-are-played, played-up-to}
-use Rattle.demands.specs.Changes.{thenSingles, joinedAfter, recordsLeft, answersLeft, oneThenTheOther, RefusedFrom, ChangeAnswered, reach, CameTo}
+use Rattle.demands.specs.Changes.{thenSingles, joinedAfter, recordsLeft, answersLeft, oneThenTheOther, RefusedFrom, NothingPlayed, ChangeAnswered, reach, CameTo}
 use Rattle.demands.specs.Demands.{Among}
 use Rattle.demands.proofs.Meets.{over-length}
 
@@ -441,6 +441,21 @@ met-with : {A : Type 0} (at : ℕ → Option A) (inputs : List ℕ) (n from to :
 met-with at inputs n from to BadInput p g = inl refl
 met-with at inputs n from to BadStamp p g = inr (inl refl)
 
+-- the codes of a change as a whole and those of an input are apart
+under-8 : (code : ℕ) → Among code (0 ∷ 6 ∷ 7 ∷ []) → code < 8
+under-8 code (inl a) = omega arith
+under-8 code (inr (inl a)) = omega arith
+under-8 code (inr (inr (inl a))) = omega arith
+
+pub no-two-codes : (code : ℕ) → Among code (9 ∷ 12 ∷ 8 ∷ []) → Among code (0 ∷ 6 ∷ 7 ∷ []) → ⊥
+no-two-codes code (inl a) other = omega (arith, under-8 code other)
+no-two-codes code (inr (inl a)) other = omega (arith, under-8 code other)
+no-two-codes code (inr (inr (inl a))) other = omega (arith, under-8 code other)
+
+some-code : (code : ℕ) → Among code (6 ∷ 7 ∷ []) → code ≡ 0 → ⊥
+some-code code (inl a) e = omega arith
+some-code code (inr (inl a)) e = omega arith
+
 module _ (s : State) (inputs r a : List ℕ) where
   by-check : (P : Whole → Type 0) → (sound s ≡ true → GoodGroups inputs → RoomFor (groupCount inputs) r a → P (changed (singles 0 (groupsIn inputs) s) r a)) →
       ((why : Refusal) → Among (number why) (9 ∷ 12 ∷ 8 ∷ []) → P (record { report = record { state = s; code = number why; place = 0; count = 0 }; records = r; answers = a })) → P (changeCall s inputs r a)
@@ -478,6 +493,23 @@ module _ (s : State) (inputs r a : List ℕ) where
       played : {c : Singles} → Met c → ((c .code ≡ 0 → ⊥) → RefusedFrom s inputs r a (c .place)) → ChangeAnswered s inputs r a (changed c r a)
       played (all-played p clock) from = inl refl
       played (one-met p why place one clock) from = inr (inr (one, from (λ e. omega (arith, some-number why, e))))
+
+  -- each side of it, by the code
+  pub refused-as-a-whole : Among (changeCall s inputs r a .report .code) (9 ∷ 12 ∷ 8 ∷ []) → NothingPlayed s r a (changeCall s inputs r a)
+  refused-as-a-whole one = by every-change-is-answered
+    where
+      by : ChangeAnswered s inputs r a (changeCall s inputs r a) → NothingPlayed s r a (changeCall s inputs r a)
+      by (inl e) = absurd (no-two-codes (changeCall s inputs r a .report .code) one (inl e))
+      by (inr (inl whole)) = whole .1
+      by (inr (inr input)) = absurd (no-two-codes (changeCall s inputs r a .report .code) one (inr (input .0)))
+
+  pub refused-at-an-input : Among (changeCall s inputs r a .report .code) (6 ∷ 7 ∷ []) → RefusedFrom s inputs r a (changeCall s inputs r a .report .place)
+  refused-at-an-input one = by every-change-is-answered
+    where
+      by : ChangeAnswered s inputs r a (changeCall s inputs r a) → RefusedFrom s inputs r a (changeCall s inputs r a .report .place)
+      by (inl e) = absurd (some-code (changeCall s inputs r a .report .code) one e)
+      by (inr (inl whole)) = absurd (no-two-codes (changeCall s inputs r a .report .code) (whole .0) (inr one))
+      by (inr (inr input)) = input .1
 
   -- How far it came, accepted or refused: as many answers as it played inputs, no more than three records for each of them, and the clock of the last one.
   pub how-far-a-change-came : CameTo s inputs r a (changeCall s inputs r a) (reach inputs (changeCall s inputs r a))

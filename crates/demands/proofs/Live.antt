@@ -1,11 +1,11 @@
 -- The live calls from C: refused exactly when the table says, and what they leave is an image again.
-use Prim.Native.Nat.{ℕ, _/_, _%_, _^_, _≤_, _<_}
+use Prim.Native.Nat.{ℕ, _+_, _/_, _%_, _^_, _≤_, _<_}
 use mathlib.Core.Bool.{Bool, true, false, cond}
-use mathlib.Core.List.{List, [], _∷_}
+use mathlib.Core.List.{List, [], _∷_, _++_}
 use mathlib.Core.Logic.{_↔_, inl, inr, ⊎-elim}
 use mathlib.Core.Path.{_≡_, refl, sym, ap, _∙_}
 use native.Mathlib.Omega.{arith}
-use lib.ListN.{length, take, length-take}
+use lib.ListN.{length, take, drop, length-take}
 use lib.Dec.{eqb, leb}
 use borrow.Author.Tests.{eqb-true, eq-eqb, leb-true, le-leb}
 use Rattle.base.specs.declared.refusal.Refusal.{Refusal}
@@ -15,7 +15,7 @@ use Rattle.base.specs.declared.refusal.Check.the-variants.{Passed, Refused}
 use Rattle.base.specs.Refusals.{number, codeOf, placeOf, stampInRange, orElse, Only, Then, Decides, Codes, Timely}
 use Rattle.base.proofs.Tests.{no}
 use Rattle.base.proofs.Codes.{some-number, codes-of-a-check, one-test-decides, then-decides, timely-exactly-when}
-use Rattle.rules.specs.Layout.{formAlone}
+use Rattle.rules.specs.Layout.{formAlone, inputPlace, recordPlace}
 use Rattle.rules.specs.Parameters.{scenesOf, checkAlone}
 use Rattle.rules.specs.declared.state.State.{State}
 use Rattle.rules.specs.declared.call.Move.{Move}
@@ -25,15 +25,15 @@ use Rattle.rules.specs.Lists.{Cue}
 use Rattle.rules.specs.Soundness.{sound}
 use Rattle.rules.specs.Calls.{noScenes, ownState, freshBy, freshCall, moveDone, moveRefused, moveCall}
 use Rattle.rules.specs.Files.{inputCount, endTime, parametersIn, inputsIn, readFile, lentEnough, readCall}
-use Rattle.rules.specs.Refusals.{FoundWhen, GoodParameters, GivenWhen, GoodFile, RoomFor, TakenApart}
+use Rattle.rules.specs.Refusals.{FoundWhen, GoodParameters, GivenWhen, GoodFile, RoomFor, GoodGroups, TakenApart}
 use Rattle.rules.specs.Readings.{cues, verdict}
-use Rattle.rules.specs.Changes.{groupsIn, singles, changeCall}
-use Rattle.rules.specs.Runs.{recordsOctets, accepted, runCall, packing, packed}
+use Rattle.rules.specs.Changes.{groupCount, groupsIn, singles, changeCall}
+use Rattle.rules.specs.Runs.{Whole, recordsOctets, accepted, runCall, packing, packed}
 use Rattle.rules.specs.Images.{image, stateIn, isImage}
 use Rattle.rules.specs.Live.{checkFresh, freshImaged, houseFresh, checkMove, moveImaged, moveBy, houseMove, imaged, checkRunTo, runImaged, houseRunTo, untouched, houseChange, changeImaged}
 use Rattle.rules.proofs.Laws.Parameters.{lowest-bad-octet}
 use Rattle.rules.proofs.Laws.Forms.{few-octets}
-use Rattle.rules.proofs.Laws.Images.{image-length, image-is-accepted, read-scenes-are-eight, accepted-is-the-image, accepted-is-sound}
+use Rattle.rules.proofs.Laws.Images.{image-length, image-is-read-back, image-is-accepted, read-scenes-are-eight, accepted-is-the-image, accepted-is-sound}
 use Rattle.rules.proofs.Laws.Records.{a-move-writes-at-most-two}
 use Rattle.rules.proofs.Laws.Soundness.{move-keeps}
 use Rattle.rules.proofs.Refusals.Calls.{MoveFinds, move-finds, good-is-made, fresh-call-is-sound, move-call-keeps-sound}
@@ -43,10 +43,11 @@ use Rattle.rules.proofs.Refusals.Runs.{apart, run-is-read, records-length, lent
 use Rattle.rules.proofs.Refusals.Changes.{change-refused-exactly-when}
 use Rattle.demands.proofs.Meets.{over-length, our-model-meets-every-demand}
 use Rattle.demands.proofs.Joined.{run-is-the-calls-joined}
-use Rattle.demands.proofs.Changes.{singles-keep, a-change-is-narrow, a-change-keeps}
+use Rattle.demands.proofs.Changes.{singles-keep, cut-in-two, no-two-codes, every-change-is-answered, refused-as-a-whole, refused-at-an-input, a-change-stays-within, a-change-is-narrow, a-change-keeps}
+use Rattle.demands.specs.Changes.{joinedAfter, recordsLeft, answersLeft, ChangeAnswered}
 use Rattle.demands.specs.Joined.{calls, startOf, callsOf}
 use Rattle.demands.specs.Demands.{Among}
-use Rattle.demands.specs.Live.{codeIn, placeIn, countIn, FreshAnswered, MoveAnswered, RunToAnswered, NumberCodes, HouseFreshCodes, HouseMoveCodes, HouseRunToCodes, HouseChangeCodes}
+use Rattle.demands.specs.Live.{codeIn, placeIn, countIn, FreshAnswered, MoveAnswered, RunToAnswered, AsLent, Within, HouseRefusedFrom, HouseChangeAnswered, houseJoined, houseOneThenTheOther, NumberCodes, HouseFreshCodes, HouseMoveCodes, HouseRunToCodes, HouseChangeCodes}
 
 -- ---- numbers
 
@@ -417,3 +418,122 @@ module _ (state inputs r a : List ℕ) where
       by false e =
           let t = taken 9 0 0 (omega arith) (omega arith) in
           rw (no-image-is-refused e, t .0, t .1) (first-row-holds UnsoundState (λ is. no (sym e ∙ is)))
+
+-- of an image: the answer of the change
+module _ (state inputs r a : List ℕ) (is : isImage state ≡ true) where
+  abbrev w : Whole
+  w = changeCall (stateIn state) inputs r a
+
+  image-numbered : Among (w .report .code) (0 ∷ 9 ∷ 12 ∷ 8 ∷ 6 ∷ 7 ∷ [])
+  image-numbered = by (every-change-is-answered (stateIn state) inputs r a)
+    where
+      by : ChangeAnswered (stateIn state) inputs r a w → Among (w .report .code) (0 ∷ 9 ∷ 12 ∷ 8 ∷ 6 ∷ 7 ∷ [])
+      by (inl e) = inl e
+      by (inr (inl (inl e, n))) = inr (inl e)
+      by (inr (inl (inr (inl e), n))) = inr (inr (inl e))
+      by (inr (inl (inr (inr (inl e)), n))) = inr (inr (inr (inl e)))
+      by (inr (inr (inl e, n))) = inr (inr (inr (inr (inl e))))
+      by (inr (inr (inr (inl e), n))) = inr (inr (inr (inr (inr (inl e)))))
+
+  image-refused : Among (w .report .code) (9 ∷ 12 ∷ 8 ∷ []) → AsLent state r a (houseChange state inputs r a)
+  unfolding imaged
+  image-refused one =
+      let n = refused-as-a-whole (stateIn state) inputs r a one in
+      let c = an-image-is-changed state inputs r a is in
+      record {
+        count = the-change-number-is-taken-apart state inputs r a is .count ∙ n .count;
+        state = rw c (ap image (n .state) ∙ accepted-is-the-image state is);
+        records = rw c (n .records);
+        answers = rw c (n .answers);
+      }
+
+  image-stopped : Among (w .report .code) (6 ∷ 7 ∷ []) → HouseRefusedFrom state inputs r a (w .report .place) (houseChange state inputs r a)
+  unfolding imaged
+  image-stopped one =
+      let f = refused-at-an-input (stateIn state) inputs r a one in
+      let before : List ℕ = take (inputPlace (w .report .place)) inputs in
+      let c = an-image-is-changed state inputs r a is in
+      let d = an-image-is-changed state before r a is in
+      let t = the-change-number-is-taken-apart state before r a is in
+      record {
+        accepted = t .code ∙ f .accepted;
+        count = the-change-number-is-taken-apart state inputs r a is .count ∙ f .count ∙ sym (t .count);
+        state = rw (c, d) (ap image (f .state));
+        records = rw (c, d) (f .records);
+        answers = rw (c, d) (f .answers);
+      }
+
+  image-within : Within state r a (houseChange state inputs r a)
+  unfolding imaged
+  image-within =
+      let c = an-image-is-changed state inputs r a is in
+      let within = a-change-stays-within (stateIn state) inputs r a in
+      record { state = images-are-56 _ (what-comes-back-is-an-image state inputs r a is) ∙ sym (images-are-56 state is); records = rw c (within .0); answers = rw c (within .1) }
+
+-- Every change from C gets a numbered answer. With 9, 12 or 8 all that is lent is as it was; with 6 or 7 it is what the inputs before give.
+pub every-change-from-c-is-answered : (state inputs r a : List ℕ) → HouseChangeAnswered state inputs r a (houseChange state inputs r a)
+every-change-from-c-is-answered state inputs r a = by (isImage state) refl
+  where
+    by : (b : Bool) → isImage state ≡ b → HouseChangeAnswered state inputs r a (houseChange state inputs r a)
+    by false e =
+        let t = taken-0 9 in
+        rw (no-image-is-refused state inputs r a e)
+        (record {
+          numbered = inr (inl (t .0));
+          refused = λ one. record { count = t .1; state = refl; records = refl; answers = refl };
+          stopped = λ one. absurd (no-two-codes 9 (inl refl) (inr (rw (t .0) at one)));
+          within = record { state = refl; records = refl; answers = refl };
+        })
+    by true e =
+        let t = the-change-number-is-taken-apart state inputs r a e in
+        record {
+          numbered = rw (t .code) (image-numbered state inputs r a e);
+          refused = λ one. image-refused state inputs r a e (rw (t .code) at one);
+          stopped = λ one. rw (t .place) (image-stopped state inputs r a e (rw (t .code) at one));
+          within = image-within state inputs r a e;
+        }
+
+-- ---- a change from C, cut in two
+
+-- two changes one after the other, as images
+joined-images : (k : ℕ) (a b : Whole) → TakenApart (packed (a .report)) (a .report) → TakenApart (packed (b .report)) (b .report) → imaged (cond (eqb (a .report .code) 0) (joinedAfter k a b) a) ≡ houseJoined k (imaged a) (imaged b)
+unfolding imaged
+joined-images k a b s t = rw (s .code, s .count, t .code, t .place, t .count) (by (eqb (a .report .code) 0))
+  where
+    by : (c : Bool) → imaged (cond c (joinedAfter k a b) a) ≡
+        cond c
+        (record {
+          number = packing (b .report .code) (cond (eqb (b .report .code) 0) 0 (k + b .report .place)) (a .report .count + b .report .count);
+          state = image (b .report .state);
+          records = take (recordPlace (a .report .count)) (a .records) ++ b .records;
+          answers = take k (a .answers) ++ b .answers;
+        })
+        (imaged a)
+    by true = unfold packed in refl
+    by false = refl
+
+module _ (state x y r a : List ℕ) (is : isImage state ≡ true) (cut : length x % 8 ≡ 0) (good : GoodGroups (x ++ y)) (room : RoomFor (groupCount (x ++ y)) r a) where
+  abbrev one : Whole
+  one = changeCall (stateIn state) x r a
+
+  abbrev then : State
+  then = one .report .state
+
+  packed-apart : (s : State) (inputs r a : List ℕ) → TakenApart (packed (changeCall s inputs r a .report)) (changeCall s inputs r a .report)
+  packed-apart s inputs r a = let narrow = a-change-is-narrow s inputs r a in apart (changeCall s inputs r a .report) (narrow .0) (narrow .1)
+
+  other : houseChange (image then) y (drop (recordPlace (countIn (packed (one .report)))) (one .records)) (answersLeft (groupCount x) one) ≡ imaged (changeCall then y (recordsLeft one) (answersLeft (groupCount x) one))
+  other =
+      let kept = a-change-keeps (stateIn state) x r a (accepted-is-sound state is) in
+      let eight = kept .2 ∙ read-scenes-are-eight state in
+      rw (packed-apart (stateIn state) x r a .count)
+      (an-image-is-changed (image then) y (recordsLeft one) (answersLeft (groupCount x) one) (image-is-accepted then eight (kept .0)) ∙ rw (image-is-read-back then eight) refl)
+
+  -- A change from C cut in two anywhere is the two changes one after the other, the second on the image that came back: the same image, answers and records.
+  pub a-change-from-c-cut-in-two : houseChange state (x ++ y) r a ≡ houseOneThenTheOther state x y r a
+  unfolding imaged
+  a-change-from-c-cut-in-two =
+      an-image-is-changed state (x ++ y) r a is
+      ∙ ap imaged (cut-in-two (stateIn state) x y r a (accepted-is-sound state is) cut good room)
+      ∙ joined-images (groupCount x) one _ (packed-apart (stateIn state) x r a) (packed-apart then y (recordsLeft one) (answersLeft (groupCount x) one))
+      ∙ rw (an-image-is-changed state x r a is, other) refl
