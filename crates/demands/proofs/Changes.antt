@@ -38,15 +38,16 @@ use Rattle.rules.specs.Soundness.{sound}
 use Rattle.rules.specs.Runs.{recordsOctets, over, Whole}
 use Rattle.rules.specs.Refusals.{stampBefore, InputsWhen, GoodGroups, RoomFor}
 use Rattle.rules.specs.Changes.{groups, groupCount, groupsIn, Singles, singlePlayed, thenOthers, stopped, goesOn, singles, groupsFit, checkChange, changed, changeBy, changeCall}
+use Rattle.rules.proofs.Laws.Lists.{andThen-from}
 use Rattle.rules.proofs.Laws.Records.{an-input-writes-at-most-three}
 use Rattle.rules.proofs.Refusals.Calls.{SingleFinds, single-finds, single-refusal-changes-nothing, single-call-keeps-sound, single-call-keeps-version}
 use Rattle.rules.proofs.Refusals.Readings.{inputs-decide}
 use Rattle.rules.proofs.Refusals.Files.{first-cue}
 use Rattle.rules.proofs.Refusals.Runs.{records-length, records-append, room-exactly-when}
 use Rattle.rules.proofs.Refusals.Changes.{step-played, groups-exactly-when, ends, changeRead, all-are-played, played-up-to}
-use Rattle.demands.specs.Changes.{thenSingles, joinedAfter, recordsLeft, answersLeft, oneThenTheOther, RefusedFrom, NothingPlayed, ChangeAnswered, reach, CameTo}
+use Rattle.demands.specs.Changes.{thenSingles, joinedAfter, recordsLeft, answersLeft, oneThenTheOther, Part, GoodPart, GoodParts, inputsOf, changeOf, changePlayed, inParts, NoPartRefused, RefusedFrom, NothingPlayed, ChangeAnswered, reach, CameTo}
 use Rattle.demands.specs.Demands.{Among}
-use Rattle.demands.proofs.Meets.{over-length}
+use Rattle.demands.proofs.Meets.{over-length, records-read-back}
 
 -- ---- single inputs, one part and then the other
 
@@ -322,6 +323,56 @@ module _ (s : State) (x y r a : List ℕ) (safe : sound s ≡ true) (cut : lengt
       by : (b : Bool) → eqb (first .code) 0 ≡ b → changeCall s (x ++ y) r a ≡ oneThenTheOther s x y r a
       by true e = goes-on (eqb-true (first .code) 0 e)
       by false e = stops e
+
+-- ---- cut into any number of changes
+
+-- where none is refused, none of either part is, and all is the one part and then the other
+both-parts : (xs ys : List (List ℕ)) (s : State) → singles 0 (xs ++ ys) s .code ≡ 0 → let then : State = singles 0 xs s .played .state in
+    (singles 0 xs s .code ≡ 0) × (singles 0 ys then .code ≡ 0) × (singles 0 (xs ++ ys) s .played ≡ andThen (singles 0 xs s .played) (λ u. singles 0 ys u .played))
+both-parts xs ys s passed = by (eqb (singles 0 xs s .code) 0) refl
+  where
+    z : length xs + 0 ≡ 0 + length xs
+    z = omega arith
+
+    counted : singles (0 + length xs) ys (singles 0 xs s .played .state) ≡ shifted (length xs) (singles 0 ys (singles 0 xs s .played .state))
+    counted = rw z at (counted-from (length xs) 0 ys (singles 0 xs s .played .state))
+
+    by : (b : Bool) → eqb (singles 0 xs s .code) 0 ≡ b → let then : State = singles 0 xs s .played .state in
+        (singles 0 xs s .code ≡ 0) × (singles 0 ys then .code ≡ 0) × (singles 0 (xs ++ ys) s .played ≡ andThen (singles 0 xs s .played) (λ u. singles 0 ys u .played))
+    by true e =
+        let all : singles 0 (xs ++ ys) s ≡ thenOthers (singles 0 xs s .played) (λ u. shifted (length xs) (singles 0 ys u)) = one-part-then-the-other 0 xs ys s ∙ rw (e, counted) refl in
+        (eqb-true _ 0 e, sym (ap (λ (c : Singles). c .code) all) ∙ passed, ap (λ (c : Singles). c .played) all)
+    by false e =
+        let all : singles 0 (xs ++ ys) s ≡ singles 0 xs s = one-part-then-the-other 0 xs ys s ∙ rw e refl in
+        absurd (eqb-false _ 0 e (sym (ap (λ (c : Singles). c .code) all) ∙ passed))
+
+first-of-over : (xs b : List ℕ) (n : ℕ) → length xs ≡ n → take n (over xs b) ≡ xs
+unfolding over
+first-of-over xs b n e = take-at xs (drop (length xs) b) n e
+
+-- a part whose single inputs are not refused is accepted, and plays them
+part-played : (s : State) (p : Part) → sound s ≡ true → GoodPart p → singles 0 (groupsIn (p .inputs)) s .code ≡ 0 → (changeOf s p .report .code ≡ 0) × (changePlayed p (changeOf s p) ≡ singles 0 (groupsIn (p .inputs)) s .played)
+unfolding changed groupsIn
+part-played s p safe good passed =
+    let c : Singles = singles 0 (groupsIn (p .inputs)) s in
+    let n : length (c .played .answers) ≡ groupCount (p .inputs) = an-answer-for-each 0 (groupsIn (p .inputs)) s passed ∙ groups-length (groupCount (p .inputs)) (p .inputs) in
+    rw (a-change-is-the-single-inputs s (p .inputs) (p .records) (p .answers) safe (good .groups) (good .room))
+    (passed, rw (first-of-over (c .played .answers) (p .answers) (groupCount (p .inputs)) n, records-read-back (c .played .records) (p .records)) refl)
+
+-- Single inputs of which none is refused, cut anywhere into changes: none of these is refused, and one after the other they play the same.
+pub in-parts : (parts : List Part) (s : State) → GoodParts parts → sound s ≡ true → singles 0 (groupsIn (inputsOf parts)) s .code ≡ 0 →
+    NoPartRefused parts s × (inParts parts s ≡ singles 0 (groupsIn (inputsOf parts)) s .played)
+unfolding inParts
+in-parts [] s good safe passed = (tt, unfold groupsIn groups singles in refl)
+in-parts (p ∷ later) s good safe passed =
+    let xs : List (List ℕ) = groupsIn (p .inputs) in
+    let cut = groups-of-both (p .inputs) (inputsOf later) (good .0 .groups .whole) in
+    let both = both-parts xs (groupsIn (inputsOf later)) s (rw cut at passed) in
+    let here = part-played s p safe (good .0) (both .0) in
+    let rest = in-parts later (singles 0 xs s .played .state) (good .1) (singles-keep 0 xs s safe .0) (both .1) in
+    let next : changeOf s p .report .state ≡ singles 0 xs s .played .state = ap (λ (q : Played). q .state) (here .1) in
+    let same = ap (λ (q : Played). andThen q (inParts later)) (here .1) ∙ andThen-from (singles 0 xs s .played) (inParts later) (λ u. singles 0 (groupsIn (inputsOf later)) u .played) (rest .1) in
+    ((here .0, rw next (rest .0)), same ∙ sym (both .2) ∙ ap (λ (gs : List (List ℕ)). singles 0 gs s .played) (sym cut))
 
 -- ---- a refused input leaves no trace
 

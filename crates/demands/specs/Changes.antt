@@ -9,10 +9,11 @@ use lib.Dec.{eqb}
 use Rattle.rules.specs.declared.state.State.{State}
 use Rattle.rules.specs.declared.record.Record.{Record}
 use Rattle.rules.specs.Layout.{inputPlace, recordPlace}
-use Rattle.rules.specs.Refusals.{stampBefore}
+use Rattle.rules.specs.Lists.{Played, andThen, unplayed}
+use Rattle.rules.specs.Refusals.{stampBefore, GoodGroups, RoomFor}
 use Rattle.rules.specs.Runs.{recordsOctets, over, Whole}
 use Rattle.rules.specs.Changes.{groupCount, Singles, thenOthers, changeCall}
-use Rattle.demands.specs.Demands.{Among}
+use Rattle.demands.specs.Demands.{Among, recordsOf}
 
 -- ---- "a change cut in two anywhere is the two changes one after the other"
 
@@ -43,6 +44,46 @@ oneThenTheOther s one other records answers =
     let a : Whole = changeCall s one records answers in
     let k : ℕ = groupCount one in
     cond (eqb (a .report .code) 0) (joinedAfter k a (changeCall (a .report .state) other (recordsLeft a) (answersLeft k a))) a
+
+-- ---- cut into any number of changes
+
+-- a change to be made: its inputs, and the buffers that are lent for it
+pub record Part : Type 0 where
+  pub inputs : List ℕ
+  pub records : List ℕ
+  pub answers : List ℕ
+
+-- at most 256 whole groups, and buffers that are long enough for them
+pub record GoodPart (p : Part) : Type 0 where
+  pub groups : GoodGroups (p .inputs)
+  pub room : RoomFor (groupCount (p .inputs)) (p .records) (p .answers)
+
+abbrev pub GoodParts : List Part → Type 0
+GoodParts [] = Unit
+GoodParts (p ∷ later) = GoodPart p × GoodParts later
+
+-- the inputs of all parts, in order
+abbrev pub inputsOf : List Part → List ℕ
+inputsOf [] = []
+inputsOf (p ∷ later) = p .inputs ++ inputsOf later
+
+-- the change of one part
+abbrev pub changeOf : State → Part → Whole
+changeOf s p = changeCall s (p .inputs) (p .records) (p .answers)
+
+-- what stands in its buffers then: an answer for each input, and as many records as are counted
+abbrev pub changePlayed : Part → Whole → Played
+changePlayed p w = record { state = w .report .state; answers = take (groupCount (p .inputs)) (w .answers); records = recordsOf w }
+
+-- one change after the other, each handed the state that the one before gave
+unfoldable pub inParts : List Part → State → Played
+inParts [] s = unplayed s
+inParts (p ∷ later) s = andThen (changePlayed p (changeOf s p)) (inParts later)
+
+-- none of them is refused
+abbrev pub NoPartRefused : List Part → State → Type 0
+NoPartRefused [] s = Unit
+NoPartRefused (p ∷ later) s = (changeOf s p .report .code ≡ 0) × NoPartRefused later (changeOf s p .report .state)
 
 -- ---- demand 1 as 02, [3] restates it: "demand 1 then holds from that input on"
 
