@@ -6,7 +6,7 @@ use mathlib.Core.Logic.{inl, inr}
 use mathlib.Core.Option.{Option}
 use mathlib.Core.Path.{_≡_, refl, sym, ap, _∙_}
 use native.Mathlib.Omega.{arith}
-use lib.ListN.{length, take, drop, length-append, length-drop, length-take, take-append-drop}
+use lib.ListN.{length, take, drop, length-append, length-drop, length-take, take-append-drop, replicate}
 use lib.Seq.{take-at, take-all, drop-at, drop-drop}
 use lib.Dec.{eqb}
 use borrow.Author.Tests.{eqb-true, eqb-false, ne-eqb}
@@ -359,6 +359,17 @@ part-played s p safe good passed =
     rw (a-change-is-the-single-inputs s (p .inputs) (p .records) (p .answers) safe (good .groups) (good .room))
     (passed, rw (first-of-over (c .played .answers) (p .answers) (groupCount (p .inputs)) n, records-read-back (c .played .records) (p .records)) refl)
 
+-- whole groups can be cut so: one in each part is one way
+pub there-is-a-cut : (n : ℕ) (octets : List ℕ) → length octets ≡ 8 * n → (parts : List Part) × GoodParts parts × (inputsOf parts ≡ octets)
+there-is-a-cut zero [] e = ([], tt, refl)
+there-is-a-cut zero (x ∷ octets) e = absurd (omega arith)
+there-is-a-cut (suc n) octets e =
+    let (parts, good, whole) = there-is-a-cut n (drop 8 octets) (length-drop 8 octets ∙ omega arith) in
+    let one : Part = record { inputs = take 8 octets; records = replicate 48 0; answers = replicate 1 0 } in
+    let eight : length (take 8 octets) ≡ 8 = length-take 8 octets ∙ omega arith in
+    let fits : GoodPart one = record { groups = record { whole = omega (arith, eight); few = omega (arith, eight) }; room = record { wide = omega (arith, eight); long = omega (arith, eight) } } in
+    (one ∷ parts, (fits, good), rw whole (take-append-drop 8 octets))
+
 -- Single inputs of which none is refused, cut anywhere into changes: none of these is refused, and one after the other they play the same.
 pub in-parts : (parts : List Part) (s : State) → GoodParts parts → sound s ≡ true → singles 0 (groupsIn (inputsOf parts)) s .code ≡ 0 →
     NoPartRefused parts s × (inParts parts s ≡ singles 0 (groupsIn (inputsOf parts)) s .played)
@@ -567,23 +578,23 @@ module _ (s : State) (inputs r a : List ℕ) where
   unfolding changed groupsIn
   how-far-a-change-came =
       by-check (λ w. CameTo s inputs r a w (reach inputs w))
-      (λ safe good room. came (singles-met safe) (an-answer-for-each 0 (groupsIn inputs) s) (as-many-answers-as-the-place (groupsIn inputs) s) (three-for-each 0 (groupsIn inputs) s .0))
+      (λ safe good room. came (singles-met safe) (an-answer-for-each 0 (groupsIn inputs) s) (as-many-answers-as-the-place (groupsIn inputs) s) (three-for-each 0 (groupsIn inputs) s))
       (λ why one. nothing why)
     where
-      came : {c : Singles} → Met c → (c .code ≡ 0 → length (c .played .answers) ≡ length (groupsIn inputs)) → ((c .code ≡ 0 → ⊥) → length (c .played .answers) ≡ c .place) → length (c .played .records) ≤ 3 * length (c .played .answers) →
+      came : {c : Singles} → Met c → (c .code ≡ 0 → length (c .played .answers) ≡ length (groupsIn inputs)) → ((c .code ≡ 0 → ⊥) → length (c .played .answers) ≡ c .place) → (length (c .played .records) ≤ 3 * length (c .played .answers)) × (length (c .played .answers) ≤ length (groupsIn inputs)) →
           CameTo s inputs r a (changed c r a) (reach inputs (changed c r a))
       came (all-played p clock) each place few =
           let n : length (p .answers) ≡ groupCount inputs = each refl ∙ groups-length (groupCount inputs) inputs in
-          record { answers = (p .answers, n, refl); records = (p .records, refl, refl); few = omega (arith, n, few); clock = clock }
+          record { within = omega arith; answers = (p .answers, n, refl); records = (p .records, refl, refl); few = omega (arith, n, few .0); clock = clock }
       came (one-met p why place one clock) each m few =
           let bad : number why ≡ 0 → ⊥ = λ e. omega (arith, some-number why, e) in
           let n = m bad in
-          rw (ne-eqb (number why) 0 bad) (record { answers = (p .answers, n, refl); records = (p .records, refl, refl); few = omega (arith, n, few); clock = clock })
+          rw (ne-eqb (number why) 0 bad) (record { within = omega (arith, n, few .1, groups-length (groupCount inputs) inputs); answers = (p .answers, n, refl); records = (p .records, refl, refl); few = omega (arith, n, few .0); clock = clock })
 
       nothing : (why : Refusal) → let w : Whole = record { report = record { state = s; code = number why; place = 0; count = 0 }; records = r; answers = a } in CameTo s inputs r a w (reach inputs w)
       nothing why =
           let bad : number why ≡ 0 → ⊥ = λ e. omega (arith, some-number why, e) in
-          rw (ne-eqb (number why) 0 bad) (record { answers = ([], refl, unfold over in refl); records = ([], refl, unfold over recordsOctets in refl); few = omega arith; clock = refl })
+          rw (ne-eqb (number why) 0 bad) (record { within = omega arith; answers = ([], refl, unfold over in refl); records = ([], refl, unfold over recordsOctets in refl); few = omega arith; clock = refl })
 
   -- what is lent keeps its length, so that nothing is written past its end
   pub a-change-stays-within : (length (changeCall s inputs r a .records) ≡ length r) × (length (changeCall s inputs r a .answers) ≡ length a)

@@ -58,8 +58,8 @@ taken code place count narrow few =
     let e : packed (record { state = ownState; code = code; place = place; count = count }) ≡ packing code place count = unfold packed in refl in
     (rw e at (t .code), rw e at (t .place), rw e at (t .count))
 
-taken-0 : (code : ℕ) → (codeIn (packing code 0 0) ≡ code) × (countIn (packing code 0 0) ≡ 0)
-taken-0 code = let t = taken code 0 0 (omega arith) (omega arith) in (t .0, t .2)
+taken-0 : (code : ℕ) → (codeIn (packing code 0 0) ≡ code) × (placeIn (packing code 0 0) ≡ 0) × (countIn (packing code 0 0) ≡ 0)
+taken-0 code = taken code 0 0 (omega arith) (omega arith)
 
 -- so a call whose number is that of a check is refused as the check decides
 by-its-check : {Given : Refusal → ℕ → Type 0} {Good : Type 0} (c : Check) (count n : ℕ) → Decides Given Good c → n ≡ packing (codeOf c) (placeOf c) count → placeOf c < 65_536 → count < 4_294_967_296 → NumberCodes Given Good n
@@ -148,7 +148,7 @@ module _ (parameters state : List ℕ) where
       by : (c : Check) → checkFresh parameters state ≡ c → FreshAnswered state (houseFresh parameters state)
       by Passed e =
           rw (fresh-as-checked Passed e)
-          (unfold freshImaged in record { numbered = inl (taken-0 0 .0); counted = taken-0 0 .1; refused = λ f. absurd (f (taken-0 0 .0)); within = image-length (freshCall parameters .state) (fresh-scenes-are-eight parameters) ∙ sym (fresh-decides .passed .0 e .1) })
+          (unfold freshImaged in record { numbered = inl (taken-0 0 .0); counted = taken-0 0 .2; refused = λ f. absurd (f (taken-0 0 .0)); within = image-length (freshCall parameters .state) (fresh-scenes-are-eight parameters) ∙ sym (fresh-decides .passed .0 e .1) })
       by (Refused why place) e =
           let t = taken (number why) place 0 (rw e at fresh-narrow) (omega arith) in
           rw (fresh-as-checked (Refused why place) e)
@@ -416,7 +416,7 @@ module _ (state inputs r a : List ℕ) where
           let t = the-change-number-is-taken-apart e in
           rw (t .code, t .place) (in-other-words (accepted-is-sound state e) e (change-refused-exactly-when (stateIn state) inputs r a))
       by false e =
-          let t = taken 9 0 0 (omega arith) (omega arith) in
+          let t = taken-0 9 in
           rw (no-image-is-refused e, t .0, t .1) (first-row-holds UnsoundState (λ is. no (sym e ∙ is)))
 
 -- of an image: the answer of the change
@@ -435,17 +435,15 @@ module _ (state inputs r a : List ℕ) (is : isImage state ≡ true) where
       by (inr (inr (inl e, n))) = inr (inr (inr (inr (inl e))))
       by (inr (inr (inr (inl e), n))) = inr (inr (inr (inr (inr (inl e)))))
 
-  image-refused : Among (w .report .code) (9 ∷ 12 ∷ 8 ∷ []) → AsLent state r a (houseChange state inputs r a)
+  image-refused : Among (w .report .code) (9 ∷ 12 ∷ 8 ∷ []) → (placeIn (houseChange state inputs r a .number) ≡ 0) × AsLent state r a (houseChange state inputs r a)
   unfolding imaged
   image-refused one =
       let n = refused-as-a-whole (stateIn state) inputs r a one in
       let c = an-image-is-changed state inputs r a is in
-      record {
-        count = the-change-number-is-taken-apart state inputs r a is .count ∙ n .count;
-        state = rw c (ap image (n .state) ∙ accepted-is-the-image state is);
-        records = rw c (n .records);
-        answers = rw c (n .answers);
-      }
+      let t = the-change-number-is-taken-apart state inputs r a is in (
+        t .place ∙ n .place,
+        record { count = t .count ∙ n .count; state = rw c (ap image (n .state) ∙ accepted-is-the-image state is); records = rw c (n .records); answers = rw c (n .answers) },
+      )
 
   image-stopped : Among (w .report .code) (6 ∷ 7 ∷ []) → HouseRefusedFrom state inputs r a (w .report .place) (houseChange state inputs r a)
   unfolding imaged
@@ -480,7 +478,7 @@ every-change-from-c-is-answered state inputs r a = by (isImage state) refl
         rw (no-image-is-refused state inputs r a e)
         (record {
           numbered = inr (inl (t .0));
-          refused = λ one. record { count = t .1; state = refl; records = refl; answers = refl };
+          refused = λ one. (t .1, record { count = t .2; state = refl; records = refl; answers = refl });
           stopped = λ one. absurd (no-two-codes 9 (inl refl) (inr (rw (t .0) at one)));
           within = record { state = refl; records = refl; answers = refl };
         })

@@ -120,6 +120,7 @@ reach inputs w = cond (eqb (w .report .code) 0) (groupCount inputs) (w .report .
 -- After m inputs there are m answers in their buffer, as many records as are counted in theirs, at most three for each input, and the rest of both
 -- buffers is as it was lent. The clock is the stamp of the last of these inputs, or the one given where there is none.
 pub record CameTo (s : State) (inputs r a : List ℕ) (w : Whole) (m : ℕ) : Type 0 where
+  pub within : m ≤ groupCount inputs
   pub answers : (given : List ℕ) × (length given ≡ m) × (w .answers ≡ over given a)
   pub records : (shown : List Record) × (length shown ≡ w .report .count) × (w .records ≡ over (recordsOctets shown) r)
   pub few : w .report .count ≤ 3 * m

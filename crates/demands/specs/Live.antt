@@ -116,7 +116,7 @@ pub record HouseRefusedFrom (lent inputs r a : List ℕ) (place : ℕ) (w : Imag
 -- house_change: 9, 12 and 8 of the whole, 6 and 7 of an input
 pub record HouseChangeAnswered (lent inputs r a : List ℕ) (w : ImagedRun) : Type 0 where
   pub numbered : Among (codeIn (w .number)) (0 ∷ 9 ∷ 12 ∷ 8 ∷ 6 ∷ 7 ∷ [])
-  pub refused : Among (codeIn (w .number)) (9 ∷ 12 ∷ 8 ∷ []) → AsLent lent r a w
+  pub refused : Among (codeIn (w .number)) (9 ∷ 12 ∷ 8 ∷ []) → (placeIn (w .number) ≡ 0) × AsLent lent r a w
   pub stopped : Among (codeIn (w .number)) (6 ∷ 7 ∷ []) → HouseRefusedFrom lent inputs r a (placeIn (w .number)) w
   pub within : Within lent r a w
 
