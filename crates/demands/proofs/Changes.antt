@@ -475,11 +475,6 @@ module _ (s : State) (inputs r a : List ℕ) (safe : sound s ≡ true) (good : G
           answers = rw (all, alone, same .1) refl;
         }
 
-  -- "At a refused input it stops: what went before stands in state and buffers (demand 1 then holds from that input on)"
-  pub refused-from-that-input-on : (changeCall s inputs r a .report .code ≡ 0 → ⊥) → RefusedFrom s inputs r a (changeCall s inputs r a .report .place)
-  unfolding changed
-  refused-from-that-input-on bad = let all = a-change-is-the-single-inputs s inputs r a safe good room in rw all (stands (rw all at bad))
-
 -- ---- of every change, whatever it is refused for
 
 -- the clock that playing leads to: the stamp of the last input that was read
@@ -531,7 +526,7 @@ module _ (s : State) (inputs r a : List ℕ) where
       by true true true safe e room = f safe (groups-exactly-when inputs .0 e) (room-exactly-when (groupCount inputs) r a .0 room)
 
   -- all of them are played; or one is met that 6 or 7 is given for, and those before it are played. The clock is the stamp of the last one played.
-  pub data Met : Singles → Type 0 where
+  data Met : Singles → Type 0 where
     all-played : (p : Played) → p .state .clock ≡ stampBefore inputs (s .clock) (groupCount inputs) → Met (ends p 0 0)
     one-met : (p : Played) (why : Refusal) (place : ℕ) → Among (number why) (6 ∷ 7 ∷ []) → p .state .clock ≡ stampBefore inputs (s .clock) place → Met (ends p (number why) place)
 
@@ -556,7 +551,7 @@ module _ (s : State) (inputs r a : List ℕ) where
       played (all-played p clock) from = inl refl
       played (one-met p why place one clock) from = inr (inr (one, from (λ e. omega (arith, some-number why, e))))
 
-  -- each side of it, by the code
+  -- by the code: 9, 12 and 8 leave all as it was
   pub refused-as-a-whole : Among (changeCall s inputs r a .report .code) (9 ∷ 12 ∷ 8 ∷ []) → NothingPlayed s r a (changeCall s inputs r a)
   refused-as-a-whole one = by every-change-is-answered
     where
@@ -565,8 +560,9 @@ module _ (s : State) (inputs r a : List ℕ) where
       by (inr (inl whole)) = whole .1
       by (inr (inr input)) = absurd (no-two-codes (changeCall s inputs r a .report .code) one (inr (input .0)))
 
-  pub refused-at-an-input : Among (changeCall s inputs r a .report .code) (6 ∷ 7 ∷ []) → RefusedFrom s inputs r a (changeCall s inputs r a .report .place)
-  refused-at-an-input one = by every-change-is-answered
+  -- "At a refused input it stops: what went before stands in state and buffers (demand 1 then holds from that input on)": 6 and 7
+  pub refused-from-that-input-on : Among (changeCall s inputs r a .report .code) (6 ∷ 7 ∷ []) → RefusedFrom s inputs r a (changeCall s inputs r a .report .place)
+  refused-from-that-input-on one = by every-change-is-answered
     where
       by : ChangeAnswered s inputs r a (changeCall s inputs r a) → RefusedFrom s inputs r a (changeCall s inputs r a .report .place)
       by (inl e) = absurd (some-code (changeCall s inputs r a .report .code) one e)

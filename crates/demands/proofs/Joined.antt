@@ -1,4 +1,4 @@
--- The run is the public calls, joined in order.
+-- The run is the public calls, joined in order: single inputs, or changes.
 use Prim.Native.Nat.{ℕ, _≤_}
 use mathlib.Core.Bool.{true}
 use mathlib.Core.List.{List, [], _∷_}

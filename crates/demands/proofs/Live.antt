@@ -1,4 +1,4 @@
--- The live calls from C: refused exactly when the table says, and what they leave is an image again.
+-- The live calls from C: refused exactly when the table says, answered whatever is lent, and what they leave is an image again.
 use Prim.Native.Nat.{ℕ, _+_, _/_, _%_, _^_, _≤_, _<_}
 use mathlib.Core.Bool.{Bool, true, false, cond}
 use mathlib.Core.List.{List, [], _∷_, _++_}
@@ -43,7 +43,7 @@ use Rattle.rules.proofs.Refusals.Runs.{apart, run-is-read, records-length, lent
 use Rattle.rules.proofs.Refusals.Changes.{change-refused-exactly-when}
 use Rattle.demands.proofs.Meets.{over-length, our-model-meets-every-demand}
 use Rattle.demands.proofs.Joined.{run-is-the-calls-joined}
-use Rattle.demands.proofs.Changes.{singles-keep, cut-in-two, no-two-codes, every-change-is-answered, refused-as-a-whole, refused-at-an-input, a-change-stays-within, a-change-is-narrow, a-change-keeps}
+use Rattle.demands.proofs.Changes.{singles-keep, cut-in-two, no-two-codes, every-change-is-answered, refused-as-a-whole, refused-from-that-input-on, a-change-stays-within, a-change-is-narrow, a-change-keeps}
 use Rattle.demands.specs.Changes.{joinedAfter, recordsLeft, answersLeft, ChangeAnswered}
 use Rattle.demands.specs.Joined.{calls, startOf, callsOf}
 use Rattle.demands.specs.Demands.{Among}
@@ -134,8 +134,9 @@ module _ (parameters state : List ℕ) where
   unfolding houseFresh
   fresh-as-checked c e = rw e refl
 
-  pub every-fresh-state-is-answered : FreshAnswered state (houseFresh parameters state)
-  every-fresh-state-is-answered = by (checkFresh parameters state) refl
+  -- a numbered answer, whatever is lent: 1, 5 or 8 write nothing, no record is counted, and what is lent keeps its length
+  pub house-fresh-is-answered : FreshAnswered state (houseFresh parameters state)
+  house-fresh-is-answered = by (checkFresh parameters state) refl
     where
       found : (why : Refusal) (p : ℕ) → FoundWhen (formAlone parameters) parameters (Refused why p) → Among (number why) (0 ∷ 1 ∷ 5 ∷ 8 ∷ [])
       found WrongLength p g = inr (inl refl)
@@ -216,9 +217,10 @@ module _ (state : List ℕ) (stamp : ℕ) (records : List ℕ) where
       by true true false = inr (inr (inr (inl refl)))
       by true true true = inl refl
 
-  pub every-clock-move-is-answered : MoveAnswered state stamp records (houseMove state stamp records)
+  -- a numbered answer, whatever is lent: 9, 7 or 8 write nothing, the count of an accepted one is the move's, and what is lent keeps its length
+  pub house-move-is-answered : MoveAnswered state stamp records (houseMove state stamp records)
   unfolding moveBy moveImaged
-  every-clock-move-is-answered = by (checkMove state stamp records) refl
+  house-move-is-answered = by (checkMove state stamp records) refl
     where
       by : (c : Check) → checkMove state stamp records ≡ c → MoveAnswered state stamp records (houseMove state stamp records)
       by (Refused why place) e =
@@ -326,9 +328,10 @@ module _ (file state records answers : List ℕ) where
       room-last Passed few false = omega arith
       room-last (Refused why place) few b = few
 
-  pub every-run-to-a-state-is-answered : RunToAnswered file state records answers (houseRunTo file state records answers)
+  -- a numbered answer, whatever is lent: 1 to 8 write nothing, the count of an accepted one is the run's, and what is lent keeps its length
+  pub house-run-to-is-answered : RunToAnswered file state records answers (houseRunTo file state records answers)
   unfolding runImaged imaged
-  every-run-to-a-state-is-answered = by (checkRunTo file state records answers) refl
+  house-run-to-is-answered = by (checkRunTo file state records answers) refl
     where
       by : (c : Check) → checkRunTo file state records answers ≡ c → RunToAnswered file state records answers (houseRunTo file state records answers)
       by (Refused why place) e =
@@ -448,7 +451,7 @@ module _ (state inputs r a : List ℕ) (is : isImage state ≡ true) where
   image-stopped : Among (w .report .code) (6 ∷ 7 ∷ []) → HouseRefusedFrom state inputs r a (w .report .place) (houseChange state inputs r a)
   unfolding imaged
   image-stopped one =
-      let f = refused-at-an-input (stateIn state) inputs r a one in
+      let f = refused-from-that-input-on (stateIn state) inputs r a one in
       let before : List ℕ = take (inputPlace (w .report .place)) inputs in
       let c = an-image-is-changed state inputs r a is in
       let d = an-image-is-changed state before r a is in
@@ -469,8 +472,8 @@ module _ (state inputs r a : List ℕ) (is : isImage state ≡ true) where
       record { state = images-are-56 _ (what-comes-back-is-an-image state inputs r a is) ∙ sym (images-are-56 state is); records = rw c (within .0); answers = rw c (within .1) }
 
 -- Every change from C gets a numbered answer. With 9, 12 or 8 all that is lent is as it was; with 6 or 7 it is what the inputs before give.
-pub every-change-from-c-is-answered : (state inputs r a : List ℕ) → HouseChangeAnswered state inputs r a (houseChange state inputs r a)
-every-change-from-c-is-answered state inputs r a = by (isImage state) refl
+pub house-change-is-answered : (state inputs r a : List ℕ) → HouseChangeAnswered state inputs r a (houseChange state inputs r a)
+house-change-is-answered state inputs r a = by (isImage state) refl
   where
     by : (b : Bool) → isImage state ≡ b → HouseChangeAnswered state inputs r a (houseChange state inputs r a)
     by false e =
@@ -528,9 +531,9 @@ module _ (state x y r a : List ℕ) (is : isImage state ≡ true) (cut : length 
       (an-image-is-changed (image then) y (recordsLeft one) (answersLeft (groupCount x) one) (image-is-accepted then eight (kept .0)) ∙ rw (image-is-read-back then eight) refl)
 
   -- A change from C cut in two anywhere is the two changes one after the other, the second on the image that came back: the same image, answers and records.
-  pub a-change-from-c-cut-in-two : houseChange state (x ++ y) r a ≡ houseOneThenTheOther state x y r a
+  pub house-change-cut-in-two : houseChange state (x ++ y) r a ≡ houseOneThenTheOther state x y r a
   unfolding imaged
-  a-change-from-c-cut-in-two =
+  house-change-cut-in-two =
       an-image-is-changed state (x ++ y) r a is
       ∙ ap imaged (cut-in-two (stateIn state) x y r a (accepted-is-sound state is) cut good room)
       ∙ joined-images (groupCount x) one _ (packed-apart (stateIn state) x r a) (packed-apart then y (recordsLeft one) (answersLeft (groupCount x) one))
