@@ -47,7 +47,7 @@ use Rattle.demands.proofs.Changes.{singles-keep, cut-in-two, no-two-cod
 use Rattle.demands.specs.Changes.{joinedAfter, recordsLeft, answersLeft, ChangeAnswered}
 use Rattle.demands.specs.Joined.{calls, startOf, callsOf}
 use Rattle.demands.specs.Demands.{Among}
-use Rattle.demands.specs.Live.{codeIn, placeIn, countIn, FreshAnswered, MoveAnswered, RunToAnswered, AsLent, Within, HouseRefusedFrom, HouseChangeAnswered, houseJoined, houseOneThenTheOther, NumberCodes, HouseFreshCodes, HouseMoveCodes, HouseRunToCodes, HouseChangeCodes}
+use Rattle.demands.specs.Live.{codeIn, placeIn, countIn, FreshAnswered, MoveAnswered, RunToAnswered, AsLent, RanAs, Within, HouseRefusedFrom, HouseChangeAnswered, houseJoined, houseOneThenTheOther, NumberCodes, HouseFreshCodes, HouseMoveCodes, HouseRunToCodes, HouseChangeCodes}
 
 -- ---- numbers
 
@@ -134,8 +134,8 @@ module _ (parameters state : List ℕ) where
   unfolding houseFresh
   fresh-as-checked c e = rw e refl
 
-  -- a numbered answer, whatever is lent: 1, 5 or 8 write nothing, no record is counted, and what is lent keeps its length
-  pub house-fresh-is-answered : FreshAnswered state (houseFresh parameters state)
+  -- a numbered answer, whatever is lent: 1, 5 or 8 write nothing, no record is counted, an accepted one leaves the fresh state's image, and what is lent keeps its length
+  pub house-fresh-is-answered : FreshAnswered parameters state (houseFresh parameters state)
   house-fresh-is-answered = by (checkFresh parameters state) refl
     where
       found : (why : Refusal) (p : ℕ) → FoundWhen (formAlone parameters) parameters (Refused why p) → Among (number why) (0 ∷ 1 ∷ 5 ∷ 8 ∷ [])
@@ -146,14 +146,14 @@ module _ (parameters state : List ℕ) where
       row why p (inl g) = found why p g
       row why p (inr g) = rw (g .1 .0) (inr (inr (inr (inl refl))))
 
-      by : (c : Check) → checkFresh parameters state ≡ c → FreshAnswered state (houseFresh parameters state)
+      by : (c : Check) → checkFresh parameters state ≡ c → FreshAnswered parameters state (houseFresh parameters state)
       by Passed e =
           rw (fresh-as-checked Passed e)
-          (unfold freshImaged in record { numbered = inl (taken-0 0 .0); counted = taken-0 0 .2; refused = λ f. absurd (f (taken-0 0 .0)); within = image-length (freshCall parameters .state) (fresh-scenes-are-eight parameters) ∙ sym (fresh-decides .passed .0 e .1) })
+          (unfold freshImaged in record { numbered = inl (taken-0 0 .0); counted = taken-0 0 .2; refused = λ f. absurd (f (taken-0 0 .0)); accepted = λ z. image-is-read-back (freshCall parameters .state) (fresh-scenes-are-eight parameters); within = image-length (freshCall parameters .state) (fresh-scenes-are-eight parameters) ∙ sym (fresh-decides .passed .0 e .1) })
       by (Refused why place) e =
           let t = taken (number why) place 0 (rw e at fresh-narrow) (omega arith) in
           rw (fresh-as-checked (Refused why place) e)
-          (unfold freshImaged in record { numbered = rw (t .0) (row why place (fresh-decides .refused why place .0 e)); counted = t .2; refused = λ f. refl; within = refl })
+          (unfold freshImaged in record { numbered = rw (t .0) (row why place (fresh-decides .refused why place .0 e)); counted = t .2; refused = λ f. refl; accepted = λ z. absurd (omega (arith, z, t .0, some-number why)); within = refl })
 
   -- an accepted one leaves an image, to be played on from
   pub a-fresh-state-is-an-image : codeIn (houseFresh parameters state .number) ≡ 0 → isImage (houseFresh parameters state .state) ≡ true
@@ -217,7 +217,7 @@ module _ (state : List ℕ) (stamp : ℕ) (records : List ℕ) where
       by true true false = inr (inr (inr (inl refl)))
       by true true true = inl refl
 
-  -- a numbered answer, whatever is lent: 9, 7 or 8 write nothing, the count of an accepted one is the move's, and what is lent keeps its length
+  -- a numbered answer, whatever is lent: 9, 7 or 8 write nothing, an accepted one gives what the clock move by value gives, and what is lent keeps its length
   pub house-move-is-answered : MoveAnswered state stamp records (houseMove state stamp records)
   unfolding moveBy moveImaged
   house-move-is-answered = by (checkMove state stamp records) refl
@@ -226,7 +226,7 @@ module _ (state : List ℕ) (stamp : ℕ) (records : List ℕ) where
       by (Refused why place) e =
           let t = taken (number why) place 0 (omega (arith, rw e at move-place)) (omega arith) in
           rw (move-as-checked (Refused why place) e)
-          (record { numbered = rw (t .0) (rw e at move-among); counted = λ z. absurd (omega (arith, z, t .0, some-number why)); refused = λ f. (t .2, refl, refl); within = (refl, refl) })
+          (record { numbered = rw (t .0) (rw e at move-among); refused = λ f. (t .2, refl, refl); accepted = λ z. absurd (omega (arith, z, t .0, some-number why)); within = (refl, refl) })
       by Passed e =
           let good = move-decides .passed .0 e in
           let m : Move = moveCall (stateIn state) stamp in
@@ -236,7 +236,7 @@ module _ (state : List ℕ) (stamp : ℕ) (records : List ℕ) where
           let eight = move-keeps-scenes (stateIn state) stamp ∙ read-scenes-are-eight state in
           let fits : length (recordsOctets (take (m .count) (m .records))) ≤ length records = omega (arith, records-length (take (m .count) (m .records)), length-take (m .count) (m .records), few .2, good .1 .1) in
           rw (move-as-checked Passed e)
-          (record { numbered = inl code; counted = λ z. t .2; refused = λ f. absurd (f code); within = (image-length (m .state) eight ∙ sym (images-are-56 state (good .0)), over-length (recordsOctets (take (m .count) (m .records))) records fits) })
+          (record { numbered = inl code; refused = λ f. absurd (f code); accepted = λ z. record { state = image-is-read-back (m .state) eight; count = t .2; records = refl }; within = (image-length (m .state) eight ∙ sym (images-are-56 state (good .0)), over-length (recordsOctets (take (m .count) (m .records))) records fits) })
 
   -- an accepted one leaves an image, to be played on from
   pub a-moved-state-is-an-image : codeIn (houseMove state stamp records .number) ≡ 0 → isImage (houseMove state stamp records .state) ≡ true
@@ -328,7 +328,7 @@ module _ (file state records answers : List ℕ) where
       room-last Passed few false = omega arith
       room-last (Refused why place) few b = few
 
-  -- a numbered answer, whatever is lent: 1 to 8 write nothing, the count of an accepted one is the run's, and what is lent keeps its length
+  -- a numbered answer, whatever is lent: 1 to 8 write nothing, an accepted one gives what the run gives, and what is lent keeps its length
   pub house-run-to-is-answered : RunToAnswered file state records answers (houseRunTo file state records answers)
   unfolding runImaged imaged
   house-run-to-is-answered = by (checkRunTo file state records answers) refl
@@ -339,8 +339,8 @@ module _ (file state records answers : List ℕ) where
           rw (run-to-as-checked (Refused why place) e)
           (record {
             numbered = rw (t .0) (rw e at run-to-table);
-            counted = λ z. absurd (omega (arith, z, t .0, some-number why));
             refused = λ f. record { count = t .2; state = refl; records = refl; answers = refl };
+            accepted = λ z. absurd (omega (arith, z, t .0, some-number why));
             within = record { state = refl; records = refl; answers = refl };
           })
       by Passed e =
@@ -351,8 +351,8 @@ module _ (file state records answers : List ℕ) where
           rw (run-to-as-checked Passed e)
           (record {
             numbered = omega (arith, code);
-            counted = λ z. t .count;
             refused = λ f. absurd (f code);
+            accepted = λ z. record { state = image-is-read-back (run .state) (ended e .1); count = t .count; records = refl; answers = refl };
             within = record { state = image-length (run .state) (ended e .1) ∙ sym (run-to-decides .passed .0 e .1); records = within .0; answers = within .1 };
           })
 
@@ -464,6 +464,13 @@ module _ (state inputs r a : List ℕ) (is : isImage state ≡ true) where
         answers = rw (c, d) (f .answers);
       }
 
+  image-ran : RanAs w (houseChange state inputs r a)
+  unfolding imaged
+  image-ran =
+      let c = an-image-is-changed state inputs r a is in
+      let eight = a-change-keeps (stateIn state) inputs r a (accepted-is-sound state is) .2 ∙ read-scenes-are-eight state in
+      record { state = rw c (image-is-read-back (w .report .state) eight); count = the-change-number-is-taken-apart state inputs r a is .count; records = rw c refl; answers = rw c refl }
+
   image-within : Within state r a (houseChange state inputs r a)
   unfolding imaged
   image-within =
@@ -483,6 +490,7 @@ house-change-is-answered state inputs r a = by (isImage state) refl
           numbered = inr (inl (t .0));
           refused = λ one. (t .1, record { count = t .2; state = refl; records = refl; answers = refl });
           stopped = λ one. absurd (no-two-codes 9 (inl refl) (inr (rw (t .0) at one)));
+          accepted = λ z. absurd (omega (arith, z, t .0));
           within = record { state = refl; records = refl; answers = refl };
         })
     by true e =
@@ -491,6 +499,7 @@ house-change-is-answered state inputs r a = by (isImage state) refl
           numbered = rw (t .code) (image-numbered state inputs r a e);
           refused = λ one. image-refused state inputs r a e (rw (t .code) at one);
           stopped = λ one. rw (t .place) (image-stopped state inputs r a e (rw (t .code) at one));
+          accepted = λ z. image-ran state inputs r a e;
           within = image-within state inputs r a e;
         }
 

@@ -13,9 +13,10 @@ use Rattle.base.specs.Refusals.{Only, Then, Codes, Timely}
 use Rattle.rules.specs.Files.{inputCount, cueAt}
 use Rattle.rules.specs.Refusals.{FoundWhen, GoodParameters, GivenWhen, GoodFile, RoomFor, GoodGroups, InputsWhen, GoodInputs}
 use Rattle.rules.specs.Layout.{formAlone, inputPlace, recordPlace}
-use Rattle.rules.specs.Calls.{moveCall}
-use Rattle.rules.specs.Runs.{runCall, packing}
-use Rattle.rules.specs.Changes.{groupCount}
+use Rattle.rules.specs.declared.call.Move.{Move}
+use Rattle.rules.specs.Calls.{freshCall, moveCall}
+use Rattle.rules.specs.Runs.{recordsOctets, over, Whole, runCall, packing}
+use Rattle.rules.specs.Changes.{groupCount, changeCall}
 use Rattle.rules.specs.Images.{stateIn, isImage}
 use Rattle.rules.specs.Live.{Imaged, ImagedMove, ImagedRun, houseChange}
 use Rattle.demands.specs.Demands.{Among}
@@ -69,21 +70,28 @@ HouseChangeCodes state inputs records answers =
     (InputsWhen (cueAt inputs) inputs n clock 864_000))))
     (Image × (GoodGroups inputs × (Room × GoodInputs (cueAt inputs) inputs n clock 864_000)))
 
--- ---- demand 1: "gets a numbered answer, with no condition on the caller"; "A refused call writes nothing to the lent memory"; the count of an
--- accepted one is that of its records; what is lent keeps its length, so that nothing is written past its end
+-- ---- demand 1: "gets a numbered answer, with no condition on the caller"; "A refused call writes nothing to the lent memory"; an accepted one gives
+-- what the call by value or the run gives; what is lent keeps its length, so that nothing is written past its end
 
 -- house_fresh: 1, 5, 8
-pub record FreshAnswered (lent : List ℕ) (w : Imaged) : Type 0 where
+pub record FreshAnswered (parameters lent : List ℕ) (w : Imaged) : Type 0 where
   pub numbered : Among (codeIn (w .number)) (0 ∷ 1 ∷ 5 ∷ 8 ∷ [])
   pub counted : countIn (w .number) ≡ 0
   pub refused : (codeIn (w .number) ≡ 0 → ⊥) → w .state ≡ lent
+  pub accepted : codeIn (w .number) ≡ 0 → stateIn (w .state) ≡ freshCall parameters .state
   pub within : length (w .state) ≡ length lent
+
+-- the state, the count and the records of a clock move; what stood behind these stays
+pub record MovedAs (m : Move) (r : List ℕ) (w : ImagedMove) : Type 0 where
+  pub state : stateIn (w .state) ≡ m .state
+  pub count : countIn (w .number) ≡ m .count
+  pub records : w .records ≡ over (recordsOctets (take (m .count) (m .records))) r
 
 -- house_move: 9, 7, 8
 pub record MoveAnswered (lent : List ℕ) (stamp : ℕ) (r : List ℕ) (w : ImagedMove) : Type 0 where
   pub numbered : Among (codeIn (w .number)) (0 ∷ 9 ∷ 7 ∷ 8 ∷ [])
-  pub counted : codeIn (w .number) ≡ 0 → countIn (w .number) ≡ moveCall (stateIn lent) stamp .count
   pub refused : (codeIn (w .number) ≡ 0 → ⊥) → (countIn (w .number) ≡ 0) × (w .state ≡ lent) × (w .records ≡ r)
+  pub accepted : codeIn (w .number) ≡ 0 → MovedAs (moveCall (stateIn lent) stamp) r w
   pub within : (length (w .state) ≡ length lent) × (length (w .records) ≡ length r)
 
 -- all that is lent is as it was, and no record is counted
@@ -93,6 +101,13 @@ pub record AsLent (lent r a : List ℕ) (w : ImagedRun) : Type 0 where
   pub records : w .records ≡ r
   pub answers : w .answers ≡ a
 
+-- all is that of a run or a change
+pub record RanAs (run : Whole) (w : ImagedRun) : Type 0 where
+  pub state : stateIn (w .state) ≡ run .report .state
+  pub count : countIn (w .number) ≡ run .report .count
+  pub records : w .records ≡ run .records
+  pub answers : w .answers ≡ run .answers
+
 pub record Within (lent r a : List ℕ) (w : ImagedRun) : Type 0 where
   pub state : length (w .state) ≡ length lent
   pub records : length (w .records) ≡ length r
@@ -101,8 +116,8 @@ pub record Within (lent r a : List ℕ) (w : ImagedRun) : Type 0 where
 -- house_run_to: 1 to 8
 pub record RunToAnswered (file lent r a : List ℕ) (w : ImagedRun) : Type 0 where
   pub numbered : codeIn (w .number) ≤ 8
-  pub counted : codeIn (w .number) ≡ 0 → countIn (w .number) ≡ runCall file r a .report .count
   pub refused : (codeIn (w .number) ≡ 0 → ⊥) → AsLent lent r a w
+  pub accepted : codeIn (w .number) ≡ 0 → RanAs (runCall file r a) w
   pub within : Within lent r a w
 
 -- "nothing from the refused input on": all but code and place is what the inputs before it give by themselves, and these are accepted
@@ -118,6 +133,7 @@ pub record HouseChangeAnswered (lent inputs r a : List ℕ) (w : ImagedRun) : Ty
   pub numbered : Among (codeIn (w .number)) (0 ∷ 9 ∷ 12 ∷ 8 ∷ 6 ∷ 7 ∷ [])
   pub refused : Among (codeIn (w .number)) (9 ∷ 12 ∷ 8 ∷ []) → (placeIn (w .number) ≡ 0) × AsLent lent r a w
   pub stopped : Among (codeIn (w .number)) (6 ∷ 7 ∷ []) → HouseRefusedFrom lent inputs r a (placeIn (w .number)) w
+  pub accepted : codeIn (w .number) ≡ 0 → RanAs (changeCall (stateIn lent) inputs r a) w
   pub within : Within lent r a w
 
 -- ---- a change from C, cut in two
