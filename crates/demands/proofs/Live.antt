@@ -1,5 +1,5 @@
 -- The live calls from C: refused exactly when the table says, answered whatever is lent, and what they leave is an image again.
-use Prim.Native.Nat.{ℕ, _+_, _/_, _%_, _^_, _≤_, _<_}
+use Prim.Native.Nat.{ℕ, _+_, _%_, _≤_, _<_}
 use mathlib.Core.Bool.{Bool, true, false, cond}
 use mathlib.Core.List.{List, [], _∷_, _++_}
 use mathlib.Core.Logic.{_↔_, inl, inr, ⊎-elim}
@@ -20,7 +20,7 @@ use Rattle.rules.specs.Parameters.{scenesOf, checkAlone}
 use Rattle.rules.specs.declared.state.State.{State}
 use Rattle.rules.specs.declared.call.Move.{Move}
 use Rattle.rules.specs.declared.call.Ran.{Ran}
-use Rattle.rules.specs.Steps.{fresh, clockMove}
+use Rattle.rules.specs.Steps.{fresh}
 use Rattle.rules.specs.Lists.{Cue}
 use Rattle.rules.specs.Soundness.{sound}
 use Rattle.rules.specs.Calls.{noScenes, ownState, freshBy, freshCall, moveDone, moveRefused, moveCall}
