@@ -1,10 +1,12 @@
 -- A whole scene change: cut in two anywhere it is the two changes one after the other, and a refused input leaves no trace.
-use Prim.Native.Nat.{ℕ, zero, suc, _+_, _*_, _-_, _/_, _%_, _≤_, _<_}
+use Prim.Native.Nat.{ℕ, zero, suc, _+_, _*_, _-_, _%_, _≤_, _<_}
 use mathlib.Core.Bool.{Bool, true, false, cond}
 use mathlib.Core.List.{List, [], _∷_, _++_, append-assoc, append-nil}
+use mathlib.Core.Logic.{inl, inr}
+use mathlib.Core.Option.{Option}
 use mathlib.Core.Path.{_≡_, refl, sym, ap, _∙_}
 use native.Mathlib.Omega.{arith}
-use lib.ListN.{length, take, drop, length-append, length-drop, length-take, take-append-drop}
+use lib.ListN.{length, take, drop, length-append, length-drop, length-take, take-append-drop, replicate}
 use lib.Seq.{take-at, take-all, drop-at, drop-drop}
 use lib.Dec.{eqb}
 use borrow.Author.Tests.{eqb-true, eqb-false, ne-eqb}
@@ -14,31 +16,38 @@ use Rattle.rules.specs.declared.parameters.Scene.{Scene}
 use Rattle.rules.specs.declared.input.Input.{Input}
 use Rattle.rules.specs.declared.input.Input.the-variants.{SwitchOnOff, TimedStartStop, NumberedSceneControl, SwitchOnOffForced, LockDevice, NightMode, Bus, Power}
 use Rattle.base.specs.declared.refusal.Refusal.{Refusal}
-use Rattle.base.specs.declared.refusal.Refusal.the-variants.{ShortBuffer, UnsoundState, WrongGroups}
+use Rattle.base.specs.declared.refusal.Refusal.the-variants.{BadInput, BadStamp, ShortBuffer, UnsoundState, WrongGroups}
 use Rattle.base.specs.declared.refusal.Check.the-variants.{Passed, Refused}
+use Rattle.base.specs.Time.{lastStamp}
 use Rattle.base.specs.Refusals.{number}
+use Rattle.base.proofs.Codes.{some-number}
 use Rattle.base.proofs.Tests.{either-way}
 use Rattle.rules.specs.Phases.{output}
 use Rattle.rules.specs.Scenes.{learnt}
 use Rattle.rules.specs.Said.{scenesAfter}
-use Rattle.rules.specs.Steps.{clockMove}
-use Rattle.rules.specs.Files.{lentFor}
+use Rattle.rules.specs.Steps.{clockMove, step}
+use Rattle.rules.specs.Readings.{Reading, cues, verdict, readInputs}
+use Rattle.rules.specs.Files.{cueAt, lentFor}
 use Rattle.rules.proofs.Laws.Orders.{order-leaves}
-use Rattle.rules.proofs.Laws.Soundness.{move-keeps, step-case}
+use Rattle.rules.proofs.Laws.Soundness.{move-keeps, step-case, step-clock}
 use Rattle.rules.specs.declared.call.Single.{Single}
 use Rattle.rules.specs.Layout.{inputPlace}
-use Rattle.rules.specs.Lists.{Played, andThen, unplayed}
+use Rattle.rules.specs.Lists.{Cue, Played, andThen, unplayed, plays}
 use Rattle.rules.specs.Calls.{singleCall, singleDone, singleRefused}
 use Rattle.rules.specs.Soundness.{sound}
 use Rattle.rules.specs.Runs.{recordsOctets, over, Whole}
-use Rattle.rules.specs.Refusals.{GoodGroups, RoomFor}
+use Rattle.rules.specs.Refusals.{stampBefore, InputsWhen, GoodGroups, RoomFor}
 use Rattle.rules.specs.Changes.{groups, groupCount, groupsIn, Singles, singlePlayed, thenOthers, stopped, goesOn, singles, groupsFit, checkChange, changed, changeBy, changeCall}
+use Rattle.rules.proofs.Laws.Lists.{andThen-from}
 use Rattle.rules.proofs.Laws.Records.{an-input-writes-at-most-three}
-use Rattle.rules.proofs.Refusals.Calls.{SingleFinds, not-sound, wrong, untimely, plays, single-finds, single-refusal-changes-nothing, single-call-keeps-sound, single-call-keeps-version}
+use Rattle.rules.proofs.Refusals.Calls.{SingleFinds, single-finds, single-refusal-changes-nothing, single-call-keeps-sound, single-call-keeps-version}
+use Rattle.rules.proofs.Refusals.Readings.{inputs-decide}
+use Rattle.rules.proofs.Refusals.Files.{first-cue}
 use Rattle.rules.proofs.Refusals.Runs.{records-length, records-append, room-exactly-when}
-use Rattle.rules.proofs.Refusals.Changes.{step-played, groups-exactly-when}
-use Rattle.demands.specs.Changes.{thenSingles, joinedAfter, recordsLeft, answersLeft, oneThenTheOther, RefusedFrom}
-use Rattle.demands.proofs.Meets.{over-length}
+use Rattle.rules.proofs.Refusals.Changes.{step-played, groups-exactly-when, ends, changeRead, all-are-played, played-up-to}
+use Rattle.demands.specs.Changes.{thenSingles, joinedAfter, recordsLeft, answersLeft, oneThenTheOther, Part, GoodPart, GoodParts, inputsOf, changeOf, changePlayed, inParts, NoPartRefused, RefusedFrom, NothingPlayed, ChangeAnswered, reach, CameTo}
+use Rattle.demands.specs.Demands.{Among}
+use Rattle.demands.proofs.Meets.{over-length, records-read-back}
 
 -- ---- single inputs, one part and then the other
 
@@ -67,28 +76,62 @@ one-part-then-the-other i (octets ∷ xs) ys s =
         go true e = ap (λ (c : Singles). thenOthers (singlePlayed r) (λ x. c)) rest ∙ then-in-turn (singlePlayed r) (singles (i + 1) xs (r .state)) (singles (i + suc (length xs)) ys)
         go false e = rw e
 
--- ---- the place of a refused input
+-- ---- how far they come
 
--- none was refused, and the place is 0; or one was, among these
+single-few : (s : State) (octets : List ℕ) → length (singlePlayed (singleCall s octets) .records) ≤ 3
+single-few s octets = by (single-finds s octets)
+  where
+    by : {r : Single} → SingleFinds s octets r → length (singlePlayed r .records) ≤ 3
+    by (SingleFinds.not-sound h) = unfold singleRefused in omega arith
+    by (SingleFinds.wrong h m) = unfold singleRefused in omega arith
+    by (SingleFinds.untimely x h m t) = unfold singleRefused in omega arith
+    by (SingleFinds.plays x h m t) = let e = ap (λ (p : Played). length (p .records)) (step-played s x (stampAt octets 0)) in omega (arith, e, an-input-writes-at-most-three s x (stampAt octets 0))
+
+-- none was refused, and the place is 0; or one was, after m of these, and the place is its index. An answer for each that was played, and at most three records.
 pub data Ended (i n : ℕ) : Singles → Type 0 where
-  none-refused : (p : Played) → Ended i n (record { played = p; code = 0; place = 0 })
-  one-refused : (p : Played) (code place : ℕ) → (code ≡ 0 → ⊥) → i ≤ place → place < i + n → Ended i n (record { played = p; code = code; place = place })
+  none-refused : (p : Played) → length (p .answers) ≡ n → length (p .records) ≤ 3 * n → Ended i n (record { played = p; code = 0; place = 0 })
+  one-refused : (p : Played) (code place m : ℕ) → (code ≡ 0 → ⊥) → place ≡ i + m → m < n → length (p .answers) ≡ m → length (p .records) ≤ 3 * m → Ended i n (record { played = p; code = code; place = place })
 
-later-ended : {i n : ℕ} {c : Singles} (a : Played) → Ended (i + 1) n c → Ended i (suc n) (thenOthers a (λ x. c))
-later-ended a (none-refused p) = none-refused (andThen a (λ x. p))
-later-ended a (one-refused p code place bad low high) = one-refused (andThen a (λ x. p)) code place bad (omega arith) (omega arith)
+later-ended : {i n : ℕ} {c : Singles} (r : Single) → length (singlePlayed r .records) ≤ 3 → Ended (i + 1) n c → Ended i (suc n) (thenOthers (singlePlayed r) (λ x. c))
+later-ended r three (none-refused p each few) = none-refused (andThen (singlePlayed r) (λ x. p)) (ap suc each) (rw length-append (omega (arith, three, few)))
+later-ended r three (one-refused p code place m bad at less each few) =
+    one-refused (andThen (singlePlayed r) (λ x. p)) code place (suc m) bad (omega arith) (omega arith) (ap suc each) (rw length-append (omega (arith, three, few)))
 
 pub singles-end : (i : ℕ) (xs : List (List ℕ)) (s : State) → Ended i (length xs) (singles i xs s)
 unfolding singles goesOn
-singles-end i [] s = none-refused (unplayed s)
-singles-end i (octets ∷ xs) s = by (singleCall s octets) (singles-end (i + 1) xs (singleCall s octets .state))
+singles-end i [] s = none-refused (unplayed s) refl (omega arith)
+singles-end i (octets ∷ xs) s = by (singleCall s octets) (single-few s octets) (singles-end (i + 1) xs (singleCall s octets .state))
   where
-    by : (r : Single) → Ended (i + 1) (length xs) (singles (i + 1) xs (r .state)) → Ended i (suc (length xs)) (goesOn r i (singles (i + 1) xs))
-    by r rest = go (eqb (r .code) 0) refl
+    by : (r : Single) → length (singlePlayed r .records) ≤ 3 → Ended (i + 1) (length xs) (singles (i + 1) xs (r .state)) → Ended i (suc (length xs)) (goesOn r i (singles (i + 1) xs))
+    by r three rest = go (eqb (r .code) 0) refl
       where
         go : (b : Bool) → eqb (r .code) 0 ≡ b → Ended i (suc (length xs)) (cond b (thenOthers (singlePlayed r) (singles (i + 1) xs)) (stopped (r .state) (r .code) i))
-        go true e = later-ended (singlePlayed r) rest
-        go false e = one-refused (unplayed (r .state)) (r .code) i (eqb-false (r .code) 0 e) (omega arith) (omega arith)
+        go true e = later-ended r three rest
+        go false e = one-refused (unplayed (r .state)) (r .code) i 0 (eqb-false (r .code) 0 e) (omega arith) (omega arith) refl (omega arith)
+
+-- an answer for each, where none is refused
+pub an-answer-for-each : (i : ℕ) (xs : List (List ℕ)) (s : State) → singles i xs s .code ≡ 0 → length (singles i xs s .played .answers) ≡ length xs
+an-answer-for-each i xs s = by (singles-end i xs s)
+  where
+    by : {c : Singles} → Ended i (length xs) c → c .code ≡ 0 → length (c .played .answers) ≡ length xs
+    by (none-refused p each few) good = each
+    by (one-refused p code place m bad at less each few) good = absurd (bad good)
+
+-- where one is refused, as many answers as its index says
+pub as-many-answers-as-the-place : (xs : List (List ℕ)) (s : State) → (singles 0 xs s .code ≡ 0 → ⊥) → length (singles 0 xs s .played .answers) ≡ singles 0 xs s .place
+as-many-answers-as-the-place xs s = by (singles-end 0 xs s)
+  where
+    by : {c : Singles} → Ended 0 (length xs) c → (c .code ≡ 0 → ⊥) → length (c .played .answers) ≡ c .place
+    by (none-refused p each few) bad = absurd (bad refl)
+    by (one-refused p code place m bad at less each few) f = omega (arith, each, at)
+
+-- at most three records for each answer, and no more answers than inputs
+pub three-for-each : (i : ℕ) (xs : List (List ℕ)) (s : State) → (length (singles i xs s .played .records) ≤ 3 * length (singles i xs s .played .answers)) × (length (singles i xs s .played .answers) ≤ length xs)
+three-for-each i xs s = by (singles-end i xs s)
+  where
+    by : {c : Singles} → Ended i (length xs) c → (length (c .played .records) ≤ 3 * length (c .played .answers)) × (length (c .played .answers) ≤ length xs)
+    by (none-refused p each few) = (omega (arith, each, few), omega (arith, each))
+    by (one-refused p code place m bad at less each few) = (omega (arith, each, few), omega (arith, each, less))
 
 -- counted from another index, the same but for the place
 abbrev shifted : ℕ → Singles → Singles
@@ -109,43 +152,7 @@ counted-from k i (octets ∷ xs) s =
         go true e = rw rest refl
         go false e = rw e refl
 
--- ---- how much they give, and where they lead
-
-single-few : (s : State) (octets : List ℕ) → length (singlePlayed (singleCall s octets) .records) ≤ 3
-single-few s octets = by (single-finds s octets)
-  where
-    by : {r : Single} → SingleFinds s octets r → length (singlePlayed r .records) ≤ 3
-    by (not-sound h) = unfold singleRefused in omega arith
-    by (wrong h m) = unfold singleRefused in omega arith
-    by (untimely x h m t) = unfold singleRefused in omega arith
-    by (plays x h m t) = let e = ap (λ (p : Played). length (p .records)) (step-played s x (stampAt octets 0)) in omega (arith, e, an-input-writes-at-most-three s x (stampAt octets 0))
-
-singles-few : (i : ℕ) (xs : List (List ℕ)) (s : State) → length (singles i xs s .played .records) ≤ 3 * length xs
-unfolding singles goesOn
-singles-few i [] s = omega arith
-singles-few i (octets ∷ xs) s = by (singleCall s octets) (single-few s octets) (singles-few (i + 1) xs (singleCall s octets .state))
-  where
-    by : (r : Single) → length (singlePlayed r .records) ≤ 3 → length (singles (i + 1) xs (r .state) .played .records) ≤ 3 * length xs → length (goesOn r i (singles (i + 1) xs) .played .records) ≤ 3 * suc (length xs)
-    by r few rest = go (eqb (r .code) 0)
-      where
-        go : (b : Bool) → length (cond b (thenOthers (singlePlayed r) (singles (i + 1) xs)) (stopped (r .state) (r .code) i) .played .records) ≤ 3 * suc (length xs)
-        go true = rw length-append (omega (arith, few, rest))
-        go false = omega arith
-
--- an answer for each, where none is refused
-an-answer-for-each : (i : ℕ) (xs : List (List ℕ)) (s : State) → singles i xs s .code ≡ 0 → length (singles i xs s .played .answers) ≡ length xs
-unfolding singles goesOn
-an-answer-for-each i [] s good = refl
-an-answer-for-each i (octets ∷ xs) s good = by (singleCall s octets) (an-answer-for-each (i + 1) xs (singleCall s octets .state)) good
-  where
-    by : (r : Single) → (singles (i + 1) xs (r .state) .code ≡ 0 → length (singles (i + 1) xs (r .state) .played .answers) ≡ length xs) → goesOn r i (singles (i + 1) xs) .code ≡ 0 →
-        length (goesOn r i (singles (i + 1) xs) .played .answers) ≡ suc (length xs)
-    by r rest = go (eqb (r .code) 0) refl
-      where
-        go : (b : Bool) → eqb (r .code) 0 ≡ b → cond b (thenOthers (singlePlayed r) (singles (i + 1) xs)) (stopped (r .state) (r .code) i) .code ≡ 0 →
-            length (cond b (thenOthers (singlePlayed r) (singles (i + 1) xs)) (stopped (r .state) (r .code) i) .played .answers) ≡ suc (length xs)
-        go true e good = ap suc (rest good)
-        go false e good = absurd (eqb-false (r .code) 0 e good)
+-- ---- where they lead
 
 -- eight scenes stay eight
 learnt-length : (k : List Scene) (number : ℕ) (on : Bool) → length (learnt k number on) ≡ length k
@@ -171,10 +178,10 @@ single-scenes s octets = by (single-finds s octets)
     moved-scenes t = ap (λ (u : State). length (u .scenes)) (move-keeps s t)
 
     by : {r : Single} → SingleFinds s octets r → length (r .state .scenes) ≡ length (s .scenes)
-    by (not-sound h) = unfold singleRefused in refl
-    by (wrong h m) = unfold singleRefused in refl
-    by (untimely x h m t) = unfold singleRefused in refl
-    by (plays x h m t) =
+    by (SingleFinds.not-sound h) = unfold singleRefused in refl
+    by (SingleFinds.wrong h m) = unfold singleRefused in refl
+    by (SingleFinds.untimely x h m t) = unfold singleRefused in refl
+    by (SingleFinds.plays x h m t) =
         let u : ℕ = stampAt octets 0 in
         unfold singleDone in
         step-case (λ (v : State). length (v .scenes) ≡ length (s .scenes)) s x u (λ way. ap (λ (k : List Scene). length k) (order-leaves (clockMove s u .state) x .scenes) ∙ scenes-after-length (clockMove s u .state) x ∙ moved-scenes u) (moved-scenes u)
@@ -250,7 +257,7 @@ module _ (s : State) (x y r a : List ℕ) (safe : sound s ≡ true) (cut : lengt
   k-groups = groups-length k x
 
   few : length (first .played .records) ≤ 3 * k
-  few = rw k-groups at (singles-few 0 (groupsIn x) s)
+  few = let t = three-for-each 0 (groupsIn x) s in omega (arith, t .0, t .1, k-groups)
 
   one : changeCall s x r a ≡ changed first r a
   one =
@@ -317,6 +324,67 @@ module _ (s : State) (x y r a : List ℕ) (safe : sound s ≡ true) (cut : lengt
       by true e = goes-on (eqb-true (first .code) 0 e)
       by false e = stops e
 
+-- ---- cut into any number of changes
+
+-- where none is refused, none of either part is, and all is the one part and then the other
+both-parts : (xs ys : List (List ℕ)) (s : State) → singles 0 (xs ++ ys) s .code ≡ 0 → let then : State = singles 0 xs s .played .state in
+    (singles 0 xs s .code ≡ 0) × (singles 0 ys then .code ≡ 0) × (singles 0 (xs ++ ys) s .played ≡ andThen (singles 0 xs s .played) (λ u. singles 0 ys u .played))
+both-parts xs ys s passed = by (eqb (singles 0 xs s .code) 0) refl
+  where
+    z : length xs + 0 ≡ 0 + length xs
+    z = omega arith
+
+    counted : singles (0 + length xs) ys (singles 0 xs s .played .state) ≡ shifted (length xs) (singles 0 ys (singles 0 xs s .played .state))
+    counted = rw z at (counted-from (length xs) 0 ys (singles 0 xs s .played .state))
+
+    by : (b : Bool) → eqb (singles 0 xs s .code) 0 ≡ b → let then : State = singles 0 xs s .played .state in
+        (singles 0 xs s .code ≡ 0) × (singles 0 ys then .code ≡ 0) × (singles 0 (xs ++ ys) s .played ≡ andThen (singles 0 xs s .played) (λ u. singles 0 ys u .played))
+    by true e =
+        let all : singles 0 (xs ++ ys) s ≡ thenOthers (singles 0 xs s .played) (λ u. shifted (length xs) (singles 0 ys u)) = one-part-then-the-other 0 xs ys s ∙ rw (e, counted) refl in
+        (eqb-true _ 0 e, sym (ap (λ (c : Singles). c .code) all) ∙ passed, ap (λ (c : Singles). c .played) all)
+    by false e =
+        let all : singles 0 (xs ++ ys) s ≡ singles 0 xs s = one-part-then-the-other 0 xs ys s ∙ rw e refl in
+        absurd (eqb-false _ 0 e (sym (ap (λ (c : Singles). c .code) all) ∙ passed))
+
+first-of-over : (xs b : List ℕ) (n : ℕ) → length xs ≡ n → take n (over xs b) ≡ xs
+unfolding over
+first-of-over xs b n e = take-at xs (drop (length xs) b) n e
+
+-- a part whose single inputs are not refused is accepted, and plays them
+part-played : (s : State) (p : Part) → sound s ≡ true → GoodPart p → singles 0 (groupsIn (p .inputs)) s .code ≡ 0 → (changeOf s p .report .code ≡ 0) × (changePlayed p (changeOf s p) ≡ singles 0 (groupsIn (p .inputs)) s .played)
+unfolding changed groupsIn
+part-played s p safe good passed =
+    let c : Singles = singles 0 (groupsIn (p .inputs)) s in
+    let n : length (c .played .answers) ≡ groupCount (p .inputs) = an-answer-for-each 0 (groupsIn (p .inputs)) s passed ∙ groups-length (groupCount (p .inputs)) (p .inputs) in
+    rw (a-change-is-the-single-inputs s (p .inputs) (p .records) (p .answers) safe (good .groups) (good .room))
+    (passed, rw (first-of-over (c .played .answers) (p .answers) (groupCount (p .inputs)) n, records-read-back (c .played .records) (p .records)) refl)
+
+-- whole groups can be cut so: one in each part is one way
+pub there-is-a-cut : (n : ℕ) (octets : List ℕ) → length octets ≡ 8 * n → (parts : List Part) × GoodParts parts × (inputsOf parts ≡ octets)
+there-is-a-cut zero [] e = ([], tt, refl)
+there-is-a-cut zero (x ∷ octets) e = absurd (omega arith)
+there-is-a-cut (suc n) octets e =
+    let (parts, good, whole) = there-is-a-cut n (drop 8 octets) (length-drop 8 octets ∙ omega arith) in
+    let one : Part = record { inputs = take 8 octets; records = replicate 48 0; answers = replicate 1 0 } in
+    let eight : length (take 8 octets) ≡ 8 = length-take 8 octets ∙ omega arith in
+    let fits : GoodPart one = record { groups = record { whole = omega (arith, eight); few = omega (arith, eight) }; room = record { wide = omega (arith, eight); long = omega (arith, eight) } } in
+    (one ∷ parts, (fits, good), rw whole (take-append-drop 8 octets))
+
+-- Single inputs of which none is refused, cut anywhere into changes: none of these is refused, and one after the other they play the same.
+pub in-parts : (parts : List Part) (s : State) → GoodParts parts → sound s ≡ true → singles 0 (groupsIn (inputsOf parts)) s .code ≡ 0 →
+    NoPartRefused parts s × (inParts parts s ≡ singles 0 (groupsIn (inputsOf parts)) s .played)
+unfolding inParts
+in-parts [] s good safe passed = (tt, unfold groupsIn groups singles in refl)
+in-parts (p ∷ later) s good safe passed =
+    let xs : List (List ℕ) = groupsIn (p .inputs) in
+    let cut = groups-of-both (p .inputs) (inputsOf later) (good .0 .groups .whole) in
+    let both = both-parts xs (groupsIn (inputsOf later)) s (rw cut at passed) in
+    let here = part-played s p safe (good .0) (both .0) in
+    let rest = in-parts later (singles 0 xs s .played .state) (good .1) (singles-keep 0 xs s safe .0) (both .1) in
+    let next : changeOf s p .report .state ≡ singles 0 xs s .played .state = ap (λ (q : Played). q .state) (here .1) in
+    let same = ap (λ (q : Played). andThen q (inParts later)) (here .1) ∙ andThen-from (singles 0 xs s .played) (inParts later) (λ u. singles 0 (groupsIn (inputsOf later)) u .played) (rest .1) in
+    ((here .0, rw next (rest .0)), same ∙ sym (both .2) ∙ ap (λ (gs : List (List ℕ)). singles 0 gs s .played) (sym cut))
+
 -- ---- a refused input leaves no trace
 
 -- where the very first is refused, nothing was played
@@ -330,8 +398,8 @@ first-refused i (octets ∷ xs) s bad at = by (singleCall s octets) (λ f. ap (�
     by r back rest = go (eqb (r .code) 0) refl
       where
         after : {c : Singles} → Ended (i + 1) (length xs) c → (c .code ≡ 0 → ⊥) → c .place ≡ i → ⊥
-        after (none-refused p) f e = f refl
-        after (one-refused p code place f low high) g e = omega arith
+        after (none-refused p each few) f e = f refl
+        after (one-refused p code place m f at less each few) g e = omega arith
 
         go : (b : Bool) → eqb (r .code) 0 ≡ b → (cond b (thenOthers (singlePlayed r) (singles (i + 1) xs)) (stopped (r .state) (r .code) i) .code ≡ 0 → ⊥) →
             cond b (thenOthers (singlePlayed r) (singles (i + 1) xs)) (stopped (r .state) (r .code) i) .place ≡ i →
@@ -345,10 +413,10 @@ up-to : (xs ys : List (List ℕ)) (s : State) → (singles 0 (xs ++ ys) s .code 
 up-to xs ys s bad at = by (singles 0 xs s) (singles-end 0 xs s) (one-part-then-the-other 0 xs ys s)
   where
     by : (a : Singles) → Ended 0 (length xs) a → singles 0 (xs ++ ys) s ≡ thenSingles a (singles (0 + length xs) ys) → (a .code ≡ 0) × (singles 0 (xs ++ ys) s .played ≡ a .played)
-    by a (one-refused p code place f low high) e =
+    by a (one-refused p code place m f here less each few) e =
         let stop = ne-eqb code 0 f in
-        absurd (let there = rw (e, stop) at at in omega (arith, there, high))
-    by a (none-refused p) e =
+        absurd (let there = rw (e, stop) at at in omega (arith, there, here, less))
+    by a (none-refused p each few) e =
         let z : 0 + length xs ≡ length xs = omega arith in
         let f = rw (e, z) at bad in
         let there = rw (e, z) at at in
@@ -371,8 +439,8 @@ module _ (s : State) (inputs r a : List ℕ) (safe : sound s ≡ true) (good : G
     within = by (singles-end 0 (groupsIn inputs) s) bad
       where
         by : {c : Singles} → Ended 0 (length (groupsIn inputs)) c → (c .code ≡ 0 → ⊥) → c .place < groupCount inputs
-        by (none-refused q) f = absurd (f refl)
-        by (one-refused q code place f low high) g = omega (arith, high, groups-length (groupCount inputs) inputs)
+        by (none-refused q each few) f = absurd (f refl)
+        by (one-refused q code place m f at less each few) g = omega (arith, at, less, groups-length (groupCount inputs) inputs)
 
     before-length : length before ≡ 8 * p
     before-length = length-take (8 * p) inputs ∙ omega (arith, within, good .whole)
@@ -407,37 +475,144 @@ module _ (s : State) (inputs r a : List ℕ) (safe : sound s ≡ true) (good : G
           answers = rw (all, alone, same .1) refl;
         }
 
-  -- "At a refused input it stops: what went before stands in state and buffers (demand 1 then holds from that input on)"
-  pub refused-from-that-input-on : (changeCall s inputs r a .report .code ≡ 0 → ⊥) → RefusedFrom s inputs r a (changeCall s inputs r a .report .place)
-  unfolding changed
-  refused-from-that-input-on bad = let all = a-change-is-the-single-inputs s inputs r a safe good room in rw all (stands (rw all at bad))
-
 -- ---- of every change, whatever it is refused for
 
+-- the clock that playing leads to: the stamp of the last input that was read
+read-clock : (inputs : List ℕ) (left i from : ℕ) (s : State) (list : List Cue) → s .clock ≡ stampBefore inputs from i → readInputs (cueAt inputs) inputs left i (s .clock) lastStamp ≡ cues list →
+    plays list s .state .clock ≡ stampBefore inputs from (i + left)
+unfolding plays
+read-clock inputs zero i from s list here read = let none : list ≡ [] = unfold readInputs in cc in let e : i + 0 ≡ i = omega arith in rw (none, e) here
+read-clock inputs (suc left) i from s list here read =
+    let f = first-cue inputs left i (s .clock) lastStamp list read in
+    let u : ℕ = stampAt inputs (inputPlace i) in
+    let clock = step-clock s (f .input) u in
+    let next : u ≡ stampBefore inputs from (i + 1) = let e : i + 1 ≡ suc i = omega arith in rw e refl in
+    let e : i + suc left ≡ i + 1 + left = omega arith in
+    rw (f .starts, e) (read-clock inputs left (i + 1) from (step s (f .input) u .state) (f .later) (clock ∙ next) (rw clock (f .reads)))
+
+clock-of-the-last : (inputs : List ℕ) (n : ℕ) (s : State) (list : List Cue) → readInputs (cueAt inputs) inputs n 0 (s .clock) lastStamp ≡ cues list → plays list s .state .clock ≡ stampBefore inputs (s .clock) n
+clock-of-the-last inputs n s list read = let z : 0 + n ≡ n = omega arith in rw z at (read-clock inputs n 0 (s .clock) s list refl read)
+
+-- an input is refused with 6 or 7
+met-with : {A : Type 0} (at : ℕ → Option A) (inputs : List ℕ) (n from to : ℕ) (why : Refusal) (p : ℕ) → InputsWhen at inputs n from to why p → Among (number why) (6 ∷ 7 ∷ [])
+met-with at inputs n from to BadInput p g = inl refl
+met-with at inputs n from to BadStamp p g = inr (inl refl)
+
+-- the codes of a change as a whole and those of an input are apart
+under-8 : (code : ℕ) → Among code (0 ∷ 6 ∷ 7 ∷ []) → code < 8
+under-8 code (inl a) = omega arith
+under-8 code (inr (inl a)) = omega arith
+under-8 code (inr (inr (inl a))) = omega arith
+
+pub no-two-codes : (code : ℕ) → Among code (9 ∷ 12 ∷ 8 ∷ []) → Among code (0 ∷ 6 ∷ 7 ∷ []) → ⊥
+no-two-codes code (inl a) other = omega (arith, under-8 code other)
+no-two-codes code (inr (inl a)) other = omega (arith, under-8 code other)
+no-two-codes code (inr (inr (inl a))) other = omega (arith, under-8 code other)
+
+some-code : (code : ℕ) → Among code (6 ∷ 7 ∷ []) → code ≡ 0 → ⊥
+some-code code (inl a) e = omega arith
+some-code code (inr (inl a)) e = omega arith
+
 module _ (s : State) (inputs r a : List ℕ) where
-  by-check : (P : Whole → Type 0) → (GoodGroups inputs → P (changed (singles 0 (groupsIn inputs) s) r a)) → ((why : Refusal) → P (record { report = record { state = s; code = number why; place = 0; count = 0 }; records = r; answers = a })) → P (changeCall s inputs r a)
+  by-check : (P : Whole → Type 0) → (sound s ≡ true → GoodGroups inputs → RoomFor (groupCount inputs) r a → P (changed (singles 0 (groupsIn inputs) s) r a)) →
+      ((why : Refusal) → Among (number why) (9 ∷ 12 ∷ 8 ∷ []) → P (record { report = record { state = s; code = number why; place = 0; count = 0 }; records = r; answers = a })) → P (changeCall s inputs r a)
   unfolding changeCall changeBy checkChange
-  by-check P f g = by (sound s) (groupsFit inputs) (lentFor (groupCount inputs) r a) refl
+  by-check P f g = by (sound s) (groupsFit inputs) (lentFor (groupCount inputs) r a) refl refl refl
     where
-      by : (b c d : Bool) → groupsFit inputs ≡ c → P (changeBy (cond b (cond c (cond d Passed (Refused ShortBuffer 0)) (Refused WrongGroups 0)) (Refused UnsoundState 0)) s inputs r a)
-      by false c d e = g UnsoundState
-      by true false d e = g WrongGroups
-      by true true false e = g ShortBuffer
-      by true true true e = f (groups-exactly-when inputs .0 e)
+      by : (b c d : Bool) → sound s ≡ b → groupsFit inputs ≡ c → lentFor (groupCount inputs) r a ≡ d → P (changeBy (cond b (cond c (cond d Passed (Refused ShortBuffer 0)) (Refused WrongGroups 0)) (Refused UnsoundState 0)) s inputs r a)
+      by false c d safe e room = g UnsoundState (inl refl)
+      by true false d safe e room = g WrongGroups (inr (inl refl))
+      by true true false safe e room = g ShortBuffer (inr (inr (inl refl)))
+      by true true true safe e room = f safe (groups-exactly-when inputs .0 e) (room-exactly-when (groupCount inputs) r a .0 room)
+
+  -- all of them are played; or one is met that 6 or 7 is given for, and those before it are played. The clock is the stamp of the last one played.
+  data Met : Singles → Type 0 where
+    all-played : (p : Played) → p .state .clock ≡ stampBefore inputs (s .clock) (groupCount inputs) → Met (ends p 0 0)
+    one-met : (p : Played) (why : Refusal) (place : ℕ) → Among (number why) (6 ∷ 7 ∷ []) → p .state .clock ≡ stampBefore inputs (s .clock) place → Met (ends p (number why) place)
+
+  singles-met : sound s ≡ true → Met (singles 0 (groupsIn inputs) s)
+  unfolding changeRead
+  singles-met safe = by (changeRead s inputs (groupCount inputs)) refl
+    where
+      by : (x : Reading Cue) → changeRead s inputs (groupCount inputs) ≡ x → Met (singles 0 (groupsIn inputs) s)
+      by (cues list) e = rw (all-are-played s inputs safe list e) (all-played (plays list s) (clock-of-the-last inputs (groupCount inputs) s list e))
+      by (Reading.bad why place) e =
+          let (list, read, said) = played-up-to s inputs safe why place e in
+          let given = inputs-decide (cueAt inputs) inputs (groupCount inputs) (s .clock) lastStamp .refused why place .0 (ap verdict e) in
+          rw said (one-met (plays list s) why place (met-with _ _ _ _ _ why place given) (clock-of-the-last inputs place s list read))
+
+  -- Every change gets a numbered answer. Refused with 9, 12 or 8 it leaves state and buffers as they were; with 6 or 7 it leaves what the inputs before give.
+  pub every-change-is-answered : ChangeAnswered s inputs r a (changeCall s inputs r a)
+  unfolding changed
+  every-change-is-answered =
+      by-check (ChangeAnswered s inputs r a) (λ safe good room. played (singles-met safe) (stands s inputs r a safe good room)) (λ why one. inr (inl (one, record { state = refl; place = refl; count = refl; records = refl; answers = refl })))
+    where
+      played : {c : Singles} → Met c → ((c .code ≡ 0 → ⊥) → RefusedFrom s inputs r a (c .place)) → ChangeAnswered s inputs r a (changed c r a)
+      played (all-played p clock) from = inl refl
+      played (one-met p why place one clock) from = inr (inr (one, from (λ e. omega (arith, some-number why, e))))
+
+  -- by the code: 9, 12 and 8 leave all as it was
+  pub refused-as-a-whole : Among (changeCall s inputs r a .report .code) (9 ∷ 12 ∷ 8 ∷ []) → NothingPlayed s r a (changeCall s inputs r a)
+  refused-as-a-whole one = by every-change-is-answered
+    where
+      by : ChangeAnswered s inputs r a (changeCall s inputs r a) → NothingPlayed s r a (changeCall s inputs r a)
+      by (inl e) = absurd (no-two-codes (changeCall s inputs r a .report .code) one (inl e))
+      by (inr (inl whole)) = whole .1
+      by (inr (inr input)) = absurd (no-two-codes (changeCall s inputs r a .report .code) one (inr (input .0)))
+
+  -- "At a refused input it stops: what went before stands in state and buffers (demand 1 then holds from that input on)": 6 and 7
+  pub refused-from-that-input-on : Among (changeCall s inputs r a .report .code) (6 ∷ 7 ∷ []) → RefusedFrom s inputs r a (changeCall s inputs r a .report .place)
+  refused-from-that-input-on one = by every-change-is-answered
+    where
+      by : ChangeAnswered s inputs r a (changeCall s inputs r a) → RefusedFrom s inputs r a (changeCall s inputs r a .report .place)
+      by (inl e) = absurd (some-code (changeCall s inputs r a .report .code) one e)
+      by (inr (inl whole)) = absurd (no-two-codes (changeCall s inputs r a .report .code) (whole .0) (inr one))
+      by (inr (inr input)) = input .1
+
+  -- How far it came, accepted or refused: as many answers as it played inputs, no more than three records for each of them, and the clock of the last one.
+  pub how-far-a-change-came : CameTo s inputs r a (changeCall s inputs r a) (reach inputs (changeCall s inputs r a))
+  unfolding changed groupsIn
+  how-far-a-change-came =
+      by-check (λ w. CameTo s inputs r a w (reach inputs w))
+      (λ safe good room. came (singles-met safe) (an-answer-for-each 0 (groupsIn inputs) s) (as-many-answers-as-the-place (groupsIn inputs) s) (three-for-each 0 (groupsIn inputs) s))
+      (λ why one. nothing why)
+    where
+      came : {c : Singles} → Met c → (c .code ≡ 0 → length (c .played .answers) ≡ length (groupsIn inputs)) → ((c .code ≡ 0 → ⊥) → length (c .played .answers) ≡ c .place) → (length (c .played .records) ≤ 3 * length (c .played .answers)) × (length (c .played .answers) ≤ length (groupsIn inputs)) →
+          CameTo s inputs r a (changed c r a) (reach inputs (changed c r a))
+      came (all-played p clock) each place few =
+          let n : length (p .answers) ≡ groupCount inputs = each refl ∙ groups-length (groupCount inputs) inputs in
+          record { within = omega arith; answers = (p .answers, n, refl); records = (p .records, refl, refl); few = omega (arith, n, few .0); clock = clock }
+      came (one-met p why place one clock) each m few =
+          let bad : number why ≡ 0 → ⊥ = λ e. omega (arith, some-number why, e) in
+          let n = m bad in
+          rw (ne-eqb (number why) 0 bad) (record { within = omega (arith, n, few .1, groups-length (groupCount inputs) inputs); answers = (p .answers, n, refl); records = (p .records, refl, refl); few = omega (arith, n, few .0); clock = clock })
+
+      nothing : (why : Refusal) → let w : Whole = record { report = record { state = s; code = number why; place = 0; count = 0 }; records = r; answers = a } in CameTo s inputs r a w (reach inputs w)
+      nothing why =
+          let bad : number why ≡ 0 → ⊥ = λ e. omega (arith, some-number why, e) in
+          rw (ne-eqb (number why) 0 bad) (record { within = omega arith; answers = ([], refl, unfold over in refl); records = ([], refl, unfold over recordsOctets in refl); few = omega arith; clock = refl })
+
+  -- what is lent keeps its length, so that nothing is written past its end
+  pub a-change-stays-within : (length (changeCall s inputs r a .records) ≡ length r) × (length (changeCall s inputs r a .answers) ≡ length a)
+  unfolding changed groupsIn
+  a-change-stays-within =
+      by-check (λ w. (length (w .records) ≡ length r) × (length (w .answers) ≡ length a))
+      (λ safe good room. let c : Singles = singles 0 (groupsIn inputs) s in let t = three-for-each 0 (groupsIn inputs) s in let n = groups-length (groupCount inputs) inputs in (over-length _ r (omega (arith, records-length (c .played .records), t .0, t .1, n, room .wide)), over-length _ a (omega (arith, t .1, n, room .long))))
+      (λ why one. (refl, refl))
 
   -- the state that comes back is sound where the given one is, and has its parameters, and so its version, and its eight scenes
   pub a-change-keeps : sound s ≡ true → Kept s (changeCall s inputs r a .report .state)
   unfolding changed
-  a-change-keeps safe = by-check (λ (w : Whole). Kept s (w .report .state)) (λ good. singles-keep 0 (groupsIn inputs) s safe) (λ why. (safe, refl, refl))
+  a-change-keeps safe = by-check (λ (w : Whole). Kept s (w .report .state)) (λ h good room. singles-keep 0 (groupsIn inputs) s safe) (λ why one. (safe, refl, refl))
 
   -- place and count have room in the number for C
   pub a-change-is-narrow : (changeCall s inputs r a .report .place < 65_536) × (changeCall s inputs r a .report .count < 4_294_967_296)
   unfolding changed groupsIn
-  a-change-is-narrow = by-check (λ (w : Whole). (w .report .place < 65_536) × (w .report .count < 4_294_967_296)) (λ good. (place good (singles-end 0 (groupsIn inputs) s), omega (arith, singles-few 0 (groupsIn inputs) s, groups-length (groupCount inputs) inputs, good .few))) (λ why. (omega arith, omega arith))
+  a-change-is-narrow = by-check (λ (w : Whole). (w .report .place < 65_536) × (w .report .count < 4_294_967_296)) (λ safe good room. narrow good (singles-end 0 (groupsIn inputs) s)) (λ why one. (omega arith, omega arith))
     where
-      place : GoodGroups inputs → {c : Singles} → Ended 0 (length (groupsIn inputs)) c → c .place < 65_536
-      place good (none-refused p) = omega arith
-      place good (one-refused p code at f low high) = omega (arith, high, groups-length (groupCount inputs) inputs, good .few)
+      narrow : GoodGroups inputs → {c : Singles} → Ended 0 (length (groupsIn inputs)) c → (c .place < 65_536) × (length (c .played .records) < 4_294_967_296)
+      narrow good (none-refused p each few) = (omega arith, omega (arith, few, groups-length (groupCount inputs) inputs, good .few))
+      narrow good (one-refused p code place m f at less each few) = (omega (arith, at, less, groups-length (groupCount inputs) inputs, good .few), omega (arith, few, less, groups-length (groupCount inputs) inputs, good .few))
 
 -- ---- "One group is a single input."
 

@@ -29,6 +29,11 @@ Model = List ℕ → List ℕ → List ℕ → Whole
 
 -- ---- 1
 
+-- one of these numbers
+abbrev pub Among : ℕ → List ℕ → Type 0
+Among n [] = ⊥
+Among n (one ∷ others) = (n ≡ one) ⊎ Among n others
+
 -- "Every octet string offered as a cue file .. gets a numbered answer, with no condition on the caller."
 -- (".. and each single input to a state ..": `SingleAnswers`, below)
 abbrev pub AnswersAll : Model → Type 0

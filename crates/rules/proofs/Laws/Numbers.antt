@@ -4,7 +4,7 @@ use mathlib.Core.List.{List, [], _∷_, map}
 use mathlib.Core.Logic.{_↔_}
 use mathlib.Core.Path.{_≡_, refl}
 use Rattle.octets.specs.BigEndian.{octets32}
-use Rattle.base.specs.declared.refusal.Refusal.the-variants.{WrongLength, WrongVersion, WrongActuators, WrongLayout, BadParameter, BadInput, BadStamp, ShortBuffer, UnsoundState}
+use Rattle.base.specs.declared.refusal.Refusal.the-variants.{WrongLength, WrongVersion, WrongActuators, WrongLayout, BadParameter, BadInput, BadStamp, ShortBuffer, UnsoundState, BadAction, WrongGroups}
 use Rattle.rules.specs.declared.parameters.Params.{Params}
 use Rattle.rules.specs.declared.parameters.Scene.{Scene}
 use Rattle.rules.specs.declared.phase.Phase.the-variants.{Dark}
@@ -21,8 +21,9 @@ use Rattle.rules.specs.Runs.{recordOctets}
 use Rattle.rules.specs.Written.{parametersOctets}
 use Rattle.base.proofs.Tests.{no}
 
--- 01, "Refusal numbers": the rows of the table, from the first to the ninth
-pub refusal-numbers : map number (WrongLength ∷ WrongVersion ∷ WrongActuators ∷ WrongLayout ∷ BadParameter ∷ BadInput ∷ BadStamp ∷ ShortBuffer ∷ UnsoundState ∷ []) ≡ 1 ∷ 2 ∷ 3 ∷ 4 ∷ 5 ∷ 6 ∷ 7 ∷ 8 ∷ 9 ∷ []
+-- 01, "Refusal numbers": the rows of the table, from the first to the ninth; and 02's: 11 for an action, 12 for the groups of a change
+pub refusal-numbers : map number (WrongLength ∷ WrongVersion ∷ WrongActuators ∷ WrongLayout ∷ BadParameter ∷ BadInput ∷ BadStamp ∷ ShortBuffer ∷ UnsoundState ∷ BadAction ∷ WrongGroups ∷ []) ≡
+    1 ∷ 2 ∷ 3 ∷ 4 ∷ 5 ∷ 6 ∷ 7 ∷ 8 ∷ 9 ∷ 11 ∷ 12 ∷ []
 refusal-numbers = refl
 
 -- "all by-value records are 0 on refusal, and by-value records not used are 0": all eight octets
