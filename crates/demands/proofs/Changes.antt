@@ -17,9 +17,8 @@ use Rattle.rules.specs.declared.input.Input.{Input}
 use Rattle.rules.specs.declared.input.Input.the-variants.{SwitchOnOff, TimedStartStop, NumberedSceneControl, SwitchOnOffForced, LockDevice, NightMode, Bus, Power}
 use Rattle.base.specs.declared.refusal.Refusal.{Refusal}
 use Rattle.base.specs.declared.refusal.Refusal.the-variants.{BadInput, BadStamp, ShortBuffer, UnsoundState, WrongGroups}
-use Rattle.base.specs.declared.refusal.Check.the-variants.{Passed, Refused}
 use Rattle.base.specs.Time.{lastStamp}
-use Rattle.base.specs.Refusals.{number}
+use Rattle.base.specs.Refusals.{number, ifNot, orElse}
 use Rattle.base.proofs.Codes.{some-number}
 use Rattle.base.proofs.Tests.{either-way}
 use Rattle.rules.specs.Phases.{output}
@@ -35,16 +34,16 @@ use Rattle.rules.specs.Layout.{inputPlace}
 use Rattle.rules.specs.Lists.{Cue, Played, andThen, unplayed, plays}
 use Rattle.rules.specs.Calls.{singleCall, singleDone, singleRefused}
 use Rattle.rules.specs.Soundness.{sound}
-use Rattle.rules.specs.Runs.{recordsOctets, over, Whole}
+use Rattle.rules.specs.Runs.{recordsOctets, over, Whole, whole}
 use Rattle.rules.specs.Refusals.{stampBefore, InputsWhen, GoodGroups, RoomFor}
-use Rattle.rules.specs.Changes.{groups, groupCount, groupsIn, Singles, singlePlayed, thenOthers, stopped, goesOn, singles, groupsFit, checkChange, changed, changeBy, changeCall}
+use Rattle.rules.specs.Changes.{groups, groupCount, groupsIn, Singles, singlePlayed, thenOthers, stopped, goesOn, singles, groupsFit, checkLent, checkChange, changed, handedBack, changeBy, changeCall}
 use Rattle.rules.proofs.Laws.Lists.{andThen-from}
 use Rattle.rules.proofs.Laws.Records.{an-input-writes-at-most-three}
 use Rattle.rules.proofs.Refusals.Calls.{SingleFinds, single-finds, single-refusal-changes-nothing, single-call-keeps-sound, single-call-keeps-version}
 use Rattle.rules.proofs.Refusals.Readings.{inputs-decide}
 use Rattle.rules.proofs.Refusals.Files.{first-cue}
 use Rattle.rules.proofs.Refusals.Runs.{records-length, records-append, room-exactly-when}
-use Rattle.rules.proofs.Refusals.Changes.{step-played, groups-exactly-when, ends, changeRead, all-are-played, played-up-to}
+use Rattle.rules.proofs.Refusals.Changes.{step-played, groups-exactly-when, looked-at-exactly-when, ends, changeRead, all-are-played, played-up-to}
 use Rattle.demands.specs.Changes.{thenSingles, joinedAfter, recordsLeft, answersLeft, oneThenTheOther, Part, GoodPart, GoodParts, inputsOf, changeOf, changePlayed, inParts, NoPartRefused, RefusedFrom, NothingPlayed, ChangeAnswered, reach, CameTo}
 use Rattle.demands.specs.Demands.{Among}
 use Rattle.demands.proofs.Meets.{over-length, records-read-back}
@@ -239,8 +238,8 @@ over-in-turn xs ys b n e =
 
 -- a change that may be played is the single inputs, joined
 pub a-change-is-the-single-inputs : (s : State) (inputs r a : List ℕ) → sound s ≡ true → GoodGroups inputs → RoomFor (groupCount inputs) r a → changeCall s inputs r a ≡ changed (singles 0 (groupsIn inputs) s) r a
-unfolding changeCall changeBy checkChange
-a-change-is-the-single-inputs s inputs r a safe good room = rw (safe, groups-exactly-when inputs .1 good, room-exactly-when (groupCount inputs) r a .1 room) refl
+unfolding changeCall changeBy
+a-change-is-the-single-inputs s inputs r a safe good room = rw (looked-at-exactly-when s inputs r a .1 (safe, (good, room))) refl
 
 module _ (s : State) (x y r a : List ℕ) (safe : sound s ≡ true) (cut : length x % 8 ≡ 0) (good : GoodGroups (x ++ y)) (room : RoomFor (groupCount (x ++ y)) r a) where
   abbrev k : ℕ
@@ -515,11 +514,11 @@ some-code code (inr (inl a)) e = omega arith
 
 module _ (s : State) (inputs r a : List ℕ) where
   by-check : (P : Whole → Type 0) → (sound s ≡ true → GoodGroups inputs → RoomFor (groupCount inputs) r a → P (changed (singles 0 (groupsIn inputs) s) r a)) →
-      ((why : Refusal) → Among (number why) (9 ∷ 12 ∷ 8 ∷ []) → P (record { report = record { state = s; code = number why; place = 0; count = 0 }; records = r; answers = a })) → P (changeCall s inputs r a)
-  unfolding changeCall changeBy checkChange
+      ((why : Refusal) → Among (number why) (9 ∷ 12 ∷ 8 ∷ []) → P (whole (handedBack s why 0) r a)) → P (changeCall s inputs r a)
+  unfolding changeCall changeBy checkChange checkLent
   by-check P f g = by (sound s) (groupsFit inputs) (lentFor (groupCount inputs) r a) refl refl refl
     where
-      by : (b c d : Bool) → sound s ≡ b → groupsFit inputs ≡ c → lentFor (groupCount inputs) r a ≡ d → P (changeBy (cond b (cond c (cond d Passed (Refused ShortBuffer 0)) (Refused WrongGroups 0)) (Refused UnsoundState 0)) s inputs r a)
+      by : (b c d : Bool) → sound s ≡ b → groupsFit inputs ≡ c → lentFor (groupCount inputs) r a ≡ d → P (changeBy (orElse (ifNot b UnsoundState) (orElse (ifNot c WrongGroups) (ifNot d ShortBuffer))) s inputs r a)
       by false c d safe e room = g UnsoundState (inl refl)
       by true false d safe e room = g WrongGroups (inr (inl refl))
       by true true false safe e room = g ShortBuffer (inr (inr (inl refl)))
