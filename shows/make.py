@@ -206,6 +206,18 @@ write('power_cut', cue_file(
     ],
     end=1100))
 
+# ---- drag: what an editor sends at a drag of the mouse, two inputs at a stamp. examples/live.c plays these sixty in one call, to the same
+# parameters, and then moves the clock to this end
+
+DRAGGED = [
+    (SWITCH, ON), (SWITCH, OFF), (TIMED, START), (NIGHT, ON), (SWITCH, ON), (NIGHT, OFF), (LOCK, LOCK_IT), (SWITCH, OFF), (LOCK, UNLOCK_IT),
+    (SWITCH, OFF),
+]
+write('drag', cue_file(
+    parameters(on_delay=1, off_delay=2, timed_on=10, prewarning=3),
+    [(8 * (i - i % 2), *DRAGGED[i % 10]) for i in range(60)],
+    end=800))
+
 # ---- tenths: an evening in a studio whose actuators are set in tenths of a second: on after 0.7 seconds, off after 1.5, a timed light
 # of 60.5, and a prewarning of 2.5
 
