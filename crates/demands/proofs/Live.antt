@@ -490,7 +490,7 @@ house-change-is-answered state inputs r a = by (isImage state) refl
           numbered = inr (inl (t .0));
           refused = λ one. (t .1, record { count = t .2; state = refl; records = refl; answers = refl });
           stopped = λ one. absurd (no-two-codes 9 (inl refl) (inr (rw (t .0) at one)));
-          accepted = λ z. absurd (omega (arith, z, t .0));
+          played = λ is. no (sym e ∙ is);
           within = record { state = refl; records = refl; answers = refl };
         })
     by true e =
@@ -499,7 +499,7 @@ house-change-is-answered state inputs r a = by (isImage state) refl
           numbered = rw (t .code) (image-numbered state inputs r a e);
           refused = λ one. image-refused state inputs r a e (rw (t .code) at one);
           stopped = λ one. rw (t .place) (image-stopped state inputs r a e (rw (t .code) at one));
-          accepted = λ z. image-ran state inputs r a e;
+          played = λ is. image-ran state inputs r a e;
           within = image-within state inputs r a e;
         }
 

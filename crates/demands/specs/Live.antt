@@ -133,7 +133,7 @@ pub record HouseChangeAnswered (lent inputs r a : List ℕ) (w : ImagedRun) : Ty
   pub numbered : Among (codeIn (w .number)) (0 ∷ 9 ∷ 12 ∷ 8 ∷ 6 ∷ 7 ∷ [])
   pub refused : Among (codeIn (w .number)) (9 ∷ 12 ∷ 8 ∷ []) → (placeIn (w .number) ≡ 0) × AsLent lent r a w
   pub stopped : Among (codeIn (w .number)) (6 ∷ 7 ∷ []) → HouseRefusedFrom lent inputs r a (placeIn (w .number)) w
-  pub accepted : codeIn (w .number) ≡ 0 → RanAs (changeCall (stateIn lent) inputs r a) w
+  pub played : isImage lent ≡ true → RanAs (changeCall (stateIn lent) inputs r a) w
   pub within : Within lent r a w
 
 -- ---- a change from C, cut in two
