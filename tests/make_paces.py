@@ -51,15 +51,31 @@ def fresh_sensor(octets):
 
 
 def sensor_octets(stamp, kind, value, zeros=(0, 0)):
-    out.extend(b'E' + stamp.to_bytes(4, 'big') + bytes([kind, value, *zeros]))
+    out.extend(b'E' + input_octets(stamp, kind, value, zeros))
 
 
 def pair_octets(stamp, kind, value, zeros=(0, 0)):
-    out.extend(b'J' + stamp.to_bytes(4, 'big') + bytes([kind, value, *zeros]))
+    out.extend(b'J' + input_octets(stamp, kind, value, zeros))
 
 
 def pair_clock(stamp):
     out.extend(b'M' + stamp.to_bytes(4, 'big'))
+
+
+def input_octets(stamp, kind, value, zeros=(0, 0)):
+    return stamp.to_bytes(4, 'big') + bytes([kind, value, *zeros])
+
+
+def single(stamp, kind, value, zeros=(0, 0)):
+    out.extend(b'S' + input_octets(stamp, kind, value, zeros))
+
+
+def clock(stamp):
+    out.extend(b'C' + stamp.to_bytes(4, 'big'))
+
+
+def change(octets):
+    out.extend(b'H' + bytes([len(octets)]) + octets)
 
 
 def keep():
@@ -463,6 +479,63 @@ def handed_pairs():
         handed_pair('sound: action %d for the press' % action, {}, dict(actions=(action,) + ONE_OF_EACH[1:]))
 
 
+# 4. The actuator alone: a few inputs of each kind to each call. (tests/compare_live.rs has the others.)
+
+EVENING = [(0, START), (20, OFF), (20, ON), (100, recall(2)), (130, learn(3)), (150, NIGHT), (160, LOCK), (170, OFF), (180, UNLOCK),
+           (190, FORCE_OFF), (195, ON), (200, FREE), (210, BUS_FAILS), (220, ON), (230, BUS_RETURNS), (240, POWER_FAILS), (250, LOCK),
+           (260, POWER_RETURNS), (300, START), (1100, DAY)]
+
+
+def inputs_of(items):
+    return b''.join(input_octets(stamp, *item) for stamp, item in items)
+
+
+def evenings():
+    for name, state in (('seconds', seconds(learning=1, scenes=SCENES)), ('tenths', tenths(learning=1, scenes=SCENES))):
+        title('an evening in %s, input by input, each after a clock move' % name)
+        pair(state, sensor(SILENT))
+        for stamp, item in EVENING:
+            clock(stamp)
+            single(stamp, *item)
+        clock(LAST)
+        for step in range(5):
+            title('the same, %d inputs at a time' % step)
+            pair(state, sensor(SILENT))
+            for first in range(0, len(EVENING), step) if step else [0]:
+                change(inputs_of(EVENING[first:first + step]))
+
+
+def refused_alone(text, state, stamp):
+    """Good and bad inputs, moves and changes to a state: the refusals in their order."""
+    title(text)
+    pair(state, sensor(SILENT))
+    keep()
+    good, wrong, early, late = ((stamp, ON), (stamp, (9, 0)), (stamp - 1, ON), (LAST + 1, ON))
+    for at, item in (wrong, early, late, (stamp - 1, (1, 2)), good):
+        single(at, *item)
+        back()
+    for at in (stamp - 1, stamp, LAST, LAST + 1):
+        clock(at)
+        back()
+    for bad in (wrong, early, late):
+        for place in range(4):
+            change(inputs_of([good] * place + [bad] + [good] * (3 - place)))
+            back()
+    change(inputs_of([wrong, early]))
+    back()
+    change(inputs_of([(LAST, ON), good]))
+    back()
+    for size in (1, 7, 9, 31, 33, 40, 41, 248, 255):
+        change(inputs_of([wrong] * 32)[:size])
+        back()
+
+
+def refusals_alone():
+    refused_alone('refused, of the actuator alone', seconds(phase=LIT, clock=1000), 1000)
+    refused_alone('and where a timer is due', seconds(phase=TIMED, clock=1000, deadline=1100), 1200)
+    refused_alone('an unsound actuator alone', seconds(phase=LIT, clock=1000, night=1), 1000)
+
+
 action_refusals()
 sensor_alone()
 sensor_refusals()
@@ -477,4 +550,6 @@ orders_in_phases()
 pair_tenths()
 pair_refusals()
 handed_pairs()
+evenings()
+refusals_alone()
 sys.stdout.buffer.write(out)

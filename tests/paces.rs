@@ -14,7 +14,7 @@ mod live;
 mod wall;
 
 use live::{flag_of, force_of, link_of, phase_of, Image, STATE_OCTETS};
-use model::{u32_at, Params, Record, Scene, State};
+use model::{record_octets, u32_at, Params, Record, Scene, State};
 use std::io::{Read, Write};
 use wall::{Action, Pair, Sensor, EDGES};
 
@@ -127,6 +127,13 @@ fn report_text(code: u8, place: u16, answer: u8, count: usize) -> String {
     format!(" > {} {} {} {}", code, place, answer, count)
 }
 
+/// What stands in a lent buffer: what was written at its front, and the pattern behind.
+fn lent_text(written: &[u8], room: usize, pattern: u8) -> String {
+    let mut octets = vec![pattern; room];
+    octets[..written.len()].copy_from_slice(written);
+    format!(" |{}", digits(&octets))
+}
+
 /// "by-value records not used are 0"
 fn records_text(records: &[Record], places: usize) -> String {
     let unused = Record { stamp: 0, value: 0, attributes: 0, cause: 0 };
@@ -203,6 +210,38 @@ impl Player {
         self.write(&["M", &digits(&o), &report, &records, &pair]);
     }
 
+    fn single(&mut self, o: [u8; 8]) {
+        let given = model::single(&self.now.actuator, &o);
+        self.now.actuator = given.state;
+        let report = report_text(given.code, given.place, given.answer, given.records.len());
+        let records = records_text(&given.records, 3);
+        let pair = self.pair_text();
+        self.write(&["S", &digits(&o), &report, &records, &pair]);
+    }
+
+    fn clock_move(&mut self, o: [u8; 4]) {
+        let given = model::clock_move(&self.now.actuator, u32::from_be_bytes(o));
+        self.now.actuator = given.state;
+        let report = report_text(given.code, given.place, 0, given.records.len());
+        let records = records_text(&given.records, 2);
+        let pair = self.pair_text();
+        self.write(&["C", &digits(&o), &report, &records, &pair]);
+    }
+
+    /// "with room for four"
+    fn change(&mut self, inputs: &[u8]) {
+        const RECORDS: usize = 8 * (3 * 4 + 3);
+        const ANSWERS: usize = 4;
+        let given = live::change(&self.now.actuator, inputs, RECORDS, ANSWERS);
+        self.now.actuator = given.state;
+        let report = report_text(given.code, given.place, 0, given.records.len());
+        let written: Vec<u8> = given.records.iter().flat_map(record_octets).collect();
+        let records = lent_text(&written, RECORDS, 165);
+        let answers = lent_text(&given.answers, ANSWERS, 90);
+        let pair = self.pair_text();
+        self.write(&["H", &digits(inputs), &report, &records, &answers, &pair]);
+    }
+
     fn step(&mut self, steps: &mut Steps) -> bool {
         match steps.octet() {
             b'T' => self.title(steps.counted()),
@@ -211,6 +250,9 @@ impl Player {
             b'E' => self.sensor_input(steps.array()),
             b'J' => self.pair_single(steps.array()),
             b'M' => self.pair_clock_move(steps.array()),
+            b'S' => self.single(steps.array()),
+            b'C' => self.clock_move(steps.array()),
+            b'H' => self.change(&steps.counted()),
             b'K' => self.kept = self.now,
             b'B' => self.now = self.kept,
             0 => return false,

@@ -1,4 +1,5 @@
 // One step of the play: what it does, and what is printed of it.
+use crate::alone;
 use crate::read;
 use crate::show;
 use crate::written::Pair;
@@ -47,7 +48,7 @@ fn signal(now: [u8; 9]) -> [u8; 9] {
 fn show_joint(r: Joint) {
     let k = r.records;
     let told = r.sent;
-    show::report(r.code, r.place, r.answer, r.count);
+    show::report(r.code, r.place, r.answer, r.count as u64);
     show::record(k[0]);
     show::record(k[1]);
     show::record(k[2]);
@@ -68,7 +69,7 @@ fn input(now: Pair) -> Pair {
 
 fn show_move(r: JointMove) {
     let k = r.records;
-    show::report(r.code, r.place, 0, r.count);
+    show::report(r.code, r.place, 0, r.count as u64);
     show::record(k[0]);
     show::record(k[1]);
 }
@@ -102,6 +103,19 @@ fn sensor_step(letter: u8, now: Pair) -> Pair {
     }
 }
 
+// A step to the actuator alone.
+fn actuator_step(letter: u8, now: Pair) -> Pair {
+    let state = now.state;
+    let sensor = now.sensor;
+    show::mark(letter);
+    let after = Pair {
+        state: alone::step(letter, state),
+        sensor,
+    };
+    show::pair(after);
+    after
+}
+
 // A step to the pair.
 fn pair_step(letter: u8, now: Pair) -> Pair {
     show::mark(letter);
@@ -124,6 +138,7 @@ pub(crate) fn step(letter: u8, now: Pair, kept: Pair) -> Pair {
         b'P' => read::pair(),
         b'N' | b'E' => sensor_step(letter, now),
         b'J' | b'M' => pair_step(letter, now),
+        b'S' | b'C' | b'H' => actuator_step(letter, now),
         b'B' => kept,
         _ => now,
     }

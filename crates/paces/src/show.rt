@@ -20,7 +20,7 @@ pub(crate) fn octets(b: &[u8]) {
 }
 
 // A part of a line, behind a bar.
-fn part(b: &[u8]) {
+pub(crate) fn part(b: &[u8]) {
     io::write_all(1, b" |");
     octets(b);
 }
@@ -30,12 +30,12 @@ fn number(n: u64) {
     io::print_decimal(1, n);
 }
 
-pub(crate) fn report(code: u8, place: u16, answer: u8, count: u8) {
+pub(crate) fn report(code: u8, place: u16, answer: u8, count: u64) {
     io::write_all(1, b" >");
     number(code as u64);
     number(place as u64);
     number(answer as u64);
-    number(count as u64);
+    number(count);
 }
 
 pub(crate) fn record(r: Record) {

@@ -47,11 +47,15 @@ pub(crate) fn sensor_in(b: [u8; 9]) -> Sensor {
     z
 }
 
-pub(crate) fn pair_of(s: State, z: Sensor) -> Pair {
+pub(crate) fn image_of(s: State) -> [u8; 56] {
     let mut image = [0u8; 56];
     put_image(&mut image, s);
+    image
+}
+
+pub(crate) fn pair_of(s: State, z: Sensor) -> Pair {
     Pair {
-        state: image,
+        state: image_of(s),
         sensor: sensor_octets(z),
     }
 }
