@@ -33,7 +33,7 @@ use Rattle.rules.specs.Images.{image, stateIn, isImage}
 use Rattle.rules.specs.Live.{checkFresh, freshImaged, houseFresh, checkMove, moveImaged, moveBy, houseMove, imaged, checkRunTo, runImaged, houseRunTo, untouched, houseChange, changeImaged}
 use Rattle.rules.proofs.Laws.Parameters.{lowest-bad-octet}
 use Rattle.rules.proofs.Laws.Forms.{few-octets}
-use Rattle.rules.proofs.Laws.Images.{image-length, image-is-read-back, image-is-accepted, read-scenes-are-eight, accepted-is-the-image, accepted-is-sound}
+use Rattle.rules.proofs.Laws.Images.{image-length, image-is-read-back, image-is-accepted, read-scenes-are-eight, accepted-is-the-image, accepted-is-long, accepted-is-sound}
 use Rattle.rules.proofs.Laws.Records.{a-move-writes-at-most-two}
 use Rattle.rules.proofs.Laws.Soundness.{move-keeps}
 use Rattle.rules.proofs.Refusals.Calls.{MoveFinds, move-finds, good-is-made, fresh-call-is-sound, move-call-keeps-sound}
@@ -68,10 +68,6 @@ by-its-check c count n decides same narrow few = let t = taken (codeOf c) (place
 -- and where its code is 0, its check has passed
 has-passed : {Given : Refusal → ℕ → Type 0} {Good : Type 0} {c : Check} (n : ℕ) → NumberCodes Given Good n → Decides Given Good c → codeIn n ≡ 0 → c ≡ Passed
 has-passed n codes decides good = decides .passed .1 (codes .accepted (placeIn n) .0 (good, refl) .1)
-
--- octets that are an image are 56
-images-are-56 : (octets : List ℕ) → isImage octets ≡ true → length octets ≡ 56
-images-are-56 octets is = ap length (sym (accepted-is-the-image octets is)) ∙ image-length (stateIn octets) (read-scenes-are-eight octets)
 
 -- ---- scene tables have eight entries
 
@@ -236,7 +232,7 @@ module _ (state : List ℕ) (stamp : ℕ) (records : List ℕ) where
           let eight = move-keeps-scenes (stateIn state) stamp ∙ read-scenes-are-eight state in
           let fits : length (recordsOctets (take (m .count) (m .records))) ≤ length records = omega (arith, records-length (take (m .count) (m .records)), length-take (m .count) (m .records), few .2, good .1 .1) in
           rw (move-as-checked Passed e)
-          (record { numbered = inl code; refused = λ f. absurd (f code); accepted = λ z. record { state = image-is-read-back (m .state) eight; count = t .2; records = refl }; within = (image-length (m .state) eight ∙ sym (images-are-56 state (good .0)), over-length (recordsOctets (take (m .count) (m .records))) records fits) })
+          (record { numbered = inl code; refused = λ f. absurd (f code); accepted = λ z. record { state = image-is-read-back (m .state) eight; count = t .2; records = refl }; within = (image-length (m .state) eight ∙ sym (accepted-is-long state (good .0)), over-length (recordsOctets (take (m .count) (m .records))) records fits) })
 
   -- an accepted one leaves an image, to be played on from
   pub a-moved-state-is-an-image : codeIn (houseMove state stamp records .number) ≡ 0 → isImage (houseMove state stamp records .state) ≡ true
@@ -476,7 +472,7 @@ module _ (state inputs r a : List ℕ) (is : isImage state ≡ true) where
   image-within =
       let c = an-image-is-changed state inputs r a is in
       let within = a-change-stays-within (stateIn state) inputs r a in
-      record { state = images-are-56 _ (what-comes-back-is-an-image state inputs r a is) ∙ sym (images-are-56 state is); records = rw c (within .0); answers = rw c (within .1) }
+      record { state = accepted-is-long _ (what-comes-back-is-an-image state inputs r a is) ∙ sym (accepted-is-long state is); records = rw c (within .0); answers = rw c (within .1) }
 
 -- Every change from C gets a numbered answer. With 9, 12 or 8 all that is lent is as it was; with 6 or 7 it is what the inputs before give.
 pub house-change-is-answered : (state inputs r a : List ℕ) → HouseChangeAnswered state inputs r a (houseChange state inputs r a)

@@ -2,7 +2,7 @@
 use Prim.Native.Nat.{ℕ, _≤_, _<_}
 use mathlib.Core.Bool.{Bool, true, false, cond}
 use mathlib.Core.List.{List}
-use mathlib.Core.Path.{_≡_, refl, sym, ap, _∙_}
+use mathlib.Core.Path.{_≡_, refl}
 use native.Mathlib.Omega.{arith}
 use lib.ListN.{length, take}
 use borrow.Author.Tests.{eq-eqb, ne-eqb, le-leb, lt-leb}
@@ -25,7 +25,7 @@ use Rattle.rules.specs.Runs.{recordsOctets, Whole, refused, runBy, runCall, pac
 use Rattle.rules.specs.Changes.{checkLent, checkChange, changeBy, changeCall}
 use Rattle.rules.specs.Images.{image, stateIn, isImage}
 use Rattle.rules.specs.Live.{refusedNumber, checkFresh, freshImaged, houseFresh, checkMove, moveImaged, moveBy, houseMove, imaged, changeImaged, houseChange, checkRunTo, runImaged, houseRunTo}
-use Rattle.rules.proofs.Laws.Images.{image-length, read-scenes-are-eight, accepted-is-the-image, accepted-is-sound}
+use Rattle.rules.proofs.Laws.Images.{accepted-is-the-image, accepted-is-sound}
 use Rattle.rules.proofs.Laws.Records.{a-move-writes-at-most-two, used-places}
 use Rattle.rules.proofs.Refusals.Calls.{good-is-made}
 use Rattle.rules.proofs.Refusals.Readings.{verdict-if-lent}
@@ -37,11 +37,7 @@ use Rattle.timers.specs.Ticks.{clocked}
 use Rattle.timers.proofs.Moves.{moved-state, moved-count, moved-records}
 use Rattle.desk.specs.Answers.{imagedBy, imagedMoveBy, imagedRunBy, shortBy, shortNumber}
 
--- an accepted image has the octets of one
-pub image-is-long : (state : List ℕ) → isImage state ≡ true → length state ≡ 56
-image-is-long state h = ap (λ (o : List ℕ). length o) (sym (accepted-is-the-image state h)) ∙ image-length (stateIn state) (read-scenes-are-eight state)
-
--- and octets that are not as many are none
+-- octets that are not as many as an image has are none
 pub no-image : (state : List ℕ) → (length state ≡ 56 → ⊥) → isImage state ≡ false
 unfolding isImage
 no-image state other = simp (ne-eqb (length state) 56 other)

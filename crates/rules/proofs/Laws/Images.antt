@@ -216,6 +216,9 @@ module _ (octets : List ℕ) (accepted : isImage octets ≡ true) where
   pub accepted-is-the-image : image (stateIn octets) ≡ octets
   accepted-is-the-image = same-means-equal _ _ (both (eqb (length octets) imageSize) _ (tests .0) .1)
 
+  pub accepted-is-long : length octets ≡ 56
+  accepted-is-long = eqb-true _ _ (both (eqb (length octets) imageSize) _ (tests .0) .0)
+
   pub accepted-is-sound : sound (stateIn octets) ≡ true
   accepted-is-sound = tests .1
 

@@ -1,7 +1,7 @@
 use Rattle.rules.specs.Runs.{packed}
 use Rattle.rules.specs.Changes.{checkChange}
-use Rattle.rules.proofs.Laws.Images.{accepted-is-sound}
-use Rattle.desk.proofs.Lives.{image-is-long, change-done}
+use Rattle.rules.proofs.Laws.Images.{accepted-is-long, accepted-is-sound}
+use Rattle.desk.proofs.Lives.{change-done}
 use borrow.Author.Needs.{needs}
 use Rattle.desk.proofs.change.play_image.Statement.{statement}
 use Rattle.desk.proofs.change.play_image.Tie as tie
@@ -11,7 +11,7 @@ unfolding checkChange
 play-inputs-requires c κs = let pre = c .before .before .before .before .before .before .pre in rw (pre .1, accepted-is-sound _ (pre .0), pre .2)
 
 put-image-requires : tie.Need-put-image-requires
-put-image-requires c κs = image-is-long _ (c .before .before .before .before .before .before .before .before .before .before .before .before .before .pre .0)
+put-image-requires c κs = accepted-is-long _ (c .before .before .before .before .before .before .before .before .before .before .before .before .before .pre .0)
 
 returns : tie.Need-returns
 unfolding packed

@@ -2,9 +2,9 @@ use mathlib.Core.Path.{sym, _∙_}
 use native.Mathlib.Omega.{arith}
 use Rattle.base.proofs.Codes.{timely-exactly-when}
 use Rattle.phases.proofs.Rooms.{sound-room}
-use Rattle.rules.proofs.Laws.Images.{accepted-is-sound}
+use Rattle.rules.proofs.Laws.Images.{accepted-is-long, accepted-is-sound}
 use Rattle.timers.proofs.Moves.{moved-few}
-use Rattle.desk.proofs.Lives.{image-is-long, move-late, move-short, move-made}
+use Rattle.desk.proofs.Lives.{move-late, move-short, move-made}
 use borrow.Author.Needs.{needs}
 use Rattle.desk.proofs.clock.move_state.Statement.{statement}
 use Rattle.desk.proofs.clock.move_state.Tie as tie
@@ -25,7 +25,7 @@ put-notes-requires c κs =
     (omega arith, omega (arith, few), omega (arith, few, c .before .before .before .before .if2 .left))
 
 put-image-requires : tie.Need-put-image-requires
-put-image-requires c κs = image-is-long _ (c .before .before .before .before .before .before .before .before .before .before .before .before .before .pre .0)
+put-image-requires c κs = accepted-is-long _ (c .before .before .before .before .before .before .before .before .before .before .before .before .before .pre .0)
 
 returns-2 : tie.Need-returns-2
 returns-2 c =
