@@ -1,6 +1,6 @@
 -- What holds of every octet string that is accepted as a wall list: its stamps rise, its run is the actuator's over the cues and telegrams and the
 -- sensor's over the records and edges, and so the promises of the actuator are the pair's.
-use Prim.Native.Nat.{ℕ, zero, suc, _+_, _-_, _≤_}
+use Prim.Native.Nat.{ℕ, zero, suc, _+_, _≤_}
 use mathlib.Core.Bool.{true}
 use mathlib.Core.List.{List, [], _∷_, _++_}
 use mathlib.Core.Path.{_≡_, sym, _∙_}
@@ -16,7 +16,6 @@ use Rattle.rules.specs.Files.{inputCount, endTime, parametersIn, readFile, inpu
 use Rattle.rules.specs.Promises.{Rises, DarkPromise, LightPromise, StrongLightPromise}
 use Rattle.rules.proofs.Laws.Forms.{file-row}
 use Rattle.rules.proofs.Laws.Parameters.{passed-has-some-time, passed-is-in-range}
-use Rattle.rules.proofs.Refusals.Readings.{first-read}
 use Rattle.rules.proofs.Refusals.Files.{good-file, good-start}
 use Rattle.rules.proofs.Promises.Dark.{dark}
 use Rattle.rules.proofs.Promises.Light.{strong-light, light}
@@ -35,7 +34,7 @@ use Rattle.pairs.proofs.Halves.{actuatorPart, plainItems, cues-rise, the-run-is
 use Rattle.pairs.proofs.Ties.{item-clock}
 use Rattle.pairs.proofs.Soundness.{SceneFits, pair-move-keeps-sound, pair-step-keeps-sound, pair-start-is-sound}
 use Rattle.pairs.proofs.Items.{item-fits}
-use Rattle.pairs.proofs.Reading.{item-said, reads-plain, a-plain-list-is-the-actuators}
+use Rattle.pairs.proofs.Reading.{first-item, reads-plain, a-plain-list-is-the-actuators}
 use Rattle.pairs.proofs.Refusals.Walls.{file-length, good-wall, a-good-start-is-read, good-wall-is-read}
 
 -- ---- items that are read without fault
@@ -48,10 +47,9 @@ AllFit (listed t i ∷ later) = SceneFits i × AllFit later
 read-in-order : (inputs : List ℕ) (left j last end : ℕ) (items : List Listed) → last ≤ end → readInputs (itemIn inputs) inputs left j last end ≡ cues items → ItemsRise last items end × AllFit items
 read-in-order inputs zero j last end items early read = let none : items ≡ [] = unfold readInputs in cc in rw none (early, tt)
 read-in-order inputs (suc left) j last end items early read =
-    let f = first-read (itemIn inputs) inputs left j last end items read in
-    let x = item-said inputs j (f .input) (f .means) in
+    let f = first-item inputs left j last end items read in
     let rest = read-in-order inputs left (j + 1) (stampAt inputs (inputPlace j)) end (f .later) (f .timely) (f .reads) in
-    rw (f .starts, x .2) ((f .risen, rest .0), (item-fits inputs (inputPlace j) (x .0) (x .1), rest .1))
+    rw (f .starts) ((f .risen, rest .0), (item-fits inputs (inputPlace j) (f .input) (f .meant), rest .1))
 
 -- ---- soundness over a list
 

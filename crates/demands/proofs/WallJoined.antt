@@ -17,7 +17,6 @@ use Rattle.rules.specs.Layout.{inputPlace}
 use Rattle.rules.specs.Readings.{cues, readInputs}
 use Rattle.rules.specs.Files.{inputCount, endTime, lentEnough, inputsIn}
 use Rattle.rules.proofs.Laws.Records.{used-places}
-use Rattle.rules.proofs.Refusals.Readings.{first-read}
 use Rattle.sensor.specs.Reactions.{hear}
 use Rattle.sensor.specs.Signals.{signalAt}
 use Rattle.sensor.specs.Sensors.{freshSensor}
@@ -45,7 +44,7 @@ use Rattle.rules.proofs.Refusals.Changes.{groupAt, groups-next, group-octet, gr
 use Rattle.demands.specs.Walls.{wallParams, wallScenes, wallEnd, begun}
 use Rattle.demands.specs.WallJoined.{jointPlayed, jointMovePlayed, jointCalls, NoJointRefused, wallStartOf, wallInputsIn, wallCallsOf, WallJoined}
 use Rattle.demands.proofs.Joined.{fresh-played, start-is-fresh}
-use Rattle.pairs.proofs.Reading.{item-said}
+use Rattle.pairs.proofs.Reading.{first-item}
 use Rattle.demands.proofs.EveryWall.{a-wall-starts-sound}
 
 -- ---- one call
@@ -97,18 +96,17 @@ wall-joins inputs zero i end p items timely safe early read =
       ap (λ (r : JointMove). r .code) call ∙ unfold jointMoveDone in refl,
     )
 wall-joins inputs (suc left) i end p items timely safe early read =
-    let f = first-read (itemIn inputs) inputs left i (p .actuator .clock) end items read in
-    let x = item-said inputs i (f .input) (f .means) in
+    let f = first-item inputs left i (p .actuator .clock) end items read in
     let t : ℕ = stampAt inputs (inputPlace i) in
-    let d = pairStep p (x .0) t in
-    let call = an-item-is-a-call inputs i p (x .0) safe (x .1) (f .risen, omega (arith, f .timely, timely)) in
-    let clock = item-clock p (x .0) t in
-    let safely = pair-step-keeps-sound p (x .0) t safe (f .risen) (omega (arith, f .timely, timely)) (item-fits inputs (inputPlace i) (x .0) (x .1)) in
+    let d = pairStep p (f .input) t in
+    let call = an-item-is-a-call inputs i p (f .input) safe (f .meant) (f .risen, omega (arith, f .timely, timely)) in
+    let clock = item-clock p (f .input) t in
+    let safely = pair-step-keeps-sound p (f .input) t safe (f .risen) (omega (arith, f .timely, timely)) (item-fits inputs (inputPlace i) (f .input) (f .meant)) in
     let rest = wall-joins inputs left (i + 1) end (d .pair) (f .later) timely safely (rw clock (f .timely)) (rw clock (f .reads)) in
-    let same : jointPlayed (jointCall p (groupAt inputs i)) ≡ pairStepped d = ap jointPlayed call ∙ item-played p (x .0) t in
+    let same : jointPlayed (jointCall p (groupAt inputs i)) ≡ pairStepped d = ap jointPlayed call ∙ item-played p (f .input) t in
     rw (groups-next inputs left i) (
-      ap (λ l. pairPlaysTo end l p) (f .starts ∙ ap (λ (y : Listed). y ∷ f .later) (x .2))
-          ∙ pair-plays-to-next end t (x .0) (f .later) p
+      ap (λ l. pairPlaysTo end l p) (f .starts)
+          ∙ pair-plays-to-next end t (f .input) (f .later) p
           ∙ pairThen-from (pairStepped d) (pairPlaysTo end (f .later)) (jointCalls end (groups left (drop (inputPlace (i + 1)) inputs))) (rest .0)
           ∙ sym (ap (λ (a : PairPlayed). pairThen a (jointCalls end (groups left (drop (inputPlace (i + 1)) inputs)))) same),
       (rw call, rw call (rest .1)),

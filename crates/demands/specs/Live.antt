@@ -7,11 +7,11 @@ use mathlib.Core.Path.{_≡_}
 use lib.ListN.{length, take, drop}
 use lib.Dec.{eqb}
 use Rattle.base.specs.declared.refusal.Refusal.{Refusal}
-use Rattle.base.specs.declared.refusal.Refusal.the-variants.{BadStamp, ShortBuffer, UnsoundState, WrongGroups}
+use Rattle.base.specs.declared.refusal.Refusal.the-variants.{BadStamp, ShortBuffer, UnsoundState}
 use Rattle.base.specs.declared.refusal.Check.the-variants.{Refused}
 use Rattle.base.specs.Refusals.{Only, Then, Codes, Timely}
-use Rattle.rules.specs.Files.{inputCount, cueAt}
-use Rattle.rules.specs.Refusals.{FoundWhen, GoodParameters, GivenWhen, GoodFile, RoomFor, GoodGroups, InputsWhen, GoodInputs}
+use Rattle.rules.specs.Files.{inputCount}
+use Rattle.rules.specs.Refusals.{FoundWhen, GoodParameters, GivenWhen, GoodFile, RoomFor, ChangeWhen, GoodChange}
 use Rattle.rules.specs.Layout.{formAlone, inputPlace, recordPlace}
 use Rattle.rules.specs.declared.call.Move.{Move}
 use Rattle.rules.specs.Calls.{freshCall, moveCall}
@@ -59,16 +59,9 @@ HouseRunToCodes file state records answers =
 -- house_change: the rows of a change, with 9 for octets that are no image: 9, 12, 8, then 6 or 7 as met, with the index of that input
 abbrev pub HouseChangeCodes : List ℕ → List ℕ → List ℕ → List ℕ → ℕ → Type 0
 HouseChangeCodes state inputs records answers =
-    let n : ℕ = length inputs / 8 in
-    let clock : ℕ = stateIn state .clock in
     let Image : Type 0 = isImage state ≡ true in
-    let Room : Type 0 = RoomFor n records answers in
-    NumberCodes
-    (Then (Only UnsoundState 0 (Image → ⊥)) Image
-    (Then (Only WrongGroups 0 (GoodGroups inputs → ⊥)) (GoodGroups inputs)
-    (Then (Only ShortBuffer 0 (Room → ⊥)) Room
-    (InputsWhen (cueAt inputs) inputs n clock 864_000))))
-    (Image × (GoodGroups inputs × (Room × GoodInputs (cueAt inputs) inputs n clock 864_000)))
+    let clock : ℕ = stateIn state .clock in
+    NumberCodes (ChangeWhen Image clock inputs records answers) (GoodChange Image clock inputs records answers)
 
 -- ---- demand 1: "gets a numbered answer, with no condition on the caller"; "A refused call writes nothing to the lent memory"; an accepted one gives
 -- what the call by value or the run gives; what is lent keeps its length, so that nothing is written past its end

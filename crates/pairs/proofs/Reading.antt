@@ -2,7 +2,7 @@
 use Prim.Native.Nat.{ℕ, zero, suc, _+_, _≤_}
 use mathlib.Core.List.{List, [], _∷_}
 use mathlib.Core.Option.{some}
-use mathlib.Core.Path.{_≡_, refl, ap, _∙_}
+use mathlib.Core.Path.{_≡_, refl, ap}
 use native.Mathlib.Omega.{arith}
 use borrow.Author.Tests.{le-leb}
 use Rattle.octets.specs.Groups.{stampAt}
@@ -15,7 +15,7 @@ use Rattle.rules.specs.Layout.{inputPlace}
 use Rattle.rules.specs.Lists.{Cue, Played, andThen, start, playList}
 use Rattle.rules.specs.Readings.{cues, readOne, readInputs}
 use Rattle.rules.specs.Files.{cueAt}
-use Rattle.rules.proofs.Refusals.Readings.{first-read}
+use Rattle.rules.proofs.Refusals.Readings.{FirstOf, first-of}
 use Rattle.rules.proofs.Refusals.Files.{first-cue}
 use Rattle.sensor.specs.declared.state.Sensor.{Sensor}
 use Rattle.pairs.specs.declared.item.Item.{Item}
@@ -31,7 +31,7 @@ use Rattle.pairs.proofs.Halves.{actuatorPart, plainItems, plain-items}
 -- ---- one item
 
 -- what an item of a list is made of
-pub item-said : (inputs : List ℕ) (j : ℕ) (x : Listed) → itemIn inputs j ≡ some x → (i : Item) × (itemAt inputs (inputPlace j) ≡ Known i) × (x ≡ listed (stampAt inputs (inputPlace j)) i)
+item-said : (inputs : List ℕ) (j : ℕ) (x : Listed) → itemIn inputs j ≡ some x → (i : Item) × (itemAt inputs (inputPlace j) ≡ Known i) × (x ≡ listed (stampAt inputs (inputPlace j)) i)
 unfolding itemIn
 item-said inputs j x e = by (itemAt inputs (inputPlace j)) refl e
   where
@@ -40,20 +40,11 @@ item-said inputs j x e = by (itemAt inputs (inputPlace j)) refl e
     by Unknown m e = absurd (let z : _≡_ {A = ℕ} 0 1 = cc in omega arith)
 
 -- the first item of a list that is read without fault
-pub record FirstItem (inputs : List ℕ) (left i last end : ℕ) (items : List Listed) : Type 0 where
-  pub item : Item
-  pub later : List Listed
-  pub meant : itemAt inputs (inputPlace i) ≡ Known item
-  pub risen : last ≤ stampAt inputs (inputPlace i)
-  pub timely : stampAt inputs (inputPlace i) ≤ end
-  pub starts : items ≡ listed (stampAt inputs (inputPlace i)) item ∷ later
-  pub reads : readInputs (itemIn inputs) inputs left (i + 1) (stampAt inputs (inputPlace i)) end ≡ cues later
+abbrev pub FirstItem : List ℕ → ℕ → ℕ → ℕ → ℕ → List Listed → Type 0
+FirstItem inputs left i last end items = FirstOf (itemIn inputs) (λ x. itemAt inputs (inputPlace i) ≡ Known x) (λ x. listed (stampAt inputs (inputPlace i)) x) inputs left i last end items
 
 pub first-item : (inputs : List ℕ) (left i last end : ℕ) (items : List Listed) → readInputs (itemIn inputs) inputs (suc left) i last end ≡ cues items → FirstItem inputs left i last end items
-first-item inputs left i last end items e =
-    let f = first-read (itemIn inputs) inputs left i last end items e in
-    let c = item-said inputs i (f .input) (f .means) in
-    record { item = c .0; later = f .later; meant = c .1; risen = f .risen; timely = f .timely; starts = f .starts ∙ ap (λ (x : Listed). x ∷ f .later) (c .2); reads = f .reads }
+first-item inputs left i last end items e = first-of (itemIn inputs) _ _ inputs left i last end items (item-said inputs i) e
 
 -- ---- a list without edges
 

@@ -104,14 +104,14 @@ module _ (inputs : List ℕ) (n : ℕ) (start : Pair) (before : ℕ) (r₀ a₀ 
     next-item h = let left : n - i ≡ suc (n - (i + 1)) = omega arith in first-item inputs _ i _ _ _ (rw left at (g .reads))
 
     -- it is played: its records come after those that were written, its answer after those that were given
-    going-step : (h : i < n) → 8 * before ≤ length r₀ → n ≤ length a₀ → let d = pairStep p (next-item h .item) (stampAt inputs (inputPlace i)) in
+    going-step : (h : i < n) → 8 * before ≤ length r₀ → n ≤ length a₀ → let d = pairStep p (next-item h .input) (stampAt inputs (inputPlace i)) in
         (answer : ℕ) → answer ≡ d .answer → (q : Pair) → q ≡ d .pair → (count : ℕ) → count ≡ k + length (d .records)
         → (r₁ : List ℕ) → r₁ ≡ splice r (8 * k) (recordsOctets (d .records)) → length r₁ ≡ length r
         → Going inputs n start before r₀ a₀ r₁ (set a i answer) q count (i + 1)
     going-step h front enough answer answers q leads count counts r₁ writes long =
         let f = next-item h in
         let t : ℕ = stampAt inputs (inputPlace i) in
-        let d : PairStepped = pairStep p (f .item) t in
+        let d : PairStepped = pairStep p (f .input) t in
         rw (answers, leads, counts)
         (record {
           upto = omega arith;
@@ -119,10 +119,10 @@ module _ (inputs : List ℕ) (n : ℕ) (start : Pair) (before : ℕ) (r₀ a₀ 
           wrote = g .wrote ++ d .records;
           sent = g .sent ++ (d .telegram ∷ []);
           later = f .later;
-          played = g .played ∙ one-played (record { pair = p; answers = g .said; records = g .wrote; telegrams = g .sent }) (g .later) (f .later) t (f .item) (f .starts);
-          reads = rw (item-clock p (f .item) t) (f .reads);
-          safe = pair-step-keeps-sound p (f .item) t (g .safe) (f .risen) (f .timely) (item-fits inputs (inputPlace i) (f .item) (f .meant));
-          stands = standing-more before r₀ a₀ r a (g .wrote) (d .records) (g .said) (d .answer) k i (g .stands) (an-item-writes-at-most-three p (f .item) t) front (omega arith) r₁ writes long;
+          played = g .played ∙ one-played (record { pair = p; answers = g .said; records = g .wrote; telegrams = g .sent }) (g .later) (f .later) t (f .input) (f .starts);
+          reads = rw (item-clock p (f .input) t) (f .reads);
+          safe = pair-step-keeps-sound p (f .input) t (g .safe) (f .risen) (f .timely) (item-fits inputs (inputPlace i) (f .input) (f .meant));
+          stands = standing-more before r₀ a₀ r a (g .wrote) (d .records) (g .said) (d .answer) k i (g .stands) (an-item-writes-at-most-three p (f .input) t) front (omega arith) r₁ writes long;
         })
 
     -- and at the end no item is left
@@ -242,7 +242,7 @@ module _ (inputs : List ℕ) (n : ℕ) (start : Pair) (before : ℕ) (r₀ a₀ 
   t = stampAt inputs (inputPlace i)
 
   abbrev item : Item
-  item = next-item inputs n start before r₀ a₀ ready r a (pairOf (stateOf p table l) (listened r k z heard)) k i g h .item
+  item = next-item inputs n start before r₀ a₀ ready r a (pairOf (stateOf p table l) (listened r k z heard)) k i g h .input
 
   turned : Turned item t r₁ (m .count) z heard u
   turned = took item (next-item inputs n start before r₀ a₀ ready r a (pairOf (stateOf p table l) (listened r k z heard)) k i g h .meant)

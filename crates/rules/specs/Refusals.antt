@@ -186,17 +186,25 @@ pub record GoodGroups (inputs : List ℕ) : Type 0 where
   pub few : length inputs / 8 ≤ 256
 
 -- "Refusals: 9, then 12 .., then 8 as for the run (with n groups), then 6 or 7 as met.": n groups, from the clock on
-abbrev pub ChangeCodes : State → List ℕ → List ℕ → List ℕ → ℕ → ℕ → Type 0
-ChangeCodes s inputs records answers =
+-- `Sound` says when 9 is not given
+abbrev pub ChangeWhen : (Sound : Type 0) → ℕ → List ℕ → List ℕ → List ℕ → Refusal → ℕ → Type 0
+ChangeWhen Sound clock inputs records answers =
     let n : ℕ = length inputs / 8 in
-    let Sound : Type 0 = sound s ≡ true in
     let Room : Type 0 = RoomFor n records answers in
-    Codes
-    (Then (Only UnsoundState 0 (Sound → ⊥)) Sound
+    Then (Only UnsoundState 0 (Sound → ⊥)) Sound
     (Then (Only WrongGroups 0 (GoodGroups inputs → ⊥)) (GoodGroups inputs)
     (Then (Only ShortBuffer 0 (Room → ⊥)) Room
-    (InputsWhen (cueAt inputs) inputs n (s .clock) 864_000))))
-    (Sound × (GoodGroups inputs × (Room × GoodInputs (cueAt inputs) inputs n (s .clock) 864_000)))
+    (InputsWhen (cueAt inputs) inputs n clock 864_000)))
+
+abbrev pub GoodChange : (Sound : Type 0) → ℕ → List ℕ → List ℕ → List ℕ → Type 0
+GoodChange Sound clock inputs records answers =
+    let n : ℕ = length inputs / 8 in
+    Sound × (GoodGroups inputs × (RoomFor n records answers × GoodInputs (cueAt inputs) inputs n clock 864_000))
+
+abbrev pub ChangeCodes : State → List ℕ → List ℕ → List ℕ → ℕ → ℕ → Type 0
+ChangeCodes s inputs records answers =
+    let Sound : Type 0 = sound s ≡ true in
+    Codes (ChangeWhen Sound (s .clock) inputs records answers) (GoodChange Sound (s .clock) inputs records answers)
 
 -- ---- the number for C
 

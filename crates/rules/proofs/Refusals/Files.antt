@@ -1,7 +1,7 @@
 -- What a cue file is refused for, exactly; and what an accepted one says.
 use Prim.Native.Nat.{ℕ, suc, _+_, _*_, _≤_, _<_}
 use mathlib.Core.Bool.{Bool, true, false, cond, _&&_}
-use mathlib.Core.List.{List, _∷_}
+use mathlib.Core.List.{List}
 use mathlib.Core.Logic.{_↔_, inl, inr, ⊎-elim}
 use mathlib.Core.Option.{some}
 use mathlib.Core.Path.{_≡_, refl, sym, _∙_, ap}
@@ -31,7 +31,7 @@ use Rattle.rules.specs.Files.{actuators, parametersOffset, inputCount, i
 use Rattle.rules.specs.Refusals.{LongEnough, FoundWhen, GoodLayout, GoodHeader, GoodStart, StartWhen, GivenWhen, GoodFile}
 use Rattle.base.proofs.Tests.{no, both, cond-case, either-way}
 use Rattle.base.proofs.Codes.{then-decides}
-use Rattle.rules.proofs.Refusals.Readings.{verdict-after, bad-read, good-read, first-read, inputs-decide, list-is-the-inputs}
+use Rattle.rules.proofs.Refusals.Readings.{verdict-after, bad-read, good-read, FirstOf, first-of, inputs-decide, list-is-the-inputs}
 use Rattle.rules.proofs.Laws.Forms.{has-version, told-by-size}
 use Rattle.rules.proofs.Laws.Parameters.{lowest-bad-octet}
 
@@ -220,7 +220,7 @@ pub cues-are-the-octets : (file : List ℕ) (list : List Cue) → readFile file 
 cues-are-the-octets file list e = list-is-the-inputs (cueAt (inputsIn file)) (inputsIn file) (inputCount file) 0 (endTime file) list (sym (good-start file (good-file file list e .start)) ∙ e)
 
 -- what a cue of a list is made of
-pub cue-said : (inputs : List ℕ) (i : ℕ) (c : Cue) → cueAt inputs i ≡ some c → (x : Input) × (inputAt inputs (inputPlace i) ≡ Meant x) × (c ≡ cue (stampAt inputs (inputPlace i)) x)
+cue-said : (inputs : List ℕ) (i : ℕ) (c : Cue) → cueAt inputs i ≡ some c → (x : Input) × (inputAt inputs (inputPlace i) ≡ Meant x) × (c ≡ cue (stampAt inputs (inputPlace i)) x)
 unfolding cueAt
 cue-said inputs i c e = by (inputAt inputs (inputPlace i)) refl e
   where
@@ -229,20 +229,9 @@ cue-said inputs i c e = by (inputAt inputs (inputPlace i)) refl e
     by Wrong m e = absurd (let z : _≡_ {A = ℕ} 0 1 = cc in omega arith)
 
 -- the first cue of a list that is read without fault
-pub record FirstCue (inputs : List ℕ) (left i last end : ℕ) (list : List Cue) : Type 0 where
-  pub input : Input
-  pub later : List Cue
-  pub meant : inputAt inputs (inputPlace i) ≡ Meant input
-  pub risen : last ≤ stampAt inputs (inputPlace i)
-  pub timely : stampAt inputs (inputPlace i) ≤ end
-  pub starts : list ≡ cue (stampAt inputs (inputPlace i)) input ∷ later
-  pub reads : readInputs (cueAt inputs) inputs left (i + 1) (stampAt inputs (inputPlace i)) end ≡ cues later
-
-pub first-cue : (inputs : List ℕ) (left i last end : ℕ) (list : List Cue) → readInputs (cueAt inputs) inputs (suc left) i last end ≡ cues list → FirstCue inputs left i last end list
-first-cue inputs left i last end list e =
-    let f = first-read (cueAt inputs) inputs left i last end list e in
-    let c = cue-said inputs i (f .input) (f .means) in
-    record { input = c .0; later = f .later; meant = c .1; risen = f .risen; timely = f .timely; starts = f .starts ∙ ap (λ (x : Cue). x ∷ f .later) (c .2); reads = f .reads }
+pub first-cue : (inputs : List ℕ) (left i last end : ℕ) (list : List Cue) → readInputs (cueAt inputs) inputs (suc left) i last end ≡ cues list →
+    FirstOf (cueAt inputs) (λ x. inputAt inputs (inputPlace i) ≡ Meant x) (λ x. cue (stampAt inputs (inputPlace i)) x) inputs left i last end list
+first-cue inputs left i last end list e = first-of (cueAt inputs) _ _ inputs left i last end list (cue-said inputs i) e
 
 -- "offset of parameters (20)": they are the octets from there on
 pub parameters-stand-at-20 : (file : List ℕ) (j : ℕ) → j < parametersSize (formIn file) → octet (parametersIn file) j ≡ octet file (20 + j)

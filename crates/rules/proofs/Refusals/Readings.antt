@@ -65,17 +65,20 @@ after-first : {A : Type 0} (x : A) (r : Reading A) (list : List A) → before x 
 after-first x (cues later) list e = (later, cc, refl)
 after-first x (bad why place) list e = absurd (let z : _≡_ {A = ℕ} 0 1 = cc in omega arith)
 
--- the list starts with the input at index i, whose stamp is in order; the rest of it is read from there on
-pub record First {A : Type 0} (at : ℕ → Option A) (inputs : List ℕ) (left i last end : ℕ) (list : List A) : Type 0 where
-  pub input : A
+-- the list starts with the input at index i, which is made of what is meant there, and whose stamp is in order; the rest of it is read from there on
+pub record FirstOf {A B : Type 0} (at : ℕ → Option A) (Means : B → Type 0) (made : B → A) (inputs : List ℕ) (left i last end : ℕ) (list : List A) : Type 0 where
+  pub input : B
   pub later : List A
-  pub means : at i ≡ some input
+  pub meant : Means input
   pub risen : last ≤ stampAt inputs (inputPlace i)
   pub timely : stampAt inputs (inputPlace i) ≤ end
-  pub starts : list ≡ input ∷ later
+  pub starts : list ≡ made input ∷ later
   pub reads : readInputs at inputs left (i + 1) (stampAt inputs (inputPlace i)) end ≡ cues later
 
-pub first-read : {A : Type 0} (at : ℕ → Option A) (inputs : List ℕ) (left i last end : ℕ) (list : List A) → readInputs at inputs (suc left) i last end ≡ cues list → First at inputs left i last end list
+abbrev First : {A : Type 0} → (ℕ → Option A) → List ℕ → ℕ → ℕ → ℕ → ℕ → List A → Type 0
+First at inputs left i last end list = FirstOf at (λ x. at i ≡ some x) (λ x. x) inputs left i last end list
+
+first-read : {A : Type 0} (at : ℕ → Option A) (inputs : List ℕ) (left i last end : ℕ) (list : List A) → readInputs at inputs (suc left) i last end ≡ cues list → First at inputs left i last end list
 unfolding readInputs
 first-read {A} at inputs left i last end list e = by (at i) refl e
   where
@@ -90,7 +93,7 @@ first-read {A} at inputs left i last end list e = by (at i) refl e
         record {
           input = x;
           later = rest .0;
-          means = m;
+          meant = m;
           risen = leb-true _ _ (order .0);
           timely = leb-true _ _ (order .1);
           starts = rest .1;
@@ -102,6 +105,14 @@ first-read {A} at inputs left i last end list e = by (at i) refl e
     by none m r = absurd (let z : _≡_ {A = ℕ} 0 1 = unfold readOne in cc in omega arith)
     by (some x) m r = unfold readOne in timed x _ m refl r
 
+-- what stands there may be told by what it is made of
+pub first-of : {A B : Type 0} (at : ℕ → Option A) (Means : B → Type 0) (made : B → A) (inputs : List ℕ) (left i last end : ℕ) (list : List A) → ((x : A) → at i ≡ some x → (b : B) × Means b × (x ≡ made b)) →
+    readInputs at inputs (suc left) i last end ≡ cues list → FirstOf at Means made inputs left i last end list
+first-of {A} at Means made inputs left i last end list said e =
+    let f = first-read at inputs left i last end list e in
+    let c = said (f .input) (f .meant) in
+    record { input = c .0; later = f .later; meant = c .1; risen = f .risen; timely = f .timely; starts = f .starts ∙ ap (λ (x : A). x ∷ f .later) (c .2); reads = f .reads }
+
 -- what is read without fault up to an end is read the same up to a later one
 pub read-for-longer : {A : Type 0} (at : ℕ → Option A) (inputs : List ℕ) (left i last end longer : ℕ) (list : List A) → end ≤ longer → readInputs at inputs left i last end ≡ cues list → readInputs at inputs left i last longer ≡ cues list
 unfolding readInputs readOne
@@ -110,7 +121,7 @@ read-for-longer at inputs (suc left) i last end longer list later e =
     let f = first-read at inputs left i last end list e in
     let t : ℕ = stampAt inputs (inputPlace i) in
     let rest = read-for-longer at inputs left (i + 1) t end longer (f .later) later (f .reads) in
-    let whole : readInputs at inputs (suc left) i last longer ≡ cues (f .input ∷ f .later) = rw (f .means, le-leb last t (f .risen), le-leb t longer (omega (arith, f .timely, later)), rest) refl in
+    let whole : readInputs at inputs (suc left) i last longer ≡ cues (f .input ∷ f .later) = rw (f .meant, le-leb last t (f .risen), le-leb t longer (omega (arith, f .timely, later)), rest) refl in
     whole ∙ ap cues (sym (f .starts))
 
 module _ {A : Type 0} (at : ℕ → Option A) (inputs : List ℕ) (n from to : ℕ) where

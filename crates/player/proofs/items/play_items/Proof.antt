@@ -79,7 +79,7 @@ took c j e =
 behind-still : (c : tie.After-turn-at Inv-loop μ-loop) → c .turn-at .result .heard ≤ c .before .before .before .before .before .advance .result .count
 behind-still c =
     let f = next-item _ _ _ _ _ _ (ready-to (c .before .before .before .before .before .before .before .before .before .before .before)) _ _ _ _ _ (c .before .before .before .before .before .before .before .before .before .before .loop .inv .0) (c .before .before .before .before .before .before .before .before .before .loop-test .taken) in
-    took c (f .item) (f .meant) .behind
+    took c (f .input) (f .meant) .behind
 
 -- an item that asks for something asks for an input
 asked : (c : tie.After-asked Inv-loop μ-loop) → let given = c .asked .given .0 in (x : Input) × (decoded (given .0) (given .1 .0) ≡ Meant x)
