@@ -82,11 +82,20 @@ build_bridge() {
     kit_cc "$out/bridge.o" tests/bridge.c && kit_link "$out/bridge" "$out/bridge.o" "${archives[@]}"
 }
 
+# no_warning NAME: examples/NAME.c compiles without one.
+no_warning() {
+    cc -std=c99 -Wall -Wextra -Wconversion -Wpedantic -Werror -Iinclude -fsyntax-only "examples/$1.c"
+}
+
+# its_line NAME: the line in the comment of examples/NAME.c that builds and runs it.
+its_line() {
+    sed -n 's/^ \* \(cc .*\)/\1/p' "examples/$1.c"
+}
+
 # build_example NAME: examples/NAME.c, with warnings as errors: by a C compiler for x86-64 where there is one, else by the kit's
 # compiler with this machine's headers.
 build_example() {
     local name=$1 cc=x86_64-linux-gnu-gcc
-    [ "$(uname -m)" = x86_64 ] && cc=cc
     if command -v "$cc" >/dev/null; then
         "$cc" -std=c99 -Wall -Wextra -Werror -pedantic -O2 -fPIE -Iinclude -c "examples/$name.c" -o "$out/$name.o"
     else
@@ -95,20 +104,30 @@ build_example() {
     fi && kit_link "$out/$name" "$out/$name.o" "${archives[@]}"
 }
 
-# example_says NAME [SHOW]: it writes examples/NAME.SHOW.txt of a show, or examples/NAME.txt where it takes none.
+# example_says NAME SHOW COMMAND..: the command writes examples/NAME.SHOW.txt of a show, or examples/NAME.txt where SHOW is empty.
 example_says() {
-    local name=$1 show=${2:-}
-    "${kit_run[@]}" "$out/$name" <"${show:+shows/}${show:-/dev/null}" | diff - "examples/$name${show:+.${show%.*}}.txt"
+    local name=$1 show=$2
+    shift 2
+    "$@" <"${show:+shows/}${show:-/dev/null}" | diff - "examples/$name${show:+.${show%.*}}.txt"
 }
 
-# example NAME [SHOW..]: examples/NAME.c, built and run, over each show or by itself.
+# example NAME [SHOW..]: examples/NAME.c, built and run, over each show or by itself. Where its comment's own line can be run, that
+# line builds it and plays the first show.
 example() {
-    local name=$1 show
+    local name=$1 show program=("target/${1}_c")
     shift
-    done_or_not "examples/$name.c is built, warnings as errors" build_example "$name"
-    [ "$#" -gt 0 ] || done_or_not "examples/$name.c says what the house does" example_says "$name"
+    if [ "$(uname -m)" = x86_64 ]; then
+        done_or_not "examples/$name.c has no warning" no_warning "$name"
+        done_or_not "examples/$name.c says what the house does${1:+ in shows/$1}, by the line in its comment" \
+            example_says "$name" "${1:-}" bash -c "$(its_line "$name")"
+        set -- "${@:2}"
+    else
+        done_or_not "examples/$name.c is built, warnings as errors" build_example "$name"
+        program=("${kit_run[@]}" "$out/$name")
+        [ "$#" -gt 0 ] || done_or_not "examples/$name.c says what the house does" example_says "$name" "" "${program[@]}"
+    fi
     for show in "$@"; do
-        done_or_not "examples/$name.c says what the house does in shows/$show" example_says "$name" "$show"
+        done_or_not "examples/$name.c says what the house does in shows/$show" example_says "$name" "$show" "${program[@]}"
     done
 }
 
@@ -145,5 +164,6 @@ counted "the shows" bash tests/shows.sh
 example preview example.cue tenths.cue
 example wall foyer.wall stage_door.wall
 example live
+counted "the package" bash tests/package.sh
 echo "$passed passed, $failed failed"
 [ "$failed" -eq 0 ]
