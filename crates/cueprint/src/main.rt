@@ -26,9 +26,9 @@ use rules::state::State;
 use sensor::call::fresh_sensor;
 use sensor::state::Sensor;
 use sensor::state::own_sensor;
-use walls::list::actions_in;
-use walls::list::check_wall;
-use walls::list::file_in;
+use wallfile::actions_in;
+use wallfile::check_wall;
+use wallfile::file_in;
 
 // A word, and numbers, each after a space.
 fn print_line(word: &[u8], numbers: &[u64]) {
