@@ -2,9 +2,6 @@
 ghost use mathlib.Core.Path.{_≡_};
 ghost use Rattle.pairs.specs.Walls.{wallRefusal, wallCall};
 ghost use Rattle.walls.specs.Reports.{wallReport, wallWhole};
-use crate::list::actions_in;
-use crate::list::check_wall;
-use crate::list::file_in;
 use base::refusal::Check;
 use base::refusal::Refusal;
 use base::refusal::number_of;
@@ -18,6 +15,9 @@ use runs::play::play;
 use sensor::state::fresh_with;
 use sensor::state::own_sensor;
 use states::fresh::own_state;
+use wallfile::actions_in;
+use wallfile::check_wall;
+use wallfile::file_in;
 
 fn refused(why: Refusal, place: u16) -> WallRan
     ensures { λ r. ⌜ r ≡ wallRefusal why place ⌝ }

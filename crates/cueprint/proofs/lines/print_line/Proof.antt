@@ -1,8 +1,8 @@
 use Prim.Native.Nat.{_≤_, _-_}
 use lib.ListN.{length}
 use borrow.Author.Needs.{needs}
-use Rattle.cueprint.proofs.print_line.Statement.{statement}
-use Rattle.cueprint.proofs.print_line.Tie as tie
+use Rattle.cueprint.proofs.lines.print_line.Statement.{statement}
+use Rattle.cueprint.proofs.lines.print_line.Tie as tie
 
 abbrev Inv-loop : tie.InvT-loop
 Inv-loop word numbers i₀ t4 t5 i = i ≤ length numbers

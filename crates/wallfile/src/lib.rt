@@ -1,10 +1,11 @@
-// A wall list: its parts, and what it is refused for.
+// A wall list, a cue file in which edges of push buttons stand among the inputs and the actions of these edges after it: its parts, and
+// what it is refused for.
 ghost use mathlib.Core.Path.{_≡_};
 ghost use Prim.Native.Nat.{_≤_};
 ghost use lib.ListN.{length};
 ghost use Rattle.rules.specs.Readings.{verdict};
 ghost use Rattle.pairs.specs.Walls.{actionsSize, fileIn, actionsIn, readWall};
-ghost use Rattle.walls.specs.Lists.{checkParts};
+ghost use Rattle.wallfile.specs.Checks.{checkParts};
 use base::refusal::Check;
 use base::refusal::Refusal;
 use cues::check::check_inputs_in;

@@ -5,8 +5,8 @@ use lib.Seq.{take-all}
 use denote.Ref.{now}
 use borrow.Author.Needs.{needs}
 use Rattle.pairs.specs.Walls.{actionsIn}
-use Rattle.walls.proofs.list.actions_in.Statement.{statement}
-use Rattle.walls.proofs.list.actions_in.Tie as tie
+use Rattle.wallfile.proofs.actions_in.Statement.{statement}
+use Rattle.wallfile.proofs.actions_in.Tie as tie
 
 -- up to the end of the list is all that is left of it
 returns : tie.Need-returns

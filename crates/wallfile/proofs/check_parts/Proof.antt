@@ -4,10 +4,10 @@ use borrow.Author.Needs.{needs}
 use Rattle.rules.specs.Refusals.{GoodStart}
 use Rattle.rules.proofs.Refusals.Files.{start-decides}
 use Rattle.cues.proofs.Inputs.{checked-as-read}
-use Rattle.walls.specs.Lists.{checkParts}
-use Rattle.walls.proofs.Items.{items-say}
-use Rattle.walls.proofs.list.check_parts.Statement.{statement}
-use Rattle.walls.proofs.list.check_parts.Tie as tie
+use Rattle.wallfile.specs.Checks.{checkParts}
+use Rattle.wallfile.proofs.Items.{items-say}
+use Rattle.wallfile.proofs.check_parts.Statement.{statement}
+use Rattle.wallfile.proofs.check_parts.Tie as tie
 
 -- what stands before the inputs is good
 start : (c : tie.After-enum-told2) → GoodStart (now (c .before .before .before .before .before .before .before .before .args .file))

@@ -1,8 +1,8 @@
 use mathlib.Core.Path.{sym}
 use borrow.Author.Needs.{needs}
-use Rattle.walls.proofs.Items.{long-wall, short-wall}
-use Rattle.walls.proofs.list.check_wall.Statement.{statement}
-use Rattle.walls.proofs.list.check_wall.Tie as tie
+use Rattle.wallfile.proofs.Items.{long-wall, short-wall}
+use Rattle.wallfile.proofs.check_wall.Statement.{statement}
+use Rattle.wallfile.proofs.check_wall.Tie as tie
 
 returns : tie.Need-returns
 returns c = sym (short-wall _ (c .if1 .taken))

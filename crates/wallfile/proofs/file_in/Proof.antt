@@ -4,8 +4,8 @@ use lib.ListN.{length, length-take}
 use denote.Ref.{now}
 use borrow.Author.Needs.{needs}
 use Rattle.pairs.specs.Walls.{fileIn}
-use Rattle.walls.proofs.list.file_in.Statement.{statement}
-use Rattle.walls.proofs.list.file_in.Tie as tie
+use Rattle.wallfile.proofs.file_in.Statement.{statement}
+use Rattle.wallfile.proofs.file_in.Tie as tie
 
 slice-aggregate-result : tie.Need-slice-aggregate-result
 slice-aggregate-result c = let wall = now (c .before .args .wall) in omega (arith, length-take (length wall - 4) wall)

@@ -28,7 +28,7 @@ use Rattle.pairs.specs.Walls.{fileIn, actionsIn, checkWall, stampedItem, itemIn
 use Rattle.inputs.specs.Meaning.{isMeant}
 use Rattle.cues.specs.Checks.{isEdge, isKnown, knownAt}
 use Rattle.cues.proofs.Inputs.{says}
-use Rattle.walls.specs.Lists.{checkParts}
+use Rattle.wallfile.specs.Checks.{checkParts}
 
 -- a list that takes edges
 pub items-say : (inputs : List ℕ) (i : ℕ) → knownAt true inputs i ≡ says (itemIn inputs i)
