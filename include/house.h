@@ -26,8 +26,8 @@
  *
  * All of it is for x86-64 Linux. In the repository `./package DIR` fills a folder with this header, with libhouse.a and libhouse.so,
  * either of which has every call below, and with house.pc, so that `pkg-config --cflags --libs house` gives what a compiler needs.
- * (Inside the repository the calls stand in three archives of target/staticlib: house_run and house_version in libhouse.a, the live
- * calls in libdesk.a, house_wall_run in libwalls.a.)
+ * (Inside the repository the calls stand in four archives of target/staticlib: house_run in libhouse.a, the live calls in libdesk.a,
+ * house_wall_run in libwalls.a, house_version in libversion.a.)
  */
 #ifndef HOUSE_H
 #define HOUSE_H

@@ -1,4 +1,4 @@
-# The Rattle kit's own tools, for scripts that build or run x86-64 programs on either kind of machine. Source it.
+# The Rattle kit's own tools, for scripts that build or run x86-64 programs on either kind of machine, and what they build. Source it.
 kit_home=$(dirname "$(dirname "$(readlink -f "$(command -v rt)")")")
 kit_own=$kit_home/on/$(uname -m)
 kit_tools=$kit_own/toolchain
@@ -23,3 +23,6 @@ if [ -x "$kit_tools/bin/qemu-x86_64" ]; then
 else
     kit_run=("$kit_tools/lib/ld-linux-x86-64.so.2" --library-path "$kit_tools/lib")
 fi
+
+# The libraries that have calls for C: `rt staticlib` makes an archive of each.
+libraries=(house desk walls version)

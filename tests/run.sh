@@ -12,7 +12,6 @@ cd "$(dirname "$0")/.." || exit 2
 passed=0
 failed=0
 out=target/tests
-libraries=(house desk walls)
 archives=("${libraries[@]/#/target/staticlib/lib}")
 archives=("${archives[@]/%/.a}")
 mkdir -p "$out"

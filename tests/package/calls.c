@@ -243,7 +243,10 @@ static void accept(enum call call, size_t more) {
         claim("what is behind the records stays", names[call],
               all_are(l.at[RECORDS] + HOUSE_RECORD_SIZE * house_count(l.number), l.at[RECORDS] + l.len[RECORDS], PATTERN));
     }
-    if (l.len[ANSWERS]) claim("what is behind the answers stays", names[call], all_are(l.at[ANSWERS] + INPUTS, l.at[ANSWERS] + l.len[ANSWERS], PATTERN));
+    if (l.len[ANSWERS]) {
+        claim("what is behind the answers stays", names[call],
+              all_are(l.at[ANSWERS] + INPUTS, l.at[ANSWERS] + l.len[ANSWERS], PATTERN));
+    }
     give_back(&l);
 }
 
@@ -314,10 +317,11 @@ static void lend_none(enum call call) {
 /* Without inputs there are no answers: a list of none is accepted with NULL for them. */
 static void play_no_inputs(enum call call) {
     struct given show = shows[call];
+    uint8_t *list = show.octets[LIST];
     size_t inputs = INPUTS * HOUSE_INPUT_SIZE;
     struct lent l;
-    if (call != CHANGE) house_put_u32(show.octets[LIST] + 8, 0);
-    if (call == WALL_RUN) memmove(show.octets[LIST] + HOUSE_INPUTS_AT_2, show.octets[LIST] + HOUSE_INPUTS_AT_2 + inputs, HOUSE_ACTIONS_SIZE);
+    if (call != CHANGE) house_put_u32(list + 8, 0);
+    if (call == WALL_RUN) memmove(list + HOUSE_INPUTS_AT_2, list + HOUSE_INPUTS_AT_2 + inputs, HOUSE_ACTIONS_SIZE);
     show.len[LIST] -= inputs;
     l = lend(&show, 0);
     lend_nothing(&l, ANSWERS);
@@ -430,16 +434,22 @@ static void read_and_write(void) {
     uint8_t input[HOUSE_INPUT_SIZE] = {PATTERN, PATTERN, PATTERN, PATTERN, PATTERN, PATTERN, PATTERN, PATTERN};
     static const uint8_t octets_of_input[HOUSE_INPUT_SIZE] = {0, 13, 46, 255, HOUSE_SCENE, HOUSE_LEARN + 63, 0, 0};
     const uint8_t *file = shows[RUN].octets[LIST], *later = shows[RUN_TO].octets[LIST];
+    uint64_t number = 0x000C123480000007u;
     house_put_input(input, HOUSE_LAST_STAMP - 1, HOUSE_SCENE, HOUSE_LEARN + HOUSE_LAST_SCENE);
     claim("an input", name, memcmp(input, octets_of_input, sizeof input) == 0 && house_stamp(input) == 863999);
-    claim("a number", name, house_code(0x000C123400000007u) == 12 && house_place(0x000C123400000007u) == 0x1234 && house_count(0x000C123480000007u) == 0x80000007u);
+    claim("a number", name, house_code(number) == 12 && house_place(number) == 0x1234 && house_count(number) == 0x80000007u);
     claim("a file of version 1", name, house_file_version(file) == 1 && house_inputs(file) == INPUTS && house_inputs_at(file) == 52);
     claim("a file of version 2", name, house_file_version(later) == 2 && house_inputs(later) == INPUTS && house_inputs_at(later) == 60);
-    claim("sizes of files", name, shows[RUN].len[LIST] == HOUSE_FILE_SIZE_1(INPUTS) && shows[RUN_TO].len[LIST] == HOUSE_FILE_SIZE_2(INPUTS) &&
-                                      HOUSE_FILE_SIZE(1 + 1) == HOUSE_FILE_SIZE_2(2) && HOUSE_LONGEST_FILE == 16444 && HOUSE_LONGEST_WALL == 16448);
+}
+
+static void compare_constants(void) {
+    const char *name = "house.h";
+    claim("sizes of version 1", name, HOUSE_FILE_SIZE_1(1 + 1) == 68 && shows[RUN].len[LIST] == 68);
+    claim("sizes of version 2", name, HOUSE_FILE_SIZE_2(1 + 1) == 76 && shows[RUN_TO].len[LIST] == 76);
+    claim("room for files", name, HOUSE_FILE_SIZE(1 + 1) == 76 && HOUSE_LONGEST_FILE == 16444 && HOUSE_LONGEST_WALL == 16448);
     claim("room for records", name, HOUSE_RECORDS_ROOM(1 + 1) == 72 && HOUSE_MOVE_ROOM == 16);
+    claim("the parts of the version", name, HOUSE_VERSION == packed(HOUSE_VERSION_MAJOR, HOUSE_VERSION_MINOR) + 0x00020001u);
     claim("header and archive belong together", name, house_version() == HOUSE_VERSION);
-    claim("the version's parts", name, HOUSE_VERSION >> 32 == HOUSE_VERSION_MAJOR * 65536u + HOUSE_VERSION_MINOR && (HOUSE_VERSION & 0xFFFFFFFFu) == 0x00020001u);
 }
 
 static void play(enum call call) {
@@ -464,6 +474,7 @@ int main(void) {
     compare_ranges();
     play_in_threads();
     read_and_write();
+    compare_constants();
     for (int call = 0; call < CALLS; call++) give_back(&wanted[call]);
     printf("%u held, %u did not\n", held, broken);
     return broken != 0;
