@@ -1,12 +1,13 @@
 //! The calls of the archive from Rust, linked in or by the bridge, and the comparison of what they give with what the second model
 //! says. Shared by compare.rs, compare_walls.rs and compare_live.rs.
 //!
-//! Built with `--cfg linked`, the real archives (libhouse.a, libdesk.a, libwalls.a) are linked in and do nearly all the work, and a sample goes by the
+//! Built with `--cfg linked`, the real archives (target/staticlib) are linked in and do nearly all the work, and a sample goes by the
 //! bridge too; without it everything goes by the bridge.
 #![allow(dead_code)]
 
 use crate::files::{Rng, LAYOUTS};
 use crate::model::{record_octets, Record};
+use std::collections::HashMap;
 use std::io::{BufReader, BufWriter, Read, Write};
 use std::ops::RangeInclusive;
 use std::process::{Child, ChildStdin, ChildStdout, Command, Stdio};
@@ -26,6 +27,18 @@ pub enum Call {
     Change = b'h',
     Move = b'm',
     RunTo = b't',
+}
+
+impl Call {
+    /// Which of list, state, records and answers it takes.
+    fn takes(self) -> [bool; 4] {
+        match self {
+            Call::Run | Call::WallRun => [true, false, true, true],
+            Call::Fresh => [true, true, false, false],
+            Call::Change | Call::RunTo => [true; 4],
+            Call::Move => [false, true, true, false],
+        }
+    }
 }
 
 /// One call, with what it is lent. A call that takes no list, state, stamp or buffer leaves it as it is.
@@ -210,6 +223,8 @@ pub struct Comparison {
     pub compared: u64,
     pub by_bridge: u64,
     pub differing: u64,
+    /// By the call's letter: which of list, state, records and answers were NULL at least once.
+    nulls: HashMap<u8, [bool; 4]>,
 }
 
 impl Comparison {
@@ -217,12 +232,13 @@ impl Comparison {
     pub fn start() -> Comparison {
         let command: Vec<String> = std::env::args().skip(1).collect();
         assert!(!command.is_empty(), "the bridge's command is not named");
-        Comparison { bridge: Bridge::start(&command), compared: 0, by_bridge: 0, differing: 0 }
+        Comparison { bridge: Bridge::start(&command), compared: 0, by_bridge: 0, differing: 0, nulls: HashMap::new() }
     }
 
     /// One call, linked in where that can be, and by the bridge where it is of the sample or cannot.
     pub fn check(&mut self, case: &Case, expected: &Outcome, sample: bool) {
         self.compared += 1;
+        self.note_nulls(case);
         #[cfg(linked)]
         {
             let found = by_link(case);
@@ -237,6 +253,19 @@ impl Comparison {
                 self.differ("bridge", case, expected, &found);
             }
         }
+    }
+
+    fn note_nulls(&mut self, case: &Case) {
+        let lengths = [case.list.len(), case.state.len(), case.records_len, case.answers_len];
+        let met = self.nulls.entry(case.call as u8).or_default();
+        for (i, takes) in case.call.takes().into_iter().enumerate() {
+            met[i] |= case.null && takes && lengths[i] == 0;
+        }
+    }
+
+    /// Whether every pointer that these calls take was NULL at least once.
+    pub fn null_is_met(&self, calls: &[Call]) -> bool {
+        calls.iter().all(|&call| self.nulls.get(&(call as u8)) == Some(&call.takes()))
     }
 
     /// What the archive alone gives.
@@ -264,7 +293,7 @@ impl Comparison {
 
     /// How many calls went by the bridge, and how many differed.
     pub fn stop(self) -> (u64, u64) {
-        let Comparison { bridge, compared, by_bridge, differing } = self;
+        let Comparison { bridge, compared, by_bridge, differing, .. } = self;
         bridge.stop();
         println!("by the bridge: {}; by the linked archive: {}", by_bridge, if cfg!(linked) { compared } else { 0 });
         (by_bridge, differing)

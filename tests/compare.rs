@@ -68,6 +68,7 @@ impl Tally {
     fn finish(self, seed: u64, wanted: u64) -> ! {
         let Tally { comparison, codes, answers, longest } = self;
         let files = comparison.compared;
+        let null_is_met = comparison.null_is_met(&[Call::Run]);
         println!("seed {}, {} files, the longest of each version with {:?} inputs", seed, files, longest);
         let (by_bridge, differing) = comparison.stop();
         codes.say(&CODES);
@@ -77,6 +78,7 @@ impl Tally {
         claims.claim("at least 120,000 files, or as many as were asked for", files >= wanted.min(120_000));
         claims.claim("a file of 2,048 inputs is accepted in every version", longest.iter().all(|&n| n == 2048));
         codes.claim(&CODES, &mut claims);
+        claims.claim("NULL is met for every pointer", null_is_met);
         claims.claim("every answer is met", answers.iter().all(|&k| k > 0));
         claims.claim("a sample went by the bridge", by_bridge >= 100);
         claims.finish()

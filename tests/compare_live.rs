@@ -101,7 +101,6 @@ struct Met {
     stood: [[u64; 3]; ROWS],
     /// Accepted changes of 0 and of 256 inputs.
     ends: [[u64; 2]; ROWS],
-    nulls: u64,
     /// Whether 9 was given exactly where a rule is broken.
     nine_by_the_rules: bool,
 }
@@ -121,7 +120,6 @@ impl Met {
             after_an_input: [0; ROWS],
             stood: [[0; 3]; ROWS],
             ends: [[0; 2]; ROWS],
-            nulls: 0,
             nine_by_the_rules: true,
         }
     }
@@ -130,8 +128,6 @@ impl Met {
         let row = row(case);
         let call = CALLS.iter().position(|(call, _, _)| *call == case.call).expect("a live call");
         self.codes[row][call][given.code()] += 1;
-        let lent = [case.list.len(), case.state.len(), case.records_len, case.answers_len];
-        self.nulls += u64::from(case.null && lent.contains(&0));
         if matches!(case.call, Call::Change | Call::Move) {
             self.note_handed_in(row, case, given);
         }
@@ -220,7 +216,6 @@ impl Met {
             println!("  changes of 0 and of 256 inputs: {:?}", self.ends[row]);
             println!("  images that break one rule alone: {:?}", self.broken_alone[row]);
         }
-        println!("calls with NULL for what has length 0: {}", self.nulls);
     }
 
     fn claim(&self, claims: &mut Claims) {
@@ -238,7 +233,6 @@ impl Met {
         let other_version = self.broken_alone[LAYOUTS.len()][0] > 0;
         claims.claim("a state of another version, but for that sound, is met", other_version);
         claims.claim("9 is given exactly where a rule of images.rs is broken", self.nine_by_the_rules);
-        claims.claim("NULL is met", self.nulls > 100);
     }
 
     /// What must be met in each version that is played.
@@ -456,6 +450,7 @@ impl Tally {
     fn finish(self, seed: u64, in_order: u64) -> ! {
         let Tally { comparison, met, in_parts, parts, parts_differing } = self;
         let calls = comparison.compared;
+        let null_is_met = comparison.null_is_met(&CALLS.map(|(call, _, _)| call));
         println!("seed {}, {} calls, {} of them in order and {} at random", seed, calls, in_order, calls - in_order);
         let (by_bridge, differing) = comparison.stop();
         println!("changes played in parts too: {}, in {} parts", in_parts, parts);
@@ -467,6 +462,7 @@ impl Tally {
         let asked_for = (calls - in_order) / 10;
         claims.claim("at least 10,000 changes in parts, or as many as were asked for", in_parts >= asked_for.min(10_000));
         met.claim(&mut claims);
+        claims.claim("NULL is met for every pointer of every call", null_is_met);
         claims.claim("a sample went by the bridge", by_bridge >= 100);
         claims.finish()
     }

@@ -241,6 +241,7 @@ impl Tally {
     fn finish(self, seed: u64, wanted: u64) -> ! {
         let Tally { comparison, met, codes, bad_actions, longest, plain } = self;
         let walls = comparison.compared;
+        let null_is_met = comparison.null_is_met(&[Call::WallRun]);
         println!("seed {}, {} wall lists, {} of them plain cue files", seed, walls, plain);
         println!("the longest of each version with {:?} items", longest);
         let (by_bridge, differing) = comparison.stop();
@@ -252,6 +253,7 @@ impl Tally {
         claims.claim("at least 120,000 wall lists, or as many as were asked for", walls >= wanted.min(120_000));
         claims.claim("a list of 2,048 items is accepted in every version", longest.iter().all(|&n| n == 2048));
         codes.claim(&CODES, &mut claims);
+        claims.claim("NULL is met for every pointer", null_is_met);
         claims.claim("a bad action is met at every place", bad_actions.iter().all(|&k| k > 0));
         met.claim(&mut claims);
         claims.claim("cue files with four zero octets went by the plain run", plain > 0);
