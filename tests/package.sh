@@ -51,7 +51,8 @@ helps() {
 
 # A folder with something else in it stays as it was.
 refuses_a_full_folder() {
-    mkdir "$work/full" && echo mine >"$work/full/file" && ends 2 "$work/full" && [ "$(cd "$work/full" && find . | sort | xargs)" = ". ./file" ]
+    mkdir "$work/full" && echo mine >"$work/full/file" && ends 2 "$work/full" && [ "$(ls -A "$work/full")" = file ] &&
+        [ "$(cat "$work/full/file")" = mine ]
 }
 
 fills_an_empty_folder() {
@@ -81,6 +82,7 @@ folders() {
     check "./package --help" helps --help
     check "./package -h" helps -h
     check "./package without a folder" ends 2
+    check "./package with an empty name" ends 2 ""
     check "./package with two folders" ends 2 "$work/one" "$work/two"
     check "./package with an option that there is not" ends 2 --all
     check "./package into a file" ends 2 "$work/file"
@@ -183,11 +185,19 @@ contents() {
 
 # ---- what is built against it
 
+# The compilers, and what runs their programs.
 choose_compilers() {
     cc=cc cxx=c++ run=()
     [ "$(uname -m)" != x86_64 ] || return
     cc=x86_64-linux-gnu-gcc cxx=x86_64-linux-gnu-g++ run=(qemu-x86_64)
     echo "AddressSanitizer and valgrind are for x86-64 machines: not tried here"
+}
+
+# can_build: on x86-64 what is missing is a failure of the checks that need it; elsewhere nothing is built then.
+can_build() {
+    local command
+    [ "$(uname -m)" != x86_64 ] || return 0
+    for command in "$cc" "$cxx" "${run[@]}" pkg-config; do command -v "$command" >/dev/null || return 1; done
 }
 
 # alone COMPILER LANGUAGE STANDARD: the header by itself.
@@ -224,7 +234,7 @@ sanitized() { # LANGUAGE LINK
 program() {
     local out=calls_$1_$2 name="a $1 program, $2"
     check "$name: built, warnings as errors" build "$1" "$2" "$out"
-    check "$name: it is" needs "$2" "$out"
+    check "$name: and linked so" needs "$2" "$out"
     check "$name: every call" outside "${run[@]}" "./$out"
     [ "$(uname -m)" = x86_64 ] || return 0
     check "$name: under valgrind" outside valgrind -q --error-exitcode=9 --leak-check=full "./$out"
@@ -238,9 +248,9 @@ stack() {
 }
 
 headers() {
-    local compiler
-    for compiler in "$cc" clang; do
-        command -v "$compiler" >/dev/null || continue
+    local compiler compilers=("$cc")
+    ! outside clang --version >/dev/null 2>&1 || compilers+=(clang)
+    for compiler in "${compilers[@]}"; do
         check "house.h by itself has no warning: $compiler, C99" alone "$compiler" c c99
         check "house.h by itself has no warning: $compiler, C11" alone "$compiler" c c11
         check "house.h by itself has no warning: $compiler, C++11" alone "$compiler" c++ c++11
@@ -273,10 +283,10 @@ everything() {
     echo "ok: ./package fills a folder, and makes those above it"
     mv "$work/first/house" "$package"
     choose_compilers
-    if command -v "$cc" >/dev/null || [ "$(uname -m)" = x86_64 ]; then
+    if can_build; then
         programs
     else
-        echo "there is no C compiler for x86-64 here: nothing is built against the package"
+        echo "the compilers for x86-64, qemu-x86_64 or pkg-config are not here: nothing is built against the package"
     fi
     folders
     contents
