@@ -113,7 +113,8 @@ has_the_calls() {
 
 # has_no FILE TABLE PATTERN: no line of a table fits.
 has_no() {
-    readelf -W "$2" "$1" >"$work/table" && ! grep -E "$3" "$work/table"
+    local table
+    table=$(readelf -W "$2" "$1") && ! grep -E "$3" <<<"$table"
 }
 
 # A linker takes only what a program needs.

@@ -32,7 +32,8 @@ bring mandoc mandoc
 if [ "$(uname -m)" = x86_64 ]; then
     bring cc gcc libc6-dev
     bring c++ g++
-    bring valgrind valgrind
+    # valgrind does not start without the names in the C library
+    ! lacking valgrind libc6-dbg || install valgrind libc6-dbg
 else
     # Debian's own compiler with the library for x86-64, a linker for it, and an emulator.
     cross=(rustc libstd-rust-dev:amd64 gcc-x86-64-linux-gnu libc6-dev-amd64-cross qemu-user)
