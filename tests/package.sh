@@ -35,14 +35,14 @@ outside() {
 
 # ---- what ./package does with a folder
 
-# ends STATUS WORDS..: ./package ends so, with one line on standard error and none on standard output.
+# ends STATUS WHY WORDS..: ./package WORDS.. ends so, and says why in one line on standard error, and nothing on standard output.
 ends() {
-    local status=$1 got
-    shift
+    local status=$1 why=$2 got
+    shift 2
     ./package "$@" >"$work/out" 2>"$work/err"
     got=$?
     cat "$work/out" "$work/err"
-    [ "$got" -eq "$status" ] && [ ! -s "$work/out" ] && [ "$(wc -l <"$work/err")" -eq 1 ] && grep -q '^package: ' "$work/err"
+    [ "$got" -eq "$status" ] && [ ! -s "$work/out" ] && [ "$(wc -l <"$work/err")" -eq 1 ] && grep -q "^package: .*$why" "$work/err"
 }
 
 helps() {
@@ -51,7 +51,7 @@ helps() {
 
 # A folder with something else in it stays as it was.
 refuses_a_full_folder() {
-    mkdir "$work/full" && echo mine >"$work/full/file" && ends 2 "$work/full" && [ "$(ls -A "$work/full")" = file ] &&
+    mkdir "$work/full" && echo mine >"$work/full/file" && ends 2 "is not empty" "$work/full" && [ "$(ls -A "$work/full")" = file ] &&
         [ "$(cat "$work/full/file")" = mine ]
 }
 
@@ -70,7 +70,8 @@ replaces() {
 
 # A list that names a file outside of the folder is none of ours.
 refuses_a_strange_list() {
-    mkdir -p "$work/strange/share/house" && echo ../full/file >"$work/strange/share/house/files" && ends 2 "$work/strange"
+    mkdir -p "$work/strange/share/house" && echo ../full/file >"$work/strange/share/house/files" &&
+        ends 2 "is not empty" "$work/strange"
 }
 
 nothing_is_left_beside() {
@@ -81,14 +82,14 @@ folders() {
     echo mine >"$work/file"
     check "./package --help" helps --help
     check "./package -h" helps -h
-    check "./package without a folder" ends 2
-    check "./package with an empty name" ends 2 ""
-    check "./package with two folders" ends 2 "$work/one" "$work/two"
-    check "./package with an option that there is not" ends 2 --all
-    check "./package into a file" ends 2 "$work/file"
+    check "./package without a folder" ends 2 usage
+    check "./package with an empty name" ends 2 usage ""
+    check "./package with two folders" ends 2 usage "$work/one" "$work/two"
+    check "./package with an option that there is not" ends 2 "no option '--all'" --all
+    check "./package into a file" ends 2 "is no folder" "$work/file"
     check "./package into a folder with something else" refuses_a_full_folder
     check "./package into a folder whose list names a file elsewhere" refuses_a_strange_list
-    check "./package where nobody may write" ends 3 /proc/house
+    check "./package where nobody may write" ends 3 "cannot be written" /proc/house
     check "./package into an empty folder gives the same octets again" fills_an_empty_folder
     check "./package over an earlier package" replaces
     check "./package leaves nothing beside the folder" nothing_is_left_beside
@@ -223,7 +224,7 @@ build() {
 needs() {
     case $1 in
     static) has_no "$work/away/$2" --dynamic 'libhouse' ;;
-    shared) ! has_no "$work/away/$2" --dynamic "NEEDED.*\[libhouse.so.${version%.*}\]" ;;
+    shared) readelf -dW "$work/away/$2" | grep -F "(NEEDED)" | grep -F "[libhouse.so.${version%.*}]" ;;
     esac
 }
 
