@@ -1,6 +1,6 @@
 /* Plays the cue file on standard input and says in words what the house does. On x86-64, in the repository:
  *
- * cc -I include examples/preview.c target/staticlib/libhouse.a -o target/preview_c && target/preview_c < shows/example.cue
+ * cc -I include examples/preview.c target/staticlib/libhouse.a target/staticlib/libversion.a -o target/preview_c && target/preview_c < shows/example.cue
  */
 #include <stdio.h>
 
@@ -18,6 +18,10 @@ static void say_record(const uint8_t *record) {
 }
 
 int main(void) {
+    if (house_version() != HOUSE_VERSION) {
+        fprintf(stderr, "the archive is not of this header's version\n");
+        return 1;
+    }
     size_t len = fread(file, 1, sizeof file, stdin);
     uint64_t number = house_run(file, len, records, sizeof records, answers, sizeof answers);
     if (house_code(number) != HOUSE_ACCEPTED) {

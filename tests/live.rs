@@ -17,7 +17,7 @@ use crate::model::{
 // The image of a state
 // ================================================================================================
 
-/// "A state is HOUSE_STATE_OCTETS octets, its image."
+/// "A state is HOUSE_STATE_SIZE octets, its image."
 pub const STATE_OCTETS: usize = 56;
 
 pub type Image = [u8; STATE_OCTETS];
@@ -236,7 +236,7 @@ fn code_and_place(played: &Result<(), Refusal>) -> (u8, u16) {
 pub const MOVE_ROOM: usize = 2 * RECORD;
 
 /// "The fresh state of parameters alone ... is written to state. Refusals: 1, 5 with the place of
-/// the lowest bad octet, then 8 for a state_len that is not HOUSE_STATE_OCTETS. The count is 0."
+/// the lowest bad octet, then 8 for a state_len that is not HOUSE_STATE_SIZE. The count is 0."
 pub fn fresh_into(parameters: &[u8], state: &mut [u8]) -> u64 {
     let accepted = accept_fresh(parameters).and_then(|fresh| {
         accept_state_room(state.len())?;
@@ -287,7 +287,7 @@ pub fn move_into(state: &mut [u8], stamp: u32, records: &mut [u8]) -> u64 {
 }
 
 /// "As house_run, and the image of the state at the end time is written to state ... Refusals: those
-/// of house_run; a state_len that is not HOUSE_STATE_OCTETS is refused with 8."
+/// of house_run; a state_len that is not HOUSE_STATE_SIZE is refused with 8."
 ///
 /// 8 is the last refusal of the run, and its place is 0, so that the two need no order.
 pub fn run_to_into(file: &[u8], state: &mut [u8], records: &mut [u8], answers: &mut [u8]) -> u64 {
@@ -306,7 +306,7 @@ pub fn run_to_into(file: &[u8], state: &mut [u8], records: &mut [u8], answers: &
     }
 }
 
-/// "8 for a state_len that is not HOUSE_STATE_OCTETS"
+/// "8 for a state_len that is not HOUSE_STATE_SIZE"
 fn accept_state_room(state_len: usize) -> Result<(), Refusal> {
     if state_len != STATE_OCTETS {
         return refuse(8, 0);
