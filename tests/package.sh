@@ -175,6 +175,7 @@ contents() {
     check "the archive has no unwind tables" has_no "$archive" --sections 'eh_frame|gcc_except_table'
     check "the shared object has the calls of the header, and no other symbol, defined or not" has_the_calls "$shared" --dyn-syms
     check "the shared object needs no other, and has no text to relocate" has_no "$shared" --dynamic 'NEEDED|TEXTREL'
+    check "the shared object has no unwind tables" has_no "$shared" --sections 'eh_frame|gcc_except_table'
     check "the shared object has no executable stack" stack_is_data
     check "the shared object is called libhouse.so.${version%.*}" has_soname
     check "libhouse.so leads to libhouse.so.$version" links_in_a_row

@@ -464,11 +464,15 @@ static void play(enum call call) {
     lend_pairs(call);
 }
 
-int main(void) {
+static void play_all(void) {
     for (int call = 0; call < CALLS; call++) {
         write_show((enum call)call);
         play((enum call)call);
     }
+}
+
+int main(void) {
+    play_all();
     refuse_all();
     stop_half_way();
     compare_ranges();

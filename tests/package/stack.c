@@ -122,13 +122,18 @@ static void measure_all(void) {
     measure(WALL_RUN);
 }
 
-int main(void) {
+/* Says all figures; whether each is low enough, and of calls that were accepted. */
+static int say_all(void) {
     int within = 1;
-    for (int i = 0; i < LISTS; i++) measure_all();
     for (int which = 0; which < CALLS; which++) {
         printf("%s%s %zu", which ? ", " : "", names[which], deepest[which]);
         within = within && deepest[which] <= MOST && accepted[which] >= LISTS;
     }
     printf("\n");
-    return !within;
+    return within;
+}
+
+int main(void) {
+    for (int i = 0; i < LISTS; i++) measure_all();
+    return !say_all();
 }
