@@ -1,5 +1,6 @@
 //! The print program against the second model's printout, over a sample of files.
-//! Usage: prints [--wall] PROGRAM.. where PROGRAM.. is the command that runs the print program, with --wall that of wall lists.
+//! Usage: prints [--wall] [--phases | --summary] PROGRAM.. where PROGRAM.. is the command that prints a list on standard input: with --wall
+//! a wall list, with --phases with its phases, with --summary in words, whose last lines are compared.
 
 #[path = "model.rs"]
 mod model;
@@ -12,6 +13,12 @@ mod files;
 
 #[path = "walls.rs"]
 mod walls;
+
+#[path = "live.rs"]
+mod live;
+
+#[path = "told.rs"]
+mod told;
 
 use files::{CueFile, Layout, Rng, LAYOUTS};
 use std::io::Write;
@@ -77,21 +84,40 @@ fn sample(rng: &mut Rng, made: Made) -> Vec<Vec<u8>> {
     sample
 }
 
-fn main() {
-    let mut command: Vec<String> = std::env::args().skip(1).collect();
-    let walls = command.first().map_or(false, |word| word == "--wall");
-    if walls {
+/// Whether a word stands first; it is taken away.
+fn told_to(command: &mut Vec<String>, wanted: &str) -> bool {
+    let told = command.first().map_or(false, |word| word == wanted);
+    if told {
         command.remove(0);
     }
-    assert!(!command.is_empty(), "usage: prints [--wall] PROGRAM..");
+    told
+}
+
+/// What is said behind the last empty line; of all lines where there is none.
+fn last_part(text: &str) -> String {
+    text.rsplit("\n\n").next().unwrap().to_string()
+}
+
+fn main() {
+    let mut command: Vec<String> = std::env::args().skip(1).collect();
+    let walls = told_to(&mut command, "--wall");
+    let phases = told_to(&mut command, "--phases");
+    let summary = told_to(&mut command, "--summary");
+    assert!(!command.is_empty(), "usage: prints [--wall] [--phases | --summary] PROGRAM..");
     let seed = std::env::var("SEED").ok().map_or(20_260_102, |x| x.parse().expect("a number"));
     let mut rng = Rng::new(seed);
     let sample = sample(&mut rng, if walls { wall_list } else { cue_file });
     let mut passed = 0;
     let mut failed = 0;
     for file in &sample {
-        let expected = if walls { wall::print_wall(file) } else { model::print(file) };
+        let expected = match (phases, summary, walls) {
+            (true, _, _) => told::phases(file, walls),
+            (_, true, _) => told::summary(file, walls),
+            (_, _, true) => wall::print_wall(file),
+            _ => model::print(file),
+        };
         let found = printed(&command, file);
+        let found = if summary { last_part(&found) } else { found };
         if found == expected {
             passed += 1;
         } else {

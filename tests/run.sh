@@ -144,6 +144,10 @@ if command -v rustc >/dev/null; then
     done_or_not "the printout's comparison is built" rust prints
     counted "the printout against the second model" "${run[@]}" "$out/prints" "${kit_run[@]}" target/bin/cueprint
     counted "the printout of wall lists against the second model" "${run[@]}" "$out/prints" --wall ./preview --wall /dev/stdin
+    counted "the printout with its phases against the second model" "${run[@]}" "$out/prints" --phases "${kit_run[@]}" target/bin/cueprint phases
+    counted "the same of wall lists" "${run[@]}" "$out/prints" --wall --phases "${kit_run[@]}" target/bin/cueprint wall phases
+    counted "the summary in words against the second model" "${run[@]}" "$out/prints" --summary ./preview --words -
+    counted "the same of wall lists" "${run[@]}" "$out/prints" --wall --summary ./preview --wall --words -
     counted "the by-value calls of sensor and pair against the second model, and that model's own tests" bash tests/paces.sh
 else
     failed=$((failed + 1))
@@ -160,6 +164,7 @@ if command -v rustc >/dev/null; then
     compared compare_live "the live calls against the second model"
 fi
 counted "the shows" bash tests/shows.sh
+counted "the command ./preview" bash tests/preview.sh
 example preview example.cue tenths.cue
 example wall foyer.wall stage_door.wall
 example live

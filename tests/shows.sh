@@ -4,35 +4,7 @@
 set -u
 cd "$(dirname "$0")/.." || exit 2
 
-passed=0
-failed=0
-work=$(mktemp -d) || exit 2
-trap 'rm -rf "$work"' EXIT
-
-# holds NAME STATUS WANTED SAID WORDS..: ./preview WORDS.. ends with STATUS, prints exactly the file WANTED, and says on standard
-# error exactly the file SAID, or, where that is a number, so many lines.
-holds() {
-    local name=$1 status=$2 wanted=$3 said=$4 got why=
-    shift 4
-    "$@" >"$work/out" 2>"$work/err"
-    got=$?
-    [ "$got" -eq "$status" ] || why="$why; exit status $got, not $status"
-    cmp -s "$work/out" "$wanted" || why="$why; another printout"
-    if [ -f "$said" ]; then
-        cmp -s "$work/err" "$said" || why="$why; other words on standard error"
-    else
-        [ "$(wc -l <"$work/err")" -eq "$said" ] || why="$why; not $said lines on standard error"
-    fi
-    if [ -z "$why" ]; then
-        passed=$((passed + 1))
-        echo "ok: $name"
-    else
-        failed=$((failed + 1))
-        echo "FAILED: $name: ${why#; }"
-        diff "$wanted" "$work/out" | head -n 10
-        head -n 10 "$work/err"
-    fi
-}
+. tests/holds.sh
 
 # play_all END WORDS..: every shows/NAME.END, by ./preview WORDS.. and the file.
 play_all() {
@@ -44,7 +16,10 @@ play_all() {
         name=$(basename "$show" ".$end")
         case $name in
         refused_*) holds "$name" 1 "shows/$name.txt" "shows/$name.why" ./preview "$@" "$show" ;;
-        *) holds "$name" 0 "shows/$name.txt" 0 ./preview "$@" "$show" ;;
+        *)
+            holds "$name" 0 "shows/$name.txt" 0 ./preview "$@" "$show"
+            holds "$name in words" 0 "shows/$name.words" 0 ./preview --words "$@" "$show"
+            ;;
         esac
     done
 }
@@ -91,13 +66,7 @@ holds "a name from another folder" 0 shows/ties.txt 0 bash -c 'cd shows && ../pr
 
 # the stored test of the print program is the example show
 for pair in example.cue:stdin example.txt:stdout; do
-    if cmp "shows/${pair%:*}" "crates/cueprint/${pair#*:}"; then
-        passed=$((passed + 1))
-        echo "ok: shows/${pair%:*} is crates/cueprint/${pair#*:}"
-    else
-        failed=$((failed + 1))
-        echo "FAILED: shows/${pair%:*} is not crates/cueprint/${pair#*:}"
-    fi
+    verdict "shows/${pair%:*} is crates/cueprint/${pair#*:}" "$(cmp "shows/${pair%:*}" "crates/cueprint/${pair#*:}" 2>&1)"
 done
 
 # the files are those that make.py writes
@@ -107,16 +76,9 @@ if command -v python3 >/dev/null; then
         cmp "$show" "$work/made/$(basename "$show")" || echo "$show"
     done >"$work/other" 2>&1
     made=$(find "$work/made" -name '*.cue' -o -name '*.wall' | wc -l)
-    if [ "$shows" -gt 0 ] && [ ! -s "$work/other" ] && [ "$made" -eq "$shows" ]; then
-        passed=$((passed + 1))
-        echo "ok: shows/make.py writes the $shows shows"
-    else
-        failed=$((failed + 1))
-        echo "FAILED: shows/make.py does not write these shows"
-        cat "$work/other"
-    fi
+    [ "$made" -eq "$shows" ] || echo "$made shows are made, $shows are there" >>"$work/other"
+    verdict "shows/make.py writes the $shows shows" "$(cat "$work/other")"
 fi
 
 [ "$shows" -gt 0 ] || failed=$((failed + 1))
-echo "$passed passed, $failed failed"
-[ "$failed" -eq 0 ]
+tally
