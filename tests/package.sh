@@ -12,7 +12,7 @@ work=$(mktemp -d) || exit 2
 trap 'rm -rf "$work"' EXIT
 mkdir "$work/away" "$work/logs"
 package=$work/moved
-version=$(awk '$2 == "HOUSE_VERSION_MAJOR" { major = $3 } $2 == "HOUSE_VERSION_MINOR" { print major "." $3 }' include/house.h)
+version=$(tests/version.sh)
 warnings=(-Wall -Wextra -Wconversion -Wpedantic -Werror)
 
 # check NAME COMMAND..: one check; what the command says is shown where it fails.
@@ -163,10 +163,14 @@ glibc_as_said() {
     grep -q "glibc ${newest#GLIBC_} or later" README.md
 }
 
-prints() {
-    local run=("${kit_run[@]}")
-    [ "$(uname -m)" != x86_64 ] || run=()
-    outside "${run[@]}" "$package/bin/cueprint" <shows/example.cue | diff - shows/example.txt
+# prints_as_here STATUS WORDS..: preview of the package ends so, and writes what ./preview does. Only an emulator needs the kit.
+prints_as_here() {
+    local status=$1 kit=()
+    shift
+    [ "$(uname -m)" = x86_64 ] || kit=(env "RATTLE_HOME=$kit_home")
+    ./preview "$@" >"$work/here" 2>&1
+    outside "${kit[@]}" "$package/bin/preview" "$@" >"$work/there" 2>&1
+    [ "$?" -eq "$status" ] && diff "$work/here" "$work/there"
 }
 
 contents() {
@@ -183,7 +187,10 @@ contents() {
     check "the manual page has no warning, and says version $version" lints
     check "the manual page has the codes of the header" codes_agree
     check "bin/cueprint asks for the glibc of README" glibc_as_said
-    check "bin/cueprint prints a show" prints
+    check "bin/preview plays the example" prints_as_here 0
+    check "bin/preview plays the example of a wall list in words" prints_as_here 0 --wall --words
+    check "bin/preview says why a file is refused" prints_as_here 1 "$PWD/shows/refused_5.cue"
+    check "bin/preview says its version" prints_as_here 0 --version
 }
 
 # ---- what is built against it
