@@ -236,8 +236,13 @@ needs() {
     esac
 }
 
-sanitized() { # LANGUAGE LINK
-    build "$1" "$2" "sane_$1_$2" -fsanitize=address,undefined -fno-sanitize-recover=all && outside "./sane_$1_$2"
+# sanitized LANGUAGE LINK: some sanitizers do not bear every layout of memory that a kernel chooses at random, so it is fixed where that
+# is allowed. Leaks are left to valgrind: to look for them here takes the right to trace.
+sanitized() {
+    local fixed=(setarch -R)
+    outside "${fixed[@]}" true || fixed=()
+    build "$1" "$2" "sane_$1_$2" -fsanitize=address,undefined -fno-sanitize-recover=all &&
+        outside "${fixed[@]}" env ASAN_OPTIONS=detect_leaks=0 "./sane_$1_$2"
 }
 
 # program LANGUAGE LINK: built once, and run plainly and under valgrind; built and run once more with the sanitizers.
