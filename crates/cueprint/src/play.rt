@@ -161,7 +161,7 @@ fn play_inputs(start: State, fresh: Sensor, inputs: &[u8], n: u32, phases: bool)
 }
 
 // An accepted file, from the start record to the end time. (The start record says what a fresh sensor has: off, at 0.)
-pub fn play_file(file: &[u8], z: Sensor, phases: bool)
+pub(crate) fn play_file(file: &[u8], z: Sensor, phases: bool)
     requires { ⌜ GoodHeader (now file) ⌝ }
 {
     let n = input_count(file);
