@@ -30,10 +30,7 @@ ratio() {
 }
 
 rt check house desk walls >"$out/check" 2>&1
-for crate in house desk walls; do
-    native_module "$out/$crate.bc" "$crate"
-    native_object "$out/$crate.o" "$out/$crate.bc" -O3
-done
+for crate in house desk walls; do native_object "$out/$crate.o" "$crate" -O3; done
 rustc --edition 2021 -C opt-level=3 -C codegen-units=1 bench/bench.rs -o "$out/bench" -C link-arg="$out/house.o" -C link-arg="$out/desk.o" \
     -C link-arg="$out/walls.o"
 "$out/bench" shows >"$out/shows"

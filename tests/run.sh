@@ -8,6 +8,7 @@
 set -u
 cd "$(dirname "$0")/.." || exit 2
 . tests/kit.sh
+. tests/native.sh
 
 passed=0
 failed=0
@@ -118,6 +119,12 @@ make_archives() {
     for name in "${libraries[@]}"; do rt staticlib "$name" || return 1; done
 }
 
+# make_modules: of the proved code, for the fuzz tests. They prove each crate once more, too.
+make_modules() {
+    local name
+    for name in "${libraries[@]}"; do native_module "$name" || return 1; done
+}
+
 # The archives are made beside what needs neither them nor rt.
 make_archives >"$out/staticlib" 2>&1 &
 archive=$!
@@ -134,6 +141,8 @@ fi
 
 done_or_not "the archives for C are built (rt staticlib ${libraries[*]})" wait "$archive"
 tail -n 1 "$out/staticlib"
+make_modules &
+modules=$!
 done_or_not "the bridge is built by the kit alone" build_bridge
 if command -v rustc >/dev/null; then
     echo "the Rust tests reach the archive by: $way"
@@ -145,5 +154,7 @@ counted "the shows" bash tests/shows.sh
 example preview example.cue tenths.cue
 example wall foyer.wall stage_door.wall
 example live
+wait "$modules"
+counted "the calls from C, fuzzed" tests/fuzz/run.sh
 echo "$passed passed, $failed failed"
 [ "$failed" -eq 0 ]

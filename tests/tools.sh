@@ -1,6 +1,6 @@
 #!/usr/bin/env bash
 # Installs with apt-get what the tests from Rust and C need and this machine lacks, and says so. Fails where there is no Rust
-# compiler in the end; the rest can be done without (tests/run.sh says how).
+# compiler in the end; the rest can be done without (tests/run.sh says how), but for clang, without which the fuzz tests fail.
 set -u
 
 # lacking PACKAGE..: whether one of them is not installed.
@@ -28,4 +28,8 @@ else
         install "${cross[@]}"
     fi
 fi
+# libFuzzer is in the runtime of clang, whose package has the version in its name.
+command -v clang >/dev/null || install clang
+runtime=libclang-rt-$(clang -dumpversion | cut -d. -f1)-dev
+! lacking "$runtime" || install "$runtime"
 command -v rustc >/dev/null || { echo "there is no Rust compiler, and none can be installed"; exit 1; }

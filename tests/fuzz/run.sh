@@ -39,8 +39,7 @@ finish() {
 proved_objects() {
     local crate
     for crate in house desk walls; do
-        native_module "$out/$crate.bc" "$crate" || { cat "$out/$crate.bc.log"; return 1; }
-        native_object "$out/$crate.o" "$out/$crate.bc" -O3 -fsanitize-coverage=inline-8bit-counters,pc-table,trace-cmp || return 1
+        native_object "$out/$crate.o" "$crate" -O3 -fsanitize-coverage=inline-8bit-counters,pc-table,trace-cmp || return 1
     done
 }
 
@@ -87,16 +86,13 @@ each_code_met() {
 judge() {
     local target=$1 status=$2 log=$out/$1.log runs
     runs=$(figure "$log" number_of_executed_units:)
-    if [ "$status" -eq 0 ] && [ "$runs" -gt 0 ]; then
-        pass "$target: $runs executions, $(figure "$log" cov:) edges, $(figure "$log" ft:) features, and nothing found"
-    else
+    if [ "$status" -ne 0 ] || [ "$runs" -eq 0 ]; then
         fail "$target ended with status $status after $runs executions"
         grep -E '^FOUND: |^SUMMARY: |Test unit written to' "$log" || tail -n 20 "$log"
-    fi
-    if each_code_met "$target"; then
-        pass "$target: every code that its calls can give was given"
+    elif ! each_code_met "$target"; then
+        fail "$target: $runs executions found nothing, and did not meet every code"
     else
-        fail "$target: not every code was given"
+        pass "$target: $runs executions, $(figure "$log" cov:) edges, $(figure "$log" ft:) features, every code met, nothing found"
     fi
 }
 
@@ -137,5 +133,5 @@ for target in "${targets[@]}"; do
     wait "${running[$target]}"
     judge "$target" $?
 done
-judge_edges
+[ "$failed" -gt 0 ] || judge_edges
 finish
