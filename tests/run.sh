@@ -144,6 +144,7 @@ tail -n 1 "$out/staticlib"
 make_modules &
 modules=$!
 done_or_not "the bridge is built by the kit alone" build_bridge
+done_or_not "number, records, answers and state are as docs/FORMAT.md shows them" tests/format.sh "${kit_run[@]}" "$out/bridge"
 if command -v rustc >/dev/null; then
     echo "the Rust tests reach the archive by: $way"
     compared compare "the run against the second model"

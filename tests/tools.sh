@@ -30,6 +30,8 @@ else
 fi
 # libFuzzer is in the runtime of clang, whose package has the version in its name.
 command -v clang >/dev/null || install clang
-runtime=libclang-rt-$(clang -dumpversion | cut -d. -f1)-dev
-! lacking "$runtime" || install "$runtime"
+if command -v clang >/dev/null; then
+    runtime=libclang-rt-$(clang -dumpversion | cut -d. -f1)-dev
+    ! lacking "$runtime" || install "$runtime"
+fi
 command -v rustc >/dev/null || { echo "there is no Rust compiler, and none can be installed"; exit 1; }
