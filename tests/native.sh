@@ -35,11 +35,11 @@ native_module() {
     return "$status"
 }
 
-# native_object OUT.o CRATE WORDS..: the crate's module, compiled for this processor.
+# native_object OUT.o CRATE WORDS..: the crate's module, compiled for this processor. (That it names another processor is said by clang
+# again and again, and shown only where it fails.)
 native_object() {
     local object=$1 name=$2
     shift 2
-    native_module "$name" || { cat "$native/$name.log"; return 1; }
-    "$kit_tools/bin/clang" "--target=$(uname -m)-unknown-linux-gnu" -fPIC "$@" -x ir -c "$native/$name.bc" -o "$object" \
-        -Wno-override-module
+    native_module "$name" && "$kit_tools/bin/clang" "--target=$(uname -m)-unknown-linux-gnu" -fPIC "$@" -x ir -c "$native/$name.bc" \
+        -o "$object" -Wno-override-module 2>>"$native/$name.log" || { cat "$native/$name.log"; return 1; }
 }

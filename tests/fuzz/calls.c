@@ -31,7 +31,8 @@ struct calls {
 static const struct calls proved = {house_run, house_wall_run, house_fresh, house_change, house_move, house_run_to};
 static const struct calls model = {model_run, model_wall_run, model_fresh, model_change, model_move, model_run_to};
 
-static uint64_t by(const struct calls *side, const struct call *c, const uint8_t *list, uint8_t *state, uint8_t *records, uint8_t *answers) {
+static uint64_t by(const struct calls *side, const struct call *c, const uint8_t *list, uint8_t *state, uint8_t *records,
+                   uint8_t *answers) {
     switch (c->which) {
     case RUN: return side->run(list, c->list_len, records, c->records_len, answers, c->answers_len);
     case WALL_RUN: return side->wall_run(list, c->list_len, records, c->records_len, answers, c->answers_len);
@@ -62,8 +63,9 @@ static const struct {
 static uint64_t met[CALLS][16], made[CALLS];
 
 static void tell_codes(int which) {
+    const char *name = promised[which].name;
     for (unsigned code = 0; code < 16 && made[which] > 0; code++) {
-        if (promised[which].codes >> code & 1) fprintf(stderr, "code %u of %s: %" PRIu64 "\n", code, promised[which].name, met[which][code]);
+        if (promised[which].codes >> code & 1) fprintf(stderr, "code %u of %s: %" PRIu64 "\n", code, name, met[which][code]);
     }
 }
 
@@ -115,7 +117,14 @@ static int takes_a_file(const struct call *c) {
 
 /* How many inputs a call has; of a file, those that its header counts. */
 static size_t inputs_of(const struct call *c) {
-    return takes_a_file(c) ? number_at(c->list + 8) : c->list_len / INPUT;
+    if (!takes_a_file(c)) return c->list_len / INPUT;
+    return c->list_len < HEADER ? 0 : number_at(c->list + 8);
+}
+
+static size_t parameters_of(const struct call *c) {
+    size_t start = inputs_at(c->list, c->list_len);
+    if (c->which == FRESH) return c->list_len;
+    return start == 0 ? 0 : start - HEADER;
 }
 
 /* How many inputs were played: all of an accepted call, of a change those before the refused one. */
@@ -127,7 +136,7 @@ static size_t played(const struct call *c, struct told t) {
 /* Below what the place is; 1 where it is 0. */
 static size_t places(const struct call *c, unsigned code) {
     switch (code) {
-    case 5: return c->which == FRESH ? c->list_len : inputs_at(c->list, c->list_len) - HEADER;
+    case 5: return parameters_of(c);
     case 6: return inputs_of(c);
     case 7: return c->which == MOVE ? 1 : inputs_of(c);
     case 11: return ACTIONS;
@@ -239,9 +248,10 @@ static void check_state(const struct call *c, uint64_t number, const struct lent
     memcpy(image, state->first, STATE_OCTETS);
     /* a move without room for its records is refused for that, once the image is accepted */
     uint64_t moved = house_move(image, STATE_OCTETS, number_at(image + CLOCK_AT), NULL, 0);
+    uint64_t changed = house_change(image, STATE_OCTETS, NULL, 0, room, sizeof room, NULL, 0);
     expect(taken_apart(moved).code == 8, c, number, "the state that it gives is refused by house_move");
-    expect(house_change(image, STATE_OCTETS, NULL, 0, room, sizeof room, NULL, 0) == 0, c, number, "the state that it gives is refused by house_change");
-    expect(memcmp(image, state->first, STATE_OCTETS) == 0, c, number, "no input changes the state that it gives");
+    expect(changed == 0, c, number, "the state that it gives is refused by house_change");
+    expect(memcmp(image, state->first, STATE_OCTETS) == 0, c, number, "a change of no inputs changes the state that it gives");
 }
 
 static void compare_with_model(const struct call *c, uint64_t number, const struct lending *l) {

@@ -53,8 +53,8 @@ target_objects() {
 
 build() {
     rm -rf "$out/seeds"
-    rustc --edition 2021 -O -D warnings -C panic=abort -C overflow-checks=on --crate-type staticlib tests/fuzz/model.rs -o "$out/libmodel.a" &&
-        proved_objects && target_objects &&
+    rustc --edition 2021 -O -D warnings -C panic=abort -C overflow-checks=on --crate-type staticlib tests/fuzz/model.rs \
+        -o "$out/libmodel.a" && proved_objects && target_objects &&
         clang -fsanitize=fuzzer "$out"/{calls,fuzz,mend,rooms,house,desk,walls}.o "$out/libmodel.a" -lm -ldl -lpthread -o "$out/fuzz" &&
         rustc --edition 2021 -O -D warnings tests/fuzz/seeds.rs -o "$out/make_seeds" && "$out/make_seeds" "$out/seeds"
 }
