@@ -161,11 +161,15 @@ fn ends(seeds: &mut Seeds, layout: &'static Layout, rng: &mut Rng) {
         seeds.cues(&CueFile::random_in(layout, rng, n).octets(), [0; 3]);
         seeds.walls(&WallList::random_in(layout, rng, n).octets(), [0; 3]);
     }
-    let fresh = Fields::fresh(&CueFile::random_in(layout, rng, 0)).octets();
+    let show = CueFile::random_in(layout, rng, 0);
+    let fresh = Fields::fresh(&show).octets();
     for len in [8 * 256, 8 * 257, 9] {
         let inputs = files::inputs_from(0, 5, 300, rng).concat();
         seeds.live(WILD_STATE, &fresh, &step(CHANGE_AS_IS, [0, 0], &inputs[..len]));
     }
+    // too little room for a move, and then for a fresh state
+    let short = [step(MOVE_IN_TIME, [-1, 0], &[0; 4]), step(FRESH_STATE, [0, -1], &show.octets()[20..])].concat();
+    seeds.live(WILD_STATE, &fresh, &short);
 }
 
 /// The shows that are written down.
