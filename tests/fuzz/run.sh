@@ -59,11 +59,12 @@ build() {
         rustc --edition 2021 -O -D warnings tests/fuzz/seeds.rs -o "$out/make_seeds" && "$out/make_seeds" "$out/seeds"
 }
 
-# fuzz TARGET: for so many seconds; inputs that reach something new stay in its corpus.
+# fuzz TARGET: for so many seconds; inputs that reach something new stay in its corpus. It is started in the background, and takes the
+# place of the shell there, so that it ends with this script.
 fuzz() {
     local target=$1
     mkdir -p "$out/corpus/$target"
-    "$out/fuzz" -max_total_time="$seconds" -max_len=2400 -timeout=10 -print_final_stats=1 -artifact_prefix="$out/found-$target-" \
+    exec "$out/fuzz" -max_total_time="$seconds" -max_len=2400 -timeout=10 -print_final_stats=1 -artifact_prefix="$out/found-$target-" \
         "$out/corpus/$target" "$out/seeds/$target" "$out/seeds/$target-refused" >"$out/$target.log" 2>&1
 }
 
@@ -115,6 +116,10 @@ judge_edges() {
     fi
 }
 
+for target in "${targets[@]}"; do
+    [ -n "${calls[$target]:-}" ] || { fail "there is no target $target, but for: ${!calls[*]}"; finish; }
+done
+[[ $seconds =~ ^[1-9][0-9]*$ ]] || { fail "$seconds is no number of seconds"; finish; }
 command -v clang >/dev/null || { fail "there is no clang, which brings libFuzzer"; finish; }
 command -v rustc >/dev/null || { fail "there is no Rust compiler"; finish; }
 if build >"$out/build.log" 2>&1; then
@@ -125,6 +130,7 @@ else
     finish
 fi
 declare -A running
+trap 'kill $(jobs -p) 2>/dev/null' EXIT
 for target in "${targets[@]}"; do
     fuzz "$target" &
     running[$target]=$!
