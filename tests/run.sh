@@ -1,6 +1,6 @@
 #!/usr/bin/env bash
-# The tests of what is built: the archive against the second model, the print program, the C examples. Called by ./test after
-# the proofs and after tests/tools.sh, from the repository's root. The last line is 'N passed, M failed'.
+# The tests of what is built: the archive against the second model, the print program, the C examples, the fuzz tests. Called by ./test
+# after the proofs and after tests/tools.sh, from the repository's root. The last line is 'N passed, M failed'.
 #
 # How the Rust tests reach the archive, which is x86-64: on x86-64 they link it plainly. On aarch64 they are compiled for
 # x86-64 with Debian's packages and run under an emulator. Where those packages cannot be had, they run as they are, and every
