@@ -1,6 +1,6 @@
 #!/usr/bin/env bash
 # Whether the documents tell the truth about the repository: the edges of ARCHITECTURE, the edits and the theorems that PROMISES and
-# TRACE name. Says what differs.
+# TRACE name, the dumps of FORMAT. Says what differs.
 set -u
 cd "$(dirname "$0")/.." || exit 2
 bad=0
@@ -26,6 +26,9 @@ differ "the inner functions with a condition differ from those of PROMISES" \
             /^ *requires/{ if (name != "") { file = FILENAME; sub("^crates/", "", file); sub("/src/", "::", file); sub("[.]rt$", "", file); sub("::lib$", "", file); print file "::" name } }' \
             crates/*/src/*.rt | sort -u) \
         <(sed -n '/^### Inner functions/,/^## /p' docs/PROMISES.md | grep '^|' | cut -d'|' -f3 | grep -oE '`[a-z]+(::[a-z0-9_]+)+`' | tr -d '`' | sort -u))"
+
+# The dumps of files in FORMAT are those files. (Those of what a show gives are compared where there is an archive: tests/run.sh.)
+differ "the dumps of FORMAT differ from the files" "$(tests/format.sh)"
 
 # Contracts cite definitions, never a proof.
 differ "a contract cites a proof" "$(grep -nE '^ghost use .*[.·]proofs' crates/*/src/*.rt)"

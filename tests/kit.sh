@@ -24,5 +24,6 @@ else
     kit_run=("$kit_tools/lib/ld-linux-x86-64.so.2" --library-path "$kit_tools/lib")
 fi
 
-# The libraries that have calls for C: `rt staticlib` makes an archive of each.
-libraries=(house desk walls version)
+# The libraries whose calls play something, and all that have calls for C: `rt staticlib` makes an archive of each.
+played=(house desk walls)
+libraries=("${played[@]}" version)

@@ -1,6 +1,6 @@
 #!/usr/bin/env bash
-# The tests of what is built: the archive against the second model, the print program, the C examples, the package. Called by
-# ./test after the proofs and after tests/tools.sh, from the repository's root. The last line is 'N passed, M failed'.
+# The tests of what is built: the archive against the second model, the print program, the C examples, the package, the fuzz tests.
+# Called by ./test after the proofs and after tests/tools.sh, from the repository's root. The last line is 'N passed, M failed'.
 #
 # How the Rust tests reach the archive, which is x86-64: on x86-64 they link it plainly. On aarch64 they are compiled for
 # x86-64 with Debian's packages and run under an emulator. Where those packages cannot be had, they run as they are, and every
@@ -8,6 +8,7 @@
 set -u
 cd "$(dirname "$0")/.." || exit 2
 . tests/kit.sh
+. tests/native.sh
 
 passed=0
 failed=0
@@ -136,6 +137,12 @@ make_archives() {
     for name in "${libraries[@]}"; do rt staticlib "$name" || return 1; done
 }
 
+# make_modules: of the proved code, for the fuzz tests. They prove each crate once more, too.
+make_modules() {
+    local name
+    for name in "${played[@]}"; do native_module "$name" || return 1; done
+}
+
 # The archives are made beside what needs neither them nor rt.
 make_archives >"$out/staticlib" 2>&1 &
 archive=$!
@@ -156,7 +163,10 @@ fi
 
 done_or_not "the archives for C are built (rt staticlib ${libraries[*]})" wait "$archive"
 tail -n 1 "$out/staticlib"
+make_modules &
+modules=$!
 done_or_not "the bridge is built by the kit alone" build_bridge
+done_or_not "number, records, answers and state are as docs/FORMAT.md shows them" tests/format.sh "${kit_run[@]}" "$out/bridge"
 if command -v rustc >/dev/null; then
     echo "the Rust tests reach the archive by: $way"
     compared compare "the run against the second model"
@@ -169,5 +179,7 @@ example preview example.cue tenths.cue
 example wall foyer.wall stage_door.wall
 example live
 counted "the package" bash tests/package.sh
+wait "$modules"
+counted "the calls from C, fuzzed" tests/fuzz/run.sh
 echo "$passed passed, $failed failed"
 [ "$failed" -eq 0 ]

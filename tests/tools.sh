@@ -1,7 +1,7 @@
 #!/usr/bin/env bash
 # Installs with apt-get what the tests from Rust and C need and this machine lacks, and says so. Fails where there is no Rust
-# compiler in the end. On aarch64 the rest can be done without (tests/run.sh and tests/package.sh say how); on x86-64 what is missing
-# fails the tests that need it.
+# compiler in the end. On aarch64 the rest can be done without (tests/run.sh and tests/package.sh say how), but for clang, without which
+# the fuzz tests fail; on x86-64 what is missing fails the tests that need it.
 set -u
 
 # lacking PACKAGE..: whether one of them is not installed.
@@ -44,5 +44,11 @@ else
         install "${cross[@]}"
     fi
     bring x86_64-linux-gnu-g++ g++-x86-64-linux-gnu
+fi
+# libFuzzer is in the runtime of clang, whose package has the version in its name.
+bring clang clang
+if command -v clang >/dev/null; then
+    runtime=libclang-rt-$(clang -dumpversion | cut -d. -f1)-dev
+    ! lacking "$runtime" || install "$runtime"
 fi
 command -v rustc >/dev/null || { echo "there is no Rust compiler, and none can be installed"; exit 1; }
