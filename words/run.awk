@@ -12,7 +12,7 @@ held && $1 != "E" { say_timer() }
 $1 == "R" { record($2, $3) }
 $1 == "S" { sent = $3 ? ", sends On" : ", sends Off" }
 $1 == "A" { take_answer($2, $3) }
-$1 == "P" { phase = $3; until = $4; clock = $2; $0 = ""; after_phase() }
+$1 == "P" { phase = $3; until = $4; clock = $2; after_phase() }
 $1 == "E" { say_end() }
 
 # The light is what the last record says; the time that it was lit is added up from record to record.
