@@ -1,17 +1,15 @@
-# What the tests of ./preview share: counts, a folder of their own, and a command held to what it must write. Source it.
-passed=0
-failed=0
+# What the tests of ./preview share: a folder of their own, and a command held to what it must write. Source it.
+. tests/count.sh
+
 work=$(mktemp -d) || exit 2
 trap 'rm -rf "$work"' EXIT
 
 # verdict NAME WHY: a test that has passed where nothing is wrong.
 verdict() {
     if [ -z "$2" ]; then
-        passed=$((passed + 1))
-        echo "ok: $1"
+        pass "$1"
     else
-        failed=$((failed + 1))
-        echo "FAILED: $1: ${2#; }"
+        fail "$1: ${2#; }"
     fi
 }
 
@@ -31,10 +29,4 @@ holds() {
     fi
     verdict "$name" "$why"
     [ -z "$why" ] || { diff "$wanted" "$work/out" | head -n 10; head -n 10 "$work/err"; }
-}
-
-# tally: the last line, and whether nothing failed.
-tally() {
-    echo "$passed passed, $failed failed"
-    [ "$failed" -eq 0 ]
 }

@@ -5,20 +5,9 @@
 set -u
 cd "$(dirname "$0")/.." || exit 2
 
-passed=0
-failed=0
+. tests/count.sh
 room=$(mktemp -d) || exit 2
 trap 'rm -rf "$room"' EXIT
-
-pass() {
-    passed=$((passed + $2))
-    echo "ok: $1"
-}
-
-fail() {
-    failed=$((failed + $2))
-    echo "FAILED: $1"
-}
 
 # build NAME OPTION..: tests/NAME.rs to a program, with sums that overflow caught.
 build() {
@@ -30,17 +19,17 @@ build() {
 # The stored steps are those that the script writes, where there is a Python to ask.
 if command -v python3 >/dev/null; then
     if python3 tests/make_paces.py >"$room/stdin" && cmp "$room/stdin" crates/paces/stdin; then
-        pass "crates/paces/stdin is what tests/make_paces.py writes" 1
+        pass "crates/paces/stdin is what tests/make_paces.py writes"
     else
-        fail "crates/paces/stdin is not what tests/make_paces.py writes" 1
+        fail "crates/paces/stdin is not what tests/make_paces.py writes"
     fi
 fi
 
 # The model, at the same steps, gives the stored lines.
 if build paces && "$room/paces" <crates/paces/stdin >"$room/stdout" && cmp "$room/stdout" crates/paces/stdout; then
-    pass "the model gives the $(wc -l <crates/paces/stdout) lines of crates/paces/stdout" 1
+    pass "the model gives the $(wc -l <crates/paces/stdout) lines of crates/paces/stdout"
 else
-    fail "the model does not give crates/paces/stdout" 1
+    fail "the model does not give crates/paces/stdout"
 fi
 
 # The model prints every show as it is written down.
@@ -55,16 +44,16 @@ printed() {
     shows=$count
 }
 if build model_print && printed; then
-    pass "the model prints the $shows shows as they are written down" 1
+    pass "the model prints the $shows shows as they are written down"
 else
-    fail "the model prints a show otherwise" 1
+    fail "the model prints a show otherwise"
 fi
 
 # tests_of NAME WORDS: the tests in tests/NAME.rs, which are of WORDS.
 tests_of() {
     local name=$1 words=$2 status
     if ! build "$name" --test; then
-        fail "the tests of $words do not compile" 1
+        fail "the tests of $words do not compile"
         return
     fi
     "$room/$name" >"$room/tests" 2>&1
@@ -77,7 +66,7 @@ tests_of() {
         fi
     else
         cat "$room/tests"
-        fail "the tests of $words ended without a count" 1
+        fail "the tests of $words ended without a count"
     fi
 }
 
@@ -86,5 +75,4 @@ tests_of model_tests "the model"
 tests_of wall_tests "the model of the wall buttons"
 tests_of live_tests "the model of the live calls"
 
-echo "$passed passed, $failed failed"
-[ "$failed" -eq 0 ]
+tally

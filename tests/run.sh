@@ -7,11 +7,10 @@
 # call goes through a small C program (bridge.c) that the kit alone builds and runs. A sample goes by the bridge in any case.
 set -u
 cd "$(dirname "$0")/.." || exit 2
+. tests/count.sh
 . tests/kit.sh
 . tests/native.sh
 
-passed=0
-failed=0
 out=target/tests
 archives=("${libraries[@]/#/target/staticlib/lib}")
 archives=("${archives[@]/%/.a}")
@@ -31,8 +30,7 @@ counted() {
         failed=$((failed + BASH_REMATCH[2]))
         [ "$status" -eq 0 ] || [ "${BASH_REMATCH[2]}" -gt 0 ] || failed=$((failed + 1))
     else
-        failed=$((failed + 1))
-        echo "FAILED: $name ended without a count"
+        fail "$name ended without a count"
     fi
 }
 
@@ -41,11 +39,9 @@ done_or_not() {
     local name=$1
     shift
     if "$@"; then
-        passed=$((passed + 1))
-        echo "ok: $name"
+        pass "$name"
     else
-        failed=$((failed + 1))
-        echo "FAILED: $name"
+        fail "$name"
     fi
 }
 
@@ -157,8 +153,7 @@ if command -v rustc >/dev/null; then
     counted "the same of wall lists" "${run[@]}" "$out/prints" --wall --summary ./preview --wall --words -
     counted "the by-value calls of sensor and pair against the second model, and that model's own tests" bash tests/paces.sh
 else
-    failed=$((failed + 1))
-    echo "FAILED: there is no Rust compiler"
+    fail "there is no Rust compiler"
 fi
 
 done_or_not "the archives for C are built (rt staticlib ${libraries[*]})" wait "$archive"
@@ -181,5 +176,4 @@ example live
 counted "the package" bash tests/package.sh
 wait "$modules"
 counted "the calls from C, fuzzed" tests/fuzz/run.sh
-echo "$passed passed, $failed failed"
-[ "$failed" -eq 0 ]
+tally

@@ -6,32 +6,20 @@
 # crates.txt must be proved (target/rlib).
 set -u
 cd "$(dirname "$0")/../.." || exit 2
+. tests/count.sh
 . tests/kit.sh
 . tests/native.sh
 
 seconds=${1:-20}
 targets=(${2:-cues walls live})
 out=target/fuzz
-passed=0
-failed=0
 mkdir -p "$out"
 
 # The calls that a target makes.
 declare -A calls=([cues]="house_run house_run_to" [walls]="house_wall_run" [live]="house_fresh house_change house_move")
 
-pass() {
-    passed=$((passed + 1))
-    echo "ok: $1"
-}
-
-fail() {
-    failed=$((failed + 1))
-    echo "FAILED: $1"
-}
-
 finish() {
-    echo "$passed passed, $failed failed"
-    [ "$failed" -eq 0 ]
+    tally
     exit
 }
 
