@@ -4,8 +4,8 @@
 # calls from the very code that `rt staticlib` compiles of house, desk and walls, at -O3.
 set -eu
 cd "$(dirname "$0")/.."
-. tests/kit.sh
-. tests/native.sh
+. making/kit.sh
+. making/native.sh
 out=target/bench
 mkdir -p "$out"
 

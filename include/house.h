@@ -50,8 +50,15 @@ extern "C" {
 #define HOUSE_VERSION \
     ((uint64_t)HOUSE_VERSION_MAJOR << 48 | (uint64_t)HOUSE_VERSION_MINOR << 32 | (uint64_t)HOUSE_NEWEST_FILE << 16 | HOUSE_OLDEST_FILE)
 
-/* The HOUSE_VERSION of the archive. Header and archive belong together where the two are equal: compare them once, at the start. */
+/* The HOUSE_VERSION of the library: equal to that of the header it belongs to. Compare them once, at the start. */
 uint64_t house_version(void);
+
+/* Whether a library of this version does all that this header says: the same major number, and nothing less. A shared object may be newer
+ * than the header that a program was compiled with, and then still fits. */
+static inline int house_version_fits(uint64_t version) {
+    return version >> 48 == HOUSE_VERSION >> 48 && version >> 32 >= HOUSE_VERSION >> 32 &&
+           (version >> 16 & 65535u) >= HOUSE_NEWEST_FILE && (version & 65535u) <= HOUSE_OLDEST_FILE;
+}
 
 /* ---- A cue file
  *

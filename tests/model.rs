@@ -338,7 +338,7 @@ impl Phase {
         }
     }
 
-    fn deadline(self) -> Option<u32> {
+    pub(crate) fn deadline(self) -> Option<u32> {
         match self {
             Phase::Dark | Phase::Lit => None,
             Phase::Starting { deadline, .. }

@@ -6,13 +6,13 @@
 # The programs are for x86-64. On aarch64 they are compiled by Debian's cross compilers and run under an emulator.
 set -u
 cd "$(dirname "$0")/.." || exit 2
-. tests/kit.sh
+. making/kit.sh
 
 work=$(mktemp -d) || exit 2
-trap 'rm -rf "$work"' EXIT
+trap 'kill $(jobs -p) 2>/dev/null; rm -rf "$work"' EXIT
 mkdir "$work/away" "$work/logs"
 package=$work/moved
-version=$(tests/version.sh)
+version=$(making/version.sh)
 warnings=(-Wall -Wextra -Wconversion -Wpedantic -Werror)
 
 # check NAME COMMAND..: one check; what the command says is shown where it fails.
@@ -75,7 +75,7 @@ refuses_a_strange_list() {
 }
 
 nothing_is_left_beside() {
-    [ -z "$(find "$work" -maxdepth 1 -name '.house*')" ]
+    [ -z "$(find "$work" -name '.house*')" ]
 }
 
 folders() {
@@ -256,6 +256,15 @@ program() {
     check "$name: with AddressSanitizer and UndefinedBehaviorSanitizer" sanitized "$1" "$2"
 }
 
+# readme_line N: the Nth line of the package's README that builds show.c, run as it stands, builds a program that runs.
+readme_line() {
+    local line
+    line=$(grep '^    cc show\.c ' "$package/share/doc/house/README.md" | sed -n "${1}p")
+    rm -f "$work/away/show"
+    cp examples/preview.c "$work/away/show.c" && outside bash -c "${line//DIR/$package}" &&
+        outside ./show <shows/example.cue | diff - examples/preview.example.txt
+}
+
 # The figures are said with the verdict.
 stack() {
     outside "$cc" -std=c99 "${warnings[@]}" -O2 $(outside pkg-config --cflags house) stack.c "$package/lib/libhouse.a" -o stack &&
@@ -284,6 +293,10 @@ programs() {
     cp tests/package/calls.c tests/package/stack.c "$work/away/"
     for kind in "C static" "C shared" "C++ static" "C++ shared"; do in_background "$kind" program $kind; done
     headers
+    if [ "$(uname -m)" = x86_64 ]; then
+        check "README's first line builds a program" readme_line 1
+        check "README's second line builds a program, shared" readme_line 2
+    fi
     check "a program takes from the archive what it needs" takes_what_it_needs
     check "every call stays within a kilobyte of stack" stack
     echo "   octets of stack, at most: $(cat "$work/stack")"

@@ -12,7 +12,7 @@ cd "$(dirname "$0")/.." || exit 2
 
 ./preview --help >"$work/usage"
 cp shows/ties.cue "$work/-ties.cue"
-version="preview $(tests/version.sh), plays cue files of versions 1 to 2"
+version="preview $(making/version.sh), plays cue files of versions 1 to 2"
 
 verdict "--help tells every option and every exit status" \
     "$(for word in --wall --words -- -h --help --version 'status: 0' '; 1 ' '; 2 ' '; 3 ' '; 4 '; do grep -qF -e "$word" "$work/usage" || echo "$word"; done)"
@@ -40,7 +40,50 @@ for words in shows/example.cue "--words shows/example.cue" shows/refused_7.cue -
 done
 holds "a reader who has gone away" 141 "$work/nothing" 0 bash -c './preview | true; exit "${PIPESTATUS[0]}"'
 
+# ---- what it cannot work with
+
+# with_broken COMMAND SAID WORDS..: WORDS.., where a command says something and fails.
+mkdir "$work/broken"
+with_broken() {
+    local command=$1 said=$2 status
+    shift 2
+    printf '#!/bin/sh\necho "%s" >&2\nexit 1\n' "$said" >"$work/broken/$command"
+    chmod +x "$work/broken/$command"
+    PATH=$work/broken:$PATH "$@"
+    status=$?
+    rm "$work/broken/$command"
+    return $status
+}
+holds "words without od" 3 "$work/nothing" <(printf '%s\n' "od: no" "preview: the run cannot be said in words") with_broken od "od: no" ./preview --words
+holds "a refusal without od" 3 shows/refused_6.txt <(printf '%s\n' "od: no" "preview: the refusal 6 2 cannot be said in words") \
+    with_broken od "od: no" ./preview shows/refused_6.cue
+holds "no folder to work in" 3 "$work/nothing" \
+    <(echo "preview: there is no room to work in, in $work/missing: no folder can be made there") env TMPDIR="$work/missing" ./preview
+holds "standard input that cannot be read" 2 "$work/nothing" <(echo "preview: cannot read standard input: Is a directory") bash -c './preview - <shows'
+full_folder="head: error writing 'standard output': No space left on device"
+with_broken head "$full_folder" ./preview >"$work/out" 2>"$work/err"
+verdict "no room to work in" "$([ $? -eq 3 ] && grep -qE '^preview: there is no room to work in, in .*: No space left on device$' "$work/err" || cat "$work/err")"
+
 # ---- a refusal says which of its causes it was
+
+# refused CODE SENTENCE WORDS..: preview WORDS.. prints this refusal and says so.
+refused() {
+    local code=$1 sentence=$2
+    shift 2
+    echo "NO $code" >"$work/no"
+    echo "preview: refused: $sentence." >"$work/why"
+    holds "preview $* is refused: $sentence" 1 "$work/no" "$work/why" ./preview "$@"
+}
+head -c 51 shows/tenths.cue >"$work/cut.cue"
+head -c 55 shows/foyer.wall >"$work/cut.wall"
+head -c 1 shows/example.cue >"$work/one.cue"
+(cat shows/example.cue && head -c 20000 /dev/zero) >"$work/long.cue"
+refused "1 0" "the file has 51 octets; at least 60 are needed" "$work/cut.cue"
+refused "1 0" "the file has 55 octets; at least 56 are needed" --wall "$work/cut.wall"
+refused "1 0" "the file has 1 octet; at least 52 are needed" "$work/one.cue"
+refused "4 0" "the file has 16,449 octets or more; with 3 inputs 76 are allowed" "$work/long.cue"
+refused "4 0" "the file has 272 octets; with 27 inputs 268 are allowed (a wall list is played with --wall)" shows/foyer.wall
+refused "4 0" "the file has 76 octets; with 3 inputs 80 are allowed (a cue file is played without --wall)" --wall shows/example.cue
 
 # says OFFSET OCTETS CODE SENTENCE [SHOW]: with these octets from an offset on, the show (else the example) is refused so.
 says() {
@@ -48,9 +91,7 @@ says() {
     [ "${show##*.}" != wall ] || words=(--wall)
     cp "shows/$show" "$work/damaged"
     printf "$octets" | dd of="$work/damaged" bs=1 seek="$at" conv=notrunc status=none
-    echo "NO $code" >"$work/no"
-    echo "preview: refused: $sentence." >"$work/why"
-    holds "$show with $octets at $at" 1 "$work/no" "$work/why" ./preview "${words[@]}" "$work/damaged"
+    refused "$code" "$sentence" "${words[@]}" "$work/damaged"
 }
 says 0 '\0\3' "2 0" "the version (octets 0-1 of the file) is 3; 1 and 2 are allowed"
 says 2 '\1\1' "3 0" "the count of actuators (octets 2-3 of the file) is 257; 1 is allowed"
@@ -78,12 +119,14 @@ says 56 '\11' "6 0" "input 0, counted from 0 (octets 52-59 of the file): it has 
 says 64 '\2\2' "6 1" "input 1, counted from 0 (octets 60-67 of the file): timed light has value 2; 0 and 1 are allowed"
 says 64 '\3\100' "6 1" "input 1, counted from 0 (octets 60-67 of the file): scene has value 64; 0 to 63, and 128 to 191 to learn, are allowed"
 says 64 '\4\4' "6 1" "input 1, counted from 0 (octets 60-67 of the file): force has value 4; 0 to 3 are allowed"
-says 64 '\13\1' "6 1" "input 1, counted from 0 (octets 60-67 of the file): it has kind 11; 1 to 8 are allowed"
+says 64 '\13\1' "6 1" "input 1, counted from 0 (octets 60-67 of the file): it has kind 11; 1 to 8 are allowed (a wall list is played with --wall)"
 says 64 '\1\7\1\2' "6 1" "input 1, counted from 0 (octets 60-67 of the file): switch has value 7; 0 and 1 are allowed; its octet 6 is 1; 0 is allowed; its octet 7 is 2; 0 is allowed"
 says 56 '\15\1' "6 0" "input 0, counted from 0 (octets 52-59 of the file): it has kind 13; 1 to 8, 11 and 12 are allowed" foyer.wall
 says 56 '\13\2' "6 0" "input 0, counted from 0 (octets 52-59 of the file): button 1 has value 2; 0 and 1 are allowed" foyer.wall
-says 60 '\0\0\3\351' "7 1" "input 1, counted from 0 (octets 60-67 of the file): its stamp is 1,001 (0:01:40.1), above the end time, 1,000 (0:01:40.0)"
-says 68 '\0\0\2\273' "7 2" "input 2, counted from 0 (octets 68-75 of the file): its stamp is 699 (0:01:09.9), below that of the input before, 700 (0:01:10.0)"
+says 52 '\0\0\3\351' "7 0" "input 0, counted from 0 (octets 52-59 of the file): timed light has stamp 1,001 (0:01:40.1); 0 to 1,000 (0:01:40.0), the end time, are allowed"
+says 68 '\0\0\2\273' "7 2" "input 2, counted from 0 (octets 68-75 of the file): switch has stamp 699 (0:01:09.9); 700 (0:01:10.0), that of the input before, to 1,000 (0:01:40.0), the end time, are allowed"
+says 270 '\4' "11 2" "the action of the rising edge of button 2 (octet 2 of the last four) is 4; 0 to 3 are allowed" foyer.wall
+says 271 '\4' "11 3" "the action of the falling edge of button 2 (octet 3 of the last four) is 4; 0 to 3 are allowed" foyer.wall
 
 # every octet of a small file, turned round: what is refused is explained
 explained() {
@@ -94,7 +137,7 @@ explained() {
         octet=$(od -An -tu1 -j "$at" -N 1 "$show")
         printf "\\$(printf %o $((255 - octet)))" | dd of="$work/damaged" bs=1 seek="$at" conv=notrunc status=none
         why=$(./preview "$work/damaged" 2>&1 >/dev/null)
-        [[ -z $why || $why =~ ^preview:\ refused:\ .*(allowed|allowed\ once|\([0-9]+:[0-9:.]+\))\.$ ]] || bad="$bad; octet $at: $why"
+        [[ -z $why || $why =~ ^preview:\ refused:\ .*allowed( once)?\.$ ]] || bad="$bad; octet $at: $why"
     done
     verdict "every octet of $show, turned round: what is refused is explained" "$bad"
 }
@@ -103,7 +146,7 @@ explained shows/example.cue
 # ---- what it says while it builds: over a small repository, with a stand-in for rt that takes its time to prove nothing
 
 mkdir -p "$work/repository/crates/base" "$work/bin"
-cp -r preview words shows include "$work/repository/"
+cp -r preview words making shows include "$work/repository/"
 printf '# crates\nbase:\nrules: base\nother: base\ncueprint: rules io\n' >"$work/repository/crates.txt"
 : >"$work/repository/crates/base/lib.rt"
 cat >"$work/bin/rt" <<RT
@@ -117,8 +160,8 @@ echo "rt: cueprint proved (5 s)"
 mkdir -p target/bin && cp "$PWD/target/bin/cueprint" target/bin/cueprint
 RT
 chmod +x "$work/bin/rt"
-first="preview: the print program is built first: 3 crates, proved where they are new or changed; from nothing that takes minutes"
-last="preview: all is proved and the print program built, in N s"
+first="preview: cueprint is made first: 3 crates, proved where they are new or changed; from nothing that takes minutes"
+last="preview: all is proved and cueprint made, in N s"
 building() { # WORDS..: with the stand-in; what it says on standard error, without the seconds that it took
     local status
     (cd "$work/repository" && RATTLE_HOME=$kit_home PATH=$work/bin:$PATH "$@" 2>"$work/said")

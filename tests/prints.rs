@@ -1,6 +1,6 @@
 //! The print program against the second model's printout, over a sample of files.
-//! Usage: prints [--wall] [--phases | --summary] PROGRAM.. where PROGRAM.. is the command that prints a list on standard input: with --wall
-//! a wall list, with --phases with its phases, with --summary in words, whose last lines are compared.
+//! Usage: prints [--wall] [--phases | --words] PROGRAM.. where PROGRAM.. is the command that prints a list on standard input: with --wall
+//! a wall list, with --phases with its phases, with --words in words.
 
 #[path = "model.rs"]
 mod model;
@@ -93,31 +93,25 @@ fn told_to(command: &mut Vec<String>, wanted: &str) -> bool {
     told
 }
 
-/// What is said behind the last empty line; of all lines where there is none.
-fn last_part(text: &str) -> String {
-    text.rsplit("\n\n").next().unwrap().to_string()
-}
-
 fn main() {
     let mut command: Vec<String> = std::env::args().skip(1).collect();
     let walls = told_to(&mut command, "--wall");
     let phases = told_to(&mut command, "--phases");
-    let summary = told_to(&mut command, "--summary");
-    assert!(!command.is_empty(), "usage: prints [--wall] [--phases | --summary] PROGRAM..");
+    let words = told_to(&mut command, "--words");
+    assert!(!command.is_empty(), "usage: prints [--wall] [--phases | --words] PROGRAM..");
     let seed = std::env::var("SEED").ok().map_or(20_260_102, |x| x.parse().expect("a number"));
     let mut rng = Rng::new(seed);
     let sample = sample(&mut rng, if walls { wall_list } else { cue_file });
     let mut passed = 0;
     let mut failed = 0;
     for file in &sample {
-        let expected = match (phases, summary, walls) {
+        let expected = match (phases, words, walls) {
             (true, _, _) => told::phases(file, walls),
-            (_, true, _) => told::summary(file, walls),
+            (_, true, _) => told::words(file, walls),
             (_, _, true) => wall::print_wall(file),
             _ => model::print(file),
         };
         let found = printed(&command, file);
-        let found = if summary { last_part(&found) } else { found };
         if found == expected {
             passed += 1;
         } else {

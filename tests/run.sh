@@ -8,8 +8,8 @@
 set -u
 cd "$(dirname "$0")/.." || exit 2
 . tests/count.sh
-. tests/kit.sh
-. tests/native.sh
+. making/kit.sh
+. making/native.sh
 
 out=target/tests
 archives=("${libraries[@]/#/target/staticlib/lib}")
@@ -149,8 +149,8 @@ if command -v rustc >/dev/null; then
     counted "the printout of wall lists against the second model" "${run[@]}" "$out/prints" --wall ./preview --wall /dev/stdin
     counted "the printout with its phases against the second model" "${run[@]}" "$out/prints" --phases "${kit_run[@]}" target/bin/cueprint phases
     counted "the same of wall lists" "${run[@]}" "$out/prints" --wall --phases "${kit_run[@]}" target/bin/cueprint wall phases
-    counted "the summary in words against the second model" "${run[@]}" "$out/prints" --summary ./preview --words -
-    counted "the same of wall lists" "${run[@]}" "$out/prints" --wall --summary ./preview --wall --words -
+    counted "the run in words against the second model" "${run[@]}" "$out/prints" --words ./preview --words -
+    counted "the same of wall lists" "${run[@]}" "$out/prints" --wall --words ./preview --wall --words -
     counted "the by-value calls of sensor and pair against the second model, and that model's own tests" bash tests/paces.sh
 else
     fail "there is no Rust compiler"

@@ -5,7 +5,7 @@ BEGIN {
     split("switch,timed light,scene,force,lock,night,bus,power,,,button 1,button 2", kinds, ",")
     split("OnDelay,OffDelay,TimedOnDuration,PrewarningDuration", times, ",")
     header = 20
-    scenes = 8
+    modes = 8
     entries = 8
 }
 
@@ -28,8 +28,8 @@ function choose_row() {
     width = version == 2 ? 4 : 2
     unit = version == 2 ? "tenths of a second" : "seconds"
     longest = version == 2 ? 655350 : 65535
-    rest = 4 * width
-    inputs = header + rest + scenes + 2 * entries
+    modes_at = 4 * width
+    inputs = header + modes_at + modes + 2 * entries
     behind = WALL ? 4 : 0
 }
 
@@ -46,6 +46,11 @@ function figures(n,    text) {
     text = sprintf("%.0f", n)
     while (match(text, /[0-9][0-9][0-9][0-9]($|,)/)) text = substr(text, 1, RSTART) "," substr(text, RSTART + 1)
     return text
+}
+
+# So many of something.
+function some(n, what) {
+    return figures(n) " " what (n == 1 ? "" : "s")
 }
 
 # A stamp as h:mm:ss.t.

@@ -1,13 +1,17 @@
 # Why a file was refused, in words: CODE and PLACE are the print program's, and the octets say which of the causes of that code it was.
 # MOST is how many octets were read at most: a file that has as many may have more. Octets, entries and inputs are counted from 0.
 
+BEGIN {
+    with_wall = " (a wall list is played with --wall)"
+}
+
 END {
     choose_row()
     print meaning(CODE, PLACE)
 }
 
 function meaning(code, place) {
-    if (code == 1) return length_found() "; at least " least() " are needed"
+    if (code == 1) return length_found() "; at least " inputs + behind " are needed"
     if (code == 2) return found("the version", 0, 2, "1 and 2 are")
     if (code == 3) return found("the count of actuators", 2, 2, "1 is")
     if (code == 4) return layout()
@@ -24,30 +28,32 @@ function found(what, at, count, allowed) {
 }
 
 function length_found() {
-    return "the file has " (size < MOST ? figures(size) : figures(MOST) " or more") " octets"
-}
-
-# That of any file, or, where it is long enough to have a version, of its own.
-function least() {
-    return (size < 52 + behind ? 52 : inputs) + behind
+    return "the file has " (size < MOST ? some(size, "octet") : figures(MOST) " octets or more")
 }
 
 # All that is wrong with the layout, in the order of the header.
-function layout(    n, all) {
+function layout(    n, all, whole) {
     n = number(8, 4)
+    whole = inputs + 8 * n + behind
     if (number(4, 4) != header) all = all "; " found("the offset of parameters", 4, 4, header " is")
     if (n > 2048) all = all "; " found("the count of inputs", 8, 4, "0 to 2,048 are")
     if (number(12, 4) != inputs) all = all "; " found("the offset of inputs", 12, 4, inputs " is")
     if (number(16, 4) > 864000) all = all "; " found("the end time", 16, 4, "0 to 864,000 are")
-    if (n <= 2048 && size != inputs + 8 * n + behind) all = all "; " length_found() "; with " figures(n) " inputs " \
-        figures(inputs + 8 * n + behind) " are allowed"
+    if (n <= 2048 && size != whole) all = all "; " length_found() "; with " some(n, "input") " " figures(whole) " are allowed" other_list(size - whole)
     return substr(all, 3)
 }
 
+# The four octets by which a wall list is longer than a cue file are most likely a list of the other sort.
+function other_list(more) {
+    if (!WALL && more == 4) return with_wall
+    if (WALL && more == -4) return " (a cue file is played without --wall)"
+    return ""
+}
+
 function parameter(place) {
-    if (place < rest) return wrong_time(place / width)
-    if (place < rest + scenes) return wrong_mode(place - rest)
-    return wrong_scene(place - rest - scenes)
+    if (place < modes_at) return wrong_time(place / width)
+    if (place < modes_at + modes) return wrong_mode(place - modes_at)
+    return wrong_scene(place - modes_at - modes)
 }
 
 # Only TimedOnDuration may not be 0.
@@ -59,13 +65,13 @@ function wrong_mode(place,    names, allowed) {
     split("BehaviourAtLocking,BehaviourAtUnlocking,BusFailureMode,BusReturnMode,PowerReturnMode,SceneLearningModeEnable", names, ",")
     split("0 (keep), 1 (off) and 2 (on) are;0 (keep), 1 (off), 2 (on) and 3 (as before locking) are;0 (keep), 1 (off) and 2 (on) are;" \
         "0 (keep), 1 (off) and 2 (on) are;0 (as before the failure), 1 (off) and 2 (on) are;0 (no) and 1 (yes) are;0 is;0 is", allowed, ";")
-    return (place < 6 ? names[place + 1] : "it") " is " octet[header + rest + place] "; " allowed[place + 1] " allowed"
+    return (place < 6 ? names[place + 1] : "it") " is " octet[header + modes_at + place] "; " allowed[place + 1] " allowed"
 }
 
 # A scene entry has its number in its first octet and its flags in the second.
 function wrong_scene(place,    entry, at, earlier) {
     entry = int(place / 2)
-    at = header + rest + scenes
+    at = header + modes_at + modes
     earlier = entry_with(octet[at + 2 * entry], at)
     if (place % 2 == 1 && octet[at + place - 1] == 255) return "the flags of scene entry " entry ", which is unused, are " octet[at + place] "; 0 is allowed"
     if (place % 2 == 1) return "the flags of scene entry " entry " are " octet[at + place] "; 0 to 3 are allowed"
@@ -87,10 +93,14 @@ function input_named(i) {
 function wrong_input(i,    at, all, k) {
     read_input(i)
     at = inputs + 8 * i
-    if (kinds[kind] == "" || (kind > 8 && !WALL)) all = "; it has kind " kind "; 1 to 8" (WALL ? ", 11 and 12" : "") " are allowed"
+    if (!is_kind(kind)) all = "; it has kind " kind "; 1 to 8" (WALL ? ", 11 and 12" : "") " are allowed" (kinds[kind] == "" ? "" : with_wall)
     else if (!is_value(kind, value)) all = "; " kinds[kind] " has value " value "; " values(kind) " are allowed"
     for (k = 6; k <= 7; k++) if (octet[at + k] != 0) all = all "; its octet " k " is " octet[at + k] "; 0 is allowed"
     return substr(all, 3)
+}
+
+function is_kind(kind) {
+    return kinds[kind] != "" && (kind <= 8 || WALL)
 }
 
 function is_value(kind, value) {
@@ -101,12 +111,10 @@ function values(kind) {
     return kind == 3 ? "0 to 63, and 128 to 191 to learn," : kind == 4 ? "0 to 3" : "0 and 1"
 }
 
-function wrong_stamp(i,    before, end) {
-    before = i > 0 ? number(inputs + 8 * (i - 1), 4) : 0
-    end = number(16, 4)
+function wrong_stamp(i,    first) {
+    first = i > 0 ? told(number(inputs + 8 * (i - 1), 4)) ", that of the input before," : "0"
     read_input(i)
-    if (stamp < before) return "its stamp is " told(stamp) ", below that of the input before, " told(before)
-    return "its stamp is " told(stamp) ", above the end time, " told(end)
+    return kinds[kind] " has stamp " told(stamp) "; " first " to " told(number(16, 4)) ", the end time, are allowed"
 }
 
 function told(stamp) {

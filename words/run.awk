@@ -52,15 +52,28 @@ function say_input() {
     sent = ""
 }
 
-# What the house does now, and what it will do by itself. A timed light that ends without a warning goes dark at once.
+# What the house does now, and what it will do by itself.
 function house() {
     if (phase == 0) return "dark"
     if (phase == 1) return "lit"
     if (phase == 2) return "lit at " moment(until)
     if (phase == 3) return "lit at " moment(until) ", for a while"
-    if (phase == 4) return "lit, " (number(header + 3 * width, width) ? "warning" : "dark") " at " moment(until)
+    if (phase == 4) return "lit, " (has_warning() ? "warning" : "dark") " at " moment(until)
     if (phase == 5) return "lit, in its warning, dark at " moment(until)
     return "dark at " moment(until)
+}
+
+# What it does at the end, and what it would have done: that is not played any more.
+function house_at_end() {
+    if (phase <= 1) return house()
+    if (phase <= 3) return "dark, would be lit at " moment(until)
+    if (phase == 4 && has_warning()) return "lit, its warning would begin at " moment(until)
+    return "lit, would be dark at " moment(until)
+}
+
+# A timed light that ends without a warning goes dark at once.
+function has_warning() {
+    return number(header + 3 * width, width) > 0
 }
 
 function outcome() {
@@ -84,12 +97,12 @@ function input_name() {
 }
 
 function say_end(    answer, dropped) {
-    say(clock, "(end) " house())
+    say(clock, "(end) " house_at_end())
     record(clock, 0)
     for (answer = 2; answer <= 5; answer++) dropped += answers[answer]
     print ""
     print "The house was lit for " moment(lit_for) " of " moment(clock) "."
-    print answers[0] + answers[1] + dropped " " (WALL ? "cues and presses" : "cues") ": " answers[0] + 0 " changed something, " answers[1] + 0 \
+    print some(answers[0] + answers[1] + dropped, WALL ? "input" : "cue") ": " answers[0] + 0 " changed something, " answers[1] + 0 \
         " changed nothing, " dropped + 0 " dropped" (dropped ? ":" : ".")
     for (answer = 2; answer <= 5; answer++) if (answers[answer]) print "  " answers[answer] " because " reasons[answer - 1]
 }

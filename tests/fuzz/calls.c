@@ -1,5 +1,4 @@
 #include "calls.h"
-#include "../../include/house.h"
 #include "rooms.h"
 
 #include <inttypes.h>
@@ -80,7 +79,7 @@ struct told {
 };
 
 static struct told taken_apart(uint64_t number) {
-    return (struct told){(unsigned)(number >> 48), (size_t)(number >> 32 & 0xFFFF), (size_t)(number & 0xFFFFFFFF)};
+    return (struct told){house_code(number), house_place(number), house_count(number)};
 }
 
 static void expect(int holds, const struct call *c, uint64_t number, const char *words) {
@@ -90,20 +89,9 @@ static void expect(int holds, const struct call *c, uint64_t number, const char 
     abort();
 }
 
-uint32_t number_at(const uint8_t *octets) {
-    return (uint32_t)octets[0] << 24 | (uint32_t)octets[1] << 16 | (uint32_t)octets[2] << 8 | octets[3];
-}
-
-void write_number(uint8_t *octets, uint32_t number) {
-    octets[0] = (uint8_t)(number >> 24);
-    octets[1] = (uint8_t)(number >> 16);
-    octets[2] = (uint8_t)(number >> 8);
-    octets[3] = (uint8_t)number;
-}
-
 size_t inputs_at(const uint8_t *file, size_t len) {
-    if (len < 52 || file[0] != 0 || file[1] == 0 || file[1] > 2) return 0;
-    return file[1] == 1 ? 52 : 60;
+    if (len < HOUSE_INPUTS_AT_1 || file[0] != 0 || file[1] == 0 || file[1] > 2) return 0;
+    return file[1] == 1 ? HOUSE_INPUTS_AT_1 : HOUSE_INPUTS_AT_2;
 }
 
 size_t about(size_t len, uint8_t deviation) {
@@ -117,14 +105,14 @@ static int takes_a_file(const struct call *c) {
 
 /* How many inputs a call has; of a file, those that its header counts. */
 static size_t inputs_of(const struct call *c) {
-    if (!takes_a_file(c)) return c->list_len / INPUT;
-    return c->list_len < HEADER ? 0 : number_at(c->list + 8);
+    if (!takes_a_file(c)) return c->list_len / HOUSE_INPUT_SIZE;
+    return c->list_len < HOUSE_HEADER_SIZE ? 0 : house_get_u32(c->list + 8);
 }
 
 static size_t parameters_of(const struct call *c) {
     size_t start = inputs_at(c->list, c->list_len);
     if (c->which == FRESH) return c->list_len;
-    return start == 0 ? 0 : start - HEADER;
+    return start == 0 ? 0 : start - HOUSE_HEADER_SIZE;
 }
 
 /* How many inputs were played: all of an accepted call, of a change those before the refused one. */
@@ -139,7 +127,7 @@ static size_t places(const struct call *c, unsigned code) {
     case 5: return parameters_of(c);
     case 6: return inputs_of(c);
     case 7: return c->which == MOVE ? 1 : inputs_of(c);
-    case 11: return ACTIONS;
+    case 11: return HOUSE_ACTIONS_SIZE;
     default: return 1;
     }
 }
@@ -154,12 +142,12 @@ static size_t most_records(const struct call *c, struct told t) {
 
 /* From which stamp to which the records of a call are. */
 static uint32_t first_stamp(const struct call *c) {
-    return takes_a_file(c) ? 0 : number_at(c->state + CLOCK_AT);
+    return takes_a_file(c) ? 0 : house_get_u32(c->state + HOUSE_AT_CLOCK);
 }
 
 static uint32_t last_stamp(const struct call *c, struct told t) {
-    if (takes_a_file(c)) return number_at(c->list + 16);
-    return c->which == MOVE ? c->stamp : number_at(c->list + INPUT * (played(c, t) - 1));
+    if (takes_a_file(c)) return house_get_u32(c->list + 16);
+    return c->which == MOVE ? c->stamp : house_get_u32(c->list + HOUSE_INPUT_SIZE * (played(c, t) - 1));
 }
 
 static void check_records(const struct call *c, uint64_t number, const uint8_t *records) {
@@ -167,13 +155,13 @@ static void check_records(const struct call *c, uint64_t number, const uint8_t *
     uint32_t before = t.count == 0 ? 0 : first_stamp(c), last = t.count == 0 ? 0 : last_stamp(c, t);
     for (size_t i = 0; i < t.count; i++) {
         const uint8_t *r = records + 8 * i;
-        expect(number_at(r) >= before, c, number, "a record's stamp is below the one before");
-        expect(number_at(r) <= last, c, number, "a record's stamp is above the last");
+        expect(house_get_u32(r) >= before, c, number, "a record's stamp is below the one before");
+        expect(house_get_u32(r) <= last, c, number, "a record's stamp is above the last");
         expect(r[4] == 0 || r[4] == 255, c, number, "a record's value is neither 0 nor 255");
         expect(r[5] < 32, c, number, "a record's attributes are 32 or more");
         expect(r[6] <= (c->which == MOVE ? 0 : 8), c, number, "a record's cause is no kind of input");
         expect(r[7] == 0, c, number, "a record's last octet is not 0");
-        before = number_at(r);
+        before = house_get_u32(r);
     }
 }
 
@@ -243,15 +231,15 @@ static void check_state(const struct call *c, uint64_t number, const struct lent
         expect(memcmp(state->first, c->state, c->state_len) == 0, c, number, "a state was written");
         return;
     }
-    uint8_t image[STATE_OCTETS], room[24];
-    expect(state->len == STATE_OCTETS, c, number, "a state of another length was accepted");
-    memcpy(image, state->first, STATE_OCTETS);
+    uint8_t image[HOUSE_STATE_SIZE], room[24];
+    expect(state->len == HOUSE_STATE_SIZE, c, number, "a state of another length was accepted");
+    memcpy(image, state->first, HOUSE_STATE_SIZE);
     /* a move without room for its records is refused for that, once the image is accepted */
-    uint64_t moved = house_move(image, STATE_OCTETS, number_at(image + CLOCK_AT), NULL, 0);
-    uint64_t changed = house_change(image, STATE_OCTETS, NULL, 0, room, sizeof room, NULL, 0);
+    uint64_t moved = house_move(image, HOUSE_STATE_SIZE, house_get_u32(image + HOUSE_AT_CLOCK), NULL, 0);
+    uint64_t changed = house_change(image, HOUSE_STATE_SIZE, NULL, 0, room, sizeof room, NULL, 0);
     expect(taken_apart(moved).code == 8, c, number, "the state that it gives is refused by house_move");
     expect(changed == 0, c, number, "the state that it gives is refused by house_change");
-    expect(memcmp(image, state->first, STATE_OCTETS) == 0, c, number, "a change of no inputs changes the state that it gives");
+    expect(memcmp(image, state->first, HOUSE_STATE_SIZE) == 0, c, number, "a change of no inputs changes the state that it gives");
 }
 
 static void compare_with_model(const struct call *c, uint64_t number, const struct lending *l) {

@@ -2,19 +2,12 @@
 #ifndef CALLS_H
 #define CALLS_H
 
-#include <stddef.h>
-#include <stdint.h>
+#include "../../include/house.h"
 
 enum which { RUN, WALL_RUN, FRESH, CHANGE, MOVE, RUN_TO, CALLS };
 
 /* The longest of each that is lent. */
 enum { LIST_ROOM = 20480, STATE_ROOM = 256, RECORDS_ROOM = 53248, ANSWERS_ROOM = 4096 };
-
-/* An image, and where its numbers stand in it. */
-enum { STATE_OCTETS = 56, CLOCK_AT = 48, DEADLINE_AT = 52 };
-
-/* A file has at most this many inputs, and its header this many octets; version 1 has its inputs from 52 on, version 2 from 60. */
-enum { MOST_INPUTS = 2048, HEADER = 20, INPUT = 8, ACTIONS = 4, LAST_STAMP = 864000 };
 
 struct call {
     enum which which;
@@ -23,10 +16,6 @@ struct call {
     uint32_t stamp;
     uint8_t state[STATE_ROOM]; /* as it is handed in; where an image was written, it replaces it */
 };
-
-/* Numbers most significant octet first. */
-uint32_t number_at(const uint8_t *octets);
-void write_number(uint8_t *octets, uint32_t number);
 
 /* Where the inputs of a file start, by its version; 0 where it has neither. */
 size_t inputs_at(const uint8_t *file, size_t len);

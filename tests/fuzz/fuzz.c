@@ -14,8 +14,8 @@ static void lend_room(struct call *c, size_t n, uint8_t records_deviation, uint8
 
 /* How many inputs a file claims to have, as far as there can be so many. */
 static size_t claimed(const uint8_t *file, size_t len) {
-    uint32_t n = len < HEADER ? 0 : number_at(file + 8);
-    return n <= MOST_INPUTS ? n : 0;
+    uint32_t n = len < HOUSE_HEADER_SIZE ? 0 : house_get_u32(file + 8);
+    return n <= HOUSE_MOST_INPUTS ? n : 0;
 }
 
 static void play_file(enum which which, const uint8_t *head, size_t left) {
@@ -24,7 +24,7 @@ static void play_file(enum which which, const uint8_t *head, size_t left) {
     c.list = head + FILE_HEAD;
     c.list_len = left - FILE_HEAD;
     lend_room(&c, claimed(c.list, c.list_len), head[0], head[1]);
-    if (which == RUN_TO) c.state_len = about(STATE_OCTETS, head[2]);
+    if (which == RUN_TO) c.state_len = about(HOUSE_STATE_SIZE, head[2]);
     play(&c);
 }
 
@@ -41,19 +41,19 @@ size_t read_step(const uint8_t *octets, size_t left, struct step *step) {
 
 /* A stamp that lies near: a little after the one before, or about the moment at which the phase ends, where it ends. */
 static uint32_t near_stamp(const struct call *c, uint32_t before, const uint8_t *octets) {
-    uint32_t end = number_at(c->state + DEADLINE_AT);
+    uint32_t end = house_get_u32(c->state + HOUSE_AT_PHASE_END);
     if (octets[0] % 2 == 1 && end > 0) return end - 1 + octets[3] % 3;
     return before + ((uint32_t)octets[2] << 8 | octets[3]) % 2048;
 }
 
 static void play_change(struct call *c, const struct step *step) {
     static uint8_t inputs[LONGEST_STEP];
-    size_t n = step->len / INPUT;
-    uint32_t stamp = number_at(c->state + CLOCK_AT);
+    size_t n = step->len / HOUSE_INPUT_SIZE;
+    uint32_t stamp = house_get_u32(c->state + HOUSE_AT_CLOCK);
     memcpy(inputs, step->octets, step->len);
     for (size_t i = 0; i < n && step->kind == CHANGE_IN_TIME; i++) {
-        stamp = near_stamp(c, stamp, inputs + INPUT * i);
-        write_number(inputs + INPUT * i, stamp);
+        stamp = near_stamp(c, stamp, inputs + HOUSE_INPUT_SIZE * i);
+        house_put_u32(inputs + HOUSE_INPUT_SIZE * i, stamp);
     }
     c->which = CHANGE;
     c->list = inputs;
@@ -64,9 +64,9 @@ static void play_change(struct call *c, const struct step *step) {
 
 static void play_move(struct call *c, const struct step *step) {
     if (step->len < 4) return;
-    uint32_t now = number_at(c->state + CLOCK_AT);
+    uint32_t now = house_get_u32(c->state + HOUSE_AT_CLOCK);
     c->which = MOVE;
-    c->stamp = step->kind == MOVE_AS_IS ? number_at(step->octets) : near_stamp(c, now, step->octets);
+    c->stamp = step->kind == MOVE_AS_IS ? house_get_u32(step->octets) : near_stamp(c, now, step->octets);
     c->list_len = 0;
     c->records_len = about(16, step->records_deviation);
     c->answers_len = 0;
@@ -77,7 +77,7 @@ static void play_fresh(struct call *c, const struct step *step) {
     c->which = FRESH;
     c->list = step->octets;
     c->list_len = step->len;
-    c->state_len = about(STATE_OCTETS, step->other_deviation);
+    c->state_len = about(HOUSE_STATE_SIZE, step->other_deviation);
     c->records_len = c->answers_len = 0;
     play(c);
 }

@@ -31,17 +31,17 @@ static size_t mend_header(uint8_t *file, size_t len, size_t behind) {
     uint8_t version = file[1] == 1 || file[1] == 2 ? file[1] : (uint8_t)(1 + below(2));
     size_t start = version == 1 ? 52 : 60;
     if (len < start + behind) return len;
-    size_t n = (len - start - behind) / INPUT;
-    memcpy(file, (uint8_t[]){0, version, 0, 1, 0, 0, 0, HEADER}, 8);
-    write_number(file + 8, (uint32_t)n);
-    write_number(file + 12, (uint32_t)start);
-    return start + INPUT * n + behind;
+    size_t n = (len - start - behind) / HOUSE_INPUT_SIZE;
+    memcpy(file, (uint8_t[]){0, version, 0, 1, 0, 0, 0, HOUSE_HEADER_SIZE}, 8);
+    house_put_u32(file + 8, (uint32_t)n);
+    house_put_u32(file + 12, (uint32_t)start);
+    return start + HOUSE_INPUT_SIZE * n + behind;
 }
 
 static void mend_times(uint8_t *times, int version) {
     size_t width = version == 1 ? 2 : 4;
     uint8_t *timed_on = times + 2 * width;
-    for (int i = 0; i < 4 && version == 2; i++) write_number(times + 4 * i, number_at(times + 4 * i) % 655351);
+    for (int i = 0; i < 4 && version == 2; i++) house_put_u32(times + 4 * i, house_get_u32(times + 4 * i) % 655351);
     if (memcmp(timed_on, (uint8_t[4]){0}, width) == 0) timed_on[width - 1] = 1;
 }
 
@@ -77,7 +77,7 @@ static uint8_t mended_value(uint8_t kind, uint8_t value) {
 /* Kinds, values and zeros; a wall list has two kinds more. */
 static void mend_inputs(uint8_t *inputs, size_t n, int wall) {
     for (size_t i = 0; i < n; i++) {
-        uint8_t *kind = inputs + INPUT * i + 4;
+        uint8_t *kind = inputs + HOUSE_INPUT_SIZE * i + 4;
         if (kind[0] == 0 || (kind[0] > 8 && !(wall && (kind[0] == 11 || kind[0] == 12)))) {
             kind[0] = (uint8_t)(wall && below(3) == 0 ? 11 + below(2) : 1 + kind[0] % 8);
         }
@@ -89,10 +89,10 @@ static void mend_inputs(uint8_t *inputs, size_t n, int wall) {
 static uint32_t mend_stamps(uint8_t *inputs, size_t n) {
     uint32_t before = 0;
     for (size_t i = 0; i < n; i++) {
-        uint8_t *stamp = inputs + INPUT * i;
-        if (number_at(stamp) < before || number_at(stamp) > LAST_STAMP) write_number(stamp, before + stamp[3] % 64);
-        if (number_at(stamp) > LAST_STAMP) write_number(stamp, LAST_STAMP);
-        before = number_at(stamp);
+        uint8_t *stamp = inputs + HOUSE_INPUT_SIZE * i;
+        if (house_get_u32(stamp) < before || house_get_u32(stamp) > HOUSE_LAST_STAMP) house_put_u32(stamp, before + stamp[3] % 64);
+        if (house_get_u32(stamp) > HOUSE_LAST_STAMP) house_put_u32(stamp, HOUSE_LAST_STAMP);
+        before = house_get_u32(stamp);
     }
     return before;
 }
@@ -106,13 +106,13 @@ static size_t mend_file(uint8_t *file, size_t len, size_t behind) {
     if (mends()) len = mend_header(file, len, behind);
     size_t start = inputs_at(file, len);
     if (start == 0 || len < start + behind) return len;
-    size_t n = (len - start - behind) / INPUT;
-    if (mends()) mend_times(file + HEADER, file[1]);
+    size_t n = (len - start - behind) / HOUSE_INPUT_SIZE;
+    if (mends()) mend_times(file + HOUSE_HEADER_SIZE, file[1]);
     if (mends()) mend_rest(file + start - 24);
     if (mends()) mend_inputs(file + start, n, behind > 0);
     if (mends()) mend_actions(file + len - behind, behind);
     uint32_t last = mends() ? mend_stamps(file + start, n) : 0;
-    if (mends() && (number_at(file + 16) < last || number_at(file + 16) > LAST_STAMP)) write_number(file + 16, last);
+    if (mends() && (house_get_u32(file + 16) < last || house_get_u32(file + 16) > HOUSE_LAST_STAMP)) house_put_u32(file + 16, last);
     return len;
 }
 
@@ -126,10 +126,10 @@ static void mend_step(const struct step *step, uint8_t *octets) {
         }
         break;
     case WILD_STATE:
-        if (step->len == STATE_OCTETS) mend_rest(octets + 16);
+        if (step->len == HOUSE_STATE_SIZE) mend_rest(octets + 16);
         break;
     case CHANGE_AS_IS:
-    case CHANGE_IN_TIME: mend_inputs(octets, step->len / INPUT, 0); break;
+    case CHANGE_IN_TIME: mend_inputs(octets, step->len / HOUSE_INPUT_SIZE, 0); break;
     default: break;
     }
 }
@@ -153,5 +153,5 @@ size_t LLVMFuzzerCustomMutator(uint8_t *data, size_t size, size_t max_size, unsi
     size = from + LLVMFuzzerMutate(data + from, size - from, max_size - from);
     if (size <= head || below(8) == 0) return size;
     uint8_t *rest = data + head;
-    return head + (data[0] == 'l' ? mend_live(rest, size - head) : mend_file(rest, size - head, data[0] == 'w' ? ACTIONS : 0));
+    return head + (data[0] == 'l' ? mend_live(rest, size - head) : mend_file(rest, size - head, data[0] == 'w' ? HOUSE_ACTIONS_SIZE : 0));
 }

@@ -7,8 +7,8 @@
 set -u
 cd "$(dirname "$0")/../.." || exit 2
 . tests/count.sh
-. tests/kit.sh
-. tests/native.sh
+. making/kit.sh
+. making/native.sh
 
 seconds=${1:-20}
 targets=(${2:-cues walls live})

@@ -442,6 +442,14 @@ static void read_and_write(void) {
     claim("a file of version 2", name, house_file_version(later) == 2 && house_inputs(later) == INPUTS && house_inputs_at(later) == 60);
 }
 
+/* A newer minor number and more versions of a file fit; fewer of these, or another major number, do not. */
+static int versions_fit(void) {
+    const uint64_t minor = (uint64_t)1 << 32, major = (uint64_t)1 << 48;
+    return house_version_fits(HOUSE_VERSION) && house_version_fits(HOUSE_VERSION + minor) && house_version_fits(HOUSE_VERSION + 65536u) &&
+           !house_version_fits(HOUSE_VERSION - 65536u) && !house_version_fits(HOUSE_VERSION + 1) && !house_version_fits(HOUSE_VERSION + major) &&
+           !house_version_fits(HOUSE_VERSION - major);
+}
+
 static void compare_constants(void) {
     const char *name = "house.h";
     claim("sizes of version 1", name, HOUSE_FILE_SIZE_1(1 + 1) == 68 && shows[RUN].len[LIST] == 68);
@@ -450,6 +458,7 @@ static void compare_constants(void) {
     claim("room for records", name, HOUSE_RECORDS_ROOM(1 + 1) == 72 && HOUSE_MOVE_ROOM == 16);
     claim("the parts of the version", name, HOUSE_VERSION == packed(HOUSE_VERSION_MAJOR, HOUSE_VERSION_MINOR) + 0x00020001u);
     claim("header and archive belong together", name, house_version() == HOUSE_VERSION);
+    claim("which versions fit the header", name, versions_fit());
 }
 
 static void play(enum call call) {

@@ -1,5 +1,5 @@
 # The proved code as objects for this machine's own processor, for what cannot use the archives, which are x86-64. Source it after
-# tests/kit.sh, from the repository's root; the libraries below a crate must be proved (target/rlib).
+# making/kit.sh, from the repository's root; the libraries below a crate must be proved (target/rlib).
 native=target/native
 
 # listening_tools DIR MODULE.bc: the kit's tools in a new folder; their clang first keeps a copy of the bitcode that it is given.
