@@ -55,8 +55,11 @@ refuses_a_full_folder() {
         [ "$(cat "$work/full/file")" = mine ]
 }
 
+# The folder that is there is filled, and not replaced by another.
 fills_an_empty_folder() {
-    mkdir "$work/empty" && ./package "$work/empty" && diff -r --no-dereference "$work/empty" "$package"
+    local same
+    mkdir -m 2775 "$work/empty" && same=$(stat -c '%i %a' "$work/empty") && ./package "$work/empty" &&
+        [ "$(stat -c '%i %a' "$work/empty")" = "$same" ] && diff -r --no-dereference "$work/empty" "$package"
 }
 
 # An earlier package that differs: a file that there is no more goes, a file that was altered is right again, and what is not of the
