@@ -30,6 +30,10 @@ differ "the inner functions with a condition differ from those of PROMISES" \
 # The dumps of files in FORMAT are those files. (Those of what a show gives are compared where there is an archive: tests/run.sh.)
 differ "the dumps of FORMAT differ from the files" "$(tests/format.sh)"
 
+# The newest entry of CHANGELOG is of the header's version.
+differ "the newest version of CHANGELOG differs from the header's" \
+    "$(diff <(sed -n 's/^## \([0-9][0-9.]*\),.*/\1/p' CHANGELOG.md | head -n 1) <(making/version.sh))"
+
 # Contracts cite definitions, never a proof.
 differ "a contract cites a proof" "$(grep -nE '^ghost use .*[.·]proofs' crates/*/src/*.rt)"
 
