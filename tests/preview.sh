@@ -27,6 +27,7 @@ for wrong in -x --wal --words=1 -wall --words-; do
     holds "no option $wrong" 2 "$work/nothing" <(echo "preview: there is no option '$wrong': preview --help has them all") ./preview "$wrong"
 done
 holds "two files" 2 "$work/nothing" 1 ./preview shows/ties.cue shows/example.cue
+holds "a file that is not there, of any name" 2 "$work/nothing" <(echo "preview: cannot read 'no/writing.cue': No such file or directory") ./preview no/writing.cue
 holds "an empty name" 2 "$work/nothing" 1 ./preview ''
 holds "a refused file in words" 1 "$work/nothing" shows/refused_6.why ./preview --words shows/refused_6.cue
 
