@@ -30,6 +30,8 @@ fn printed(command: &[String], file: &[u8]) -> String {
         .args(&command[1..])
         .stdin(Stdio::piped())
         .stdout(Stdio::piped())
+        // what is said of a refusal is compared by preview.sh and shows.sh
+        .stderr(Stdio::null())
         .spawn()
         .expect("the print program does not start");
     let mut input = child.stdin.take().unwrap();
