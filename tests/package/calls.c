@@ -148,33 +148,40 @@ static void give_back(struct lent *l) {
     for (int p = 0; p < PARTS; p++) free(l->base[p]);
 }
 
-static uint64_t plainly(enum call call, const struct lent *l) {
+/* The calls of the header, as they are and checked. */
+struct calls {
+    uint64_t (*run)(const uint8_t *, size_t, uint8_t *, size_t, uint8_t *, size_t);
+    uint64_t (*wall_run)(const uint8_t *, size_t, uint8_t *, size_t, uint8_t *, size_t);
+    uint64_t (*fresh)(const uint8_t *, size_t, uint8_t *, size_t);
+    uint64_t (*change)(uint8_t *, size_t, const uint8_t *, size_t, uint8_t *, size_t, uint8_t *, size_t);
+    uint64_t (*move)(uint8_t *, size_t, uint32_t, uint8_t *, size_t);
+    uint64_t (*run_to)(const uint8_t *, size_t, uint8_t *, size_t, uint8_t *, size_t, uint8_t *, size_t);
+};
+
+static const struct calls plain_calls = {house_run, house_wall_run, house_fresh, house_change, house_move, house_run_to};
+static const struct calls checked_calls = {house_run_checked,    house_wall_run_checked, house_fresh_checked,
+                                           house_change_checked, house_move_checked,     house_run_to_checked};
+
+static uint64_t by(const struct calls *calls, enum call call, const struct lent *l) {
     uint8_t *const *at = l->at;
     const size_t *len = l->len;
     switch (call) {
-    case RUN: return house_run(at[LIST], len[LIST], at[RECORDS], len[RECORDS], at[ANSWERS], len[ANSWERS]);
-    case WALL_RUN: return house_wall_run(at[LIST], len[LIST], at[RECORDS], len[RECORDS], at[ANSWERS], len[ANSWERS]);
-    case FRESH: return house_fresh(at[LIST], len[LIST], at[STATE], len[STATE]);
+    case RUN: return calls->run(at[LIST], len[LIST], at[RECORDS], len[RECORDS], at[ANSWERS], len[ANSWERS]);
+    case WALL_RUN: return calls->wall_run(at[LIST], len[LIST], at[RECORDS], len[RECORDS], at[ANSWERS], len[ANSWERS]);
+    case FRESH: return calls->fresh(at[LIST], len[LIST], at[STATE], len[STATE]);
     case CHANGE:
-        return house_change(at[STATE], len[STATE], at[LIST], len[LIST], at[RECORDS], len[RECORDS], at[ANSWERS], len[ANSWERS]);
-    case MOVE: return house_move(at[STATE], len[STATE], 1000, at[RECORDS], len[RECORDS]);
-    default: return house_run_to(at[LIST], len[LIST], at[STATE], len[STATE], at[RECORDS], len[RECORDS], at[ANSWERS], len[ANSWERS]);
+        return calls->change(at[STATE], len[STATE], at[LIST], len[LIST], at[RECORDS], len[RECORDS], at[ANSWERS], len[ANSWERS]);
+    case MOVE: return calls->move(at[STATE], len[STATE], 1000, at[RECORDS], len[RECORDS]);
+    default: return calls->run_to(at[LIST], len[LIST], at[STATE], len[STATE], at[RECORDS], len[RECORDS], at[ANSWERS], len[ANSWERS]);
     }
 }
 
+static uint64_t plainly(enum call call, const struct lent *l) {
+    return by(&plain_calls, call, l);
+}
+
 static uint64_t checked(enum call call, const struct lent *l) {
-    uint8_t *const *at = l->at;
-    const size_t *len = l->len;
-    switch (call) {
-    case RUN: return house_run_checked(at[LIST], len[LIST], at[RECORDS], len[RECORDS], at[ANSWERS], len[ANSWERS]);
-    case WALL_RUN: return house_wall_run_checked(at[LIST], len[LIST], at[RECORDS], len[RECORDS], at[ANSWERS], len[ANSWERS]);
-    case FRESH: return house_fresh_checked(at[LIST], len[LIST], at[STATE], len[STATE]);
-    case CHANGE:
-        return house_change_checked(at[STATE], len[STATE], at[LIST], len[LIST], at[RECORDS], len[RECORDS], at[ANSWERS], len[ANSWERS]);
-    case MOVE: return house_move_checked(at[STATE], len[STATE], 1000, at[RECORDS], len[RECORDS]);
-    default:
-        return house_run_to_checked(at[LIST], len[LIST], at[STATE], len[STATE], at[RECORDS], len[RECORDS], at[ANSWERS], len[ANSWERS]);
-    }
+    return by(&checked_calls, call, l);
 }
 
 /* Whether two calls gave the same number and left the same octets in every part. */

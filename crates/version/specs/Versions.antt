@@ -1,5 +1,5 @@
 -- The version of the calls for C, as include/house.h has it: no rule of the actuator, but what header and archive must agree on.
-use Prim.Native.Nat.{ℕ, _+_, _*_, _^_}
+use Prim.Native.Nat.{ℕ, _+_, _*_, _^_, _≤_}
 use Rattle.rules.specs.Runs.{packing}
 
 -- raised when something changes that a caller relies on: a name, a size, an answer
@@ -10,12 +10,15 @@ major = 1
 abbrev pub minor : ℕ
 minor = 0
 
--- the versions of a cue file that are read: these two, all between them, and no other (proofs/Versions.antt, `read-exactly-when`)
+-- the versions of a cue file that are read: these two, all between them, and no other (proofs/Versions.antt, `another-version-is-refused`)
 abbrev pub oldestFile : ℕ
 oldestFile = 1
 
 abbrev pub newestFile : ℕ
 newestFile = 2
+
+abbrev pub IsRead : ℕ → Type 0
+IsRead v = (oldestFile ≤ v) × (v ≤ newestFile)
 
 -- packed as a report is, with the file versions in the place of the count
 unfoldable pub houseVersion : ℕ
