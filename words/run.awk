@@ -1,6 +1,6 @@
 # A run in words: one line for each thing that happens, in the order of the run, and a summary. The second file that awk reads is the
 # printout of an accepted list with its phases (crates/cueprint). What is said of light, and when, comes from its lines; from the octets of
-# the file come the names of its inputs.
+# the file come the names of its inputs, and whether a timed light has a warning.
 
 BEGIN {
     split("a force stands,the house is locked,the bus is down,the power is down", reasons, ",")
