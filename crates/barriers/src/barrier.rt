@@ -1,7 +1,7 @@
 // Which input counts: the barriers of each kind as one table, and the first that an input meets.
 ghost use mathlib.Core.Path.{_≡_};
 ghost use Prim.Native.Nat.{_≤_};
-ghost use Rattle.rules.specs.Barriers.{rowOf, firstBarrier};
+ghost use Rattle.rules.specs.Barriers.{rowOf, outranked, firstBarrier};
 use base::logic::both;
 use lamps::flags::bus_is_down;
 use lamps::flags::power_is_down;
@@ -13,20 +13,30 @@ use rules::barrier::Why;
 use rules::input::Force;
 use rules::state::Link;
 
-// What stops "the low inputs: switch, timed, scene, night".
+// What stops "the low inputs: switch, timed, scene, night". Of these night sets a value.
 const LOW: Row = Row {
     power: true,
     bus: true,
     lock: true,
     force: true,
+    value: false,
 };
 
-// What stops a forced input, a lock, and the events of the bus and of the power.
+const NIGHT: Row = Row {
+    power: true,
+    bus: true,
+    lock: true,
+    force: true,
+    value: true,
+};
+
+// What stops a forced input, which sets a value too, a lock, and the events of the bus and of the power.
 const FORCED: Row = Row {
     power: true,
     bus: true,
     lock: true,
     force: false,
+    value: true,
 };
 
 const LOCK: Row = Row {
@@ -34,6 +44,7 @@ const LOCK: Row = Row {
     bus: true,
     lock: false,
     force: false,
+    value: false,
 };
 
 const BUS: Row = Row {
@@ -41,6 +52,7 @@ const BUS: Row = Row {
     bus: false,
     lock: false,
     force: false,
+    value: false,
 };
 
 const POWER: Row = Row {
@@ -48,6 +60,7 @@ const POWER: Row = Row {
     bus: false,
     lock: false,
     force: false,
+    value: false,
 };
 
 // The table: a row for each kind, from 1 SwitchOnOff to 8 power. It is read by a match, so that it is not built anew for every input.
@@ -61,9 +74,20 @@ fn row_of(kind: u8) -> Row
         3 => LOW,
         4 => FORCED,
         5 => LOCK,
-        6 => LOW,
+        6 => NIGHT,
         7 => BUS,
         _ => POWER,
+    }
+}
+
+// What lock or force does to an input that it outranks: a value is noted.
+fn outranked(value: bool, why: Why) -> Barrier
+    ensures { λ r. ⌜ r ≡ outranked value why ⌝ }
+{
+    if value {
+        Barrier::Notes
+    } else {
+        Barrier::Stopped(why)
     }
 }
 
@@ -78,10 +102,10 @@ fn first_barrier(row: Row, link: Link, lock: bool, force: Force) -> Barrier
         return Barrier::Stopped(Why::NoBus);
     }
     if both(row.lock, lock) {
-        return Barrier::Stopped(Why::Locked);
+        return outranked(row.value, Why::Locked);
     }
     if both(row.force, stands(force)) {
-        return Barrier::Stopped(Why::Forced);
+        return outranked(row.value, Why::Forced);
     }
     Barrier::Open
 }

@@ -12,21 +12,21 @@ use Rattle.rules.specs.declared.parameters.Scene.{Scene}
 use Rattle.rules.specs.declared.input.Input.{Input}
 use Rattle.rules.specs.declared.input.Input.the-variants.{SwitchOnOff}
 use Rattle.rules.specs.declared.barrier.Barrier.{Barrier}
-use Rattle.rules.specs.declared.barrier.Barrier.the-variants.{Open, Stopped}
+use Rattle.rules.specs.declared.barrier.Barrier.the-variants.{Open, Notes, Stopped}
 use Rattle.rules.specs.declared.state.State.{State}
 use Rattle.rules.specs.declared.record.Record.{Record}
 use Rattle.rules.specs.Inputs.{kind, sceneNumber}
 use Rattle.rules.specs.Parameters.{paramsInRange}
 use Rattle.rules.specs.Scenes.{scenesInRange}
-use Rattle.rules.specs.Orders.{order}
+use Rattle.rules.specs.Orders.{order, noted}
 use Rattle.rules.specs.Barriers.{barrier}
 use Rattle.rules.specs.Status.{recordOf, byItself, sameStatus, written}
-use Rattle.rules.specs.Steps.{fresh, tick, ticked, clockMove, taken, meet, act, step}
+use Rattle.rules.specs.Steps.{fresh, tick, ticked, clockMove, counted, meet, act, step}
 use Rattle.rules.specs.Lists.{still}
 use Rattle.rules.specs.Soundness.{sound}
 use Rattle.rules.proofs.Laws.Deadlines.{soon-within}
 use Rattle.rules.proofs.Laws.Steps.{tick-case}
-use Rattle.rules.proofs.Laws.Orders.{order-leaves}
+use Rattle.rules.proofs.Laws.Orders.{order-leaves, noted-leaves}
 use Rattle.rules.proofs.Laws.Soundness.{sound-view, fresh-is-sound, tick-is-sound, tick-clock, move-is-sound, move-clock, step-is-sound, step-clock}
 use Rattle.rules.proofs.Promises.Stamps.{step-records}
 use Rattle.sensor.specs.declared.signal.Signal.{Signal}
@@ -110,14 +110,12 @@ a-step-records-in-order s i t h later end =
 
 -- and while the clock stands all is stamped at it
 acted-in-order : (s : State) (i : Input) → StampsRise (s .clock) (act (still s) i .records) (s .clock)
-unfolding act meet taken
+unfolding act meet counted
 acted-in-order s i = by (barrier s i)
   where
-    here : order s i .clock ≡ s .clock
-    here = order-leaves s i .clock
-
     by : (b : Barrier) → StampsRise (s .clock) (meet b (still s) i .records) (s .clock)
-    by Open = written-rises (kind i) s (order s i) (s .clock) (s .clock) (omega (arith, here)) (omega (arith, here))
+    by Open = let here = order-leaves s i .clock in written-rises (kind i) s (order s i) (s .clock) (s .clock) (omega (arith, here)) (omega (arith, here))
+    by Notes = let here = noted-leaves s i .clock in written-rises (kind i) s (noted s i) (s .clock) (s .clock) (omega (arith, here)) (omega (arith, here))
     by (Stopped why) = omega arith
 
 -- ---- what is heard

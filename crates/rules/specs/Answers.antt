@@ -1,4 +1,4 @@
--- The answer octet (01, "Which input counts").
+-- The answer octet (01, "Which input counts"; 02, [4]).
 use Prim.Native.Nat.{ℕ}
 use mathlib.Core.Bool.{Bool, true, false, cond, _&&_, Bool·beq}
 use mathlib.Core.List.{List, [], _∷_}
@@ -12,7 +12,7 @@ use Rattle.rules.specs.declared.state.State.{State}
 use Rattle.rules.specs.declared.barrier.Why.{Why}
 use Rattle.rules.specs.declared.barrier.Why.the-variants.{NoPower, NoBus, Locked, Forced}
 use Rattle.rules.specs.declared.barrier.Barrier.{Barrier}
-use Rattle.rules.specs.declared.barrier.Barrier.the-variants.{Open, Stopped}
+use Rattle.rules.specs.declared.barrier.Barrier.the-variants.{Open, Notes, Stopped}
 use Rattle.rules.specs.Inputs.{forceNumber}
 
 -- "Answer octet, first that fits: 5 power down, 4 bus down, 3 lock, 2 force"
@@ -23,8 +23,10 @@ stoppedNumber Locked = 3
 stoppedNumber Forced = 2
 
 -- "then 0 if anything but the clock changed after the due timers had run, else 1." (`same`: nothing but the clock changed)
+-- 02, [4]: "Answer 6 means noted and different; a noted equal value answers 1."
 abbrev pub answer : Barrier → Bool → ℕ
 answer (Stopped why) same = stoppedNumber why
+answer Notes same = cond same 1 6
 answer Open same = cond same 1 0
 
 -- ---- nothing but the clock differs: proofs/Laws/Answers.antt shows that this is equality of all the rest

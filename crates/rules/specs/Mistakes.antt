@@ -20,7 +20,7 @@ use Rattle.rules.specs.Phases.{output}
 use Rattle.rules.specs.Orders.{standing}
 use Rattle.rules.specs.Steps.{fresh, clockMove, step}
 use Rattle.rules.specs.Lists.{Cue, cue, Played, andThen, moved, plays, playsTo, start, playList, acts}
-use Rattle.rules.specs.Promises.{Turn, turns, Each, stateAt, Taken, lights, ShowsLight, turnAfter}
+use Rattle.rules.specs.Promises.{Turn, turns, Each, stateAt, Taken, Dropped, lights, ShowsLight, turnAfter}
 
 -- ---- ties
 
@@ -144,8 +144,8 @@ OnIsNeverLater p scenes list end =
 -- ---- rank
 
 -- "They hold a cue back while the lock is set and play it afterwards. An outranked cue is dropped."
--- A cue that a barrier stops may be struck.
+-- A cue that a barrier stops (answers 2 to 5) may be struck. What is only noted is told apart: Notes.antt.
 abbrev pub OutrankedIsDropped : Params → List Scene → List Cue → ℕ → Type 0
 OutrankedIsDropped p scenes list end =
     (before : List Cue) (t : ℕ) (i : Input) (later : List Cue) → before ++ (cue t i ∷ later) ≡ list →
-    (Taken (turnAfter p scenes before t i) → ⊥) → MayBeStruck p scenes before t i later end
+    Dropped (turnAfter p scenes before t i) → MayBeStruck p scenes before t i later end

@@ -1,5 +1,6 @@
 -- What each order does, at t (01, "What each order does, at t"). First what the orders make of a phase, then what they make of
--- the state. An order is asked only of a state whose clock has moved to t, and only where nothing stops it (Barriers.antt).
+-- the state. An order is asked only of a state whose clock has moved to t, and only where nothing stops it (Barriers.antt). Last, what a
+-- value changes that is only noted.
 use Prim.Native.Nat.{ℕ, _+_}
 use mathlib.Core.Bool.{Bool, true, false, cond, _||_}
 use mathlib.Core.List.{List}
@@ -233,3 +234,16 @@ order s (LockDevice value) = lockDevice s value
 order s (NightMode value) = nightMode s value
 order s (Bus event) = bus s (s .link) event
 order s (Power event) = power s (s .link) event
+
+-- ---- a value that is noted (02, [4]: "A group object keeps its last value even while something stronger stands")
+
+-- "the flag or force changes, the phase does not." No other input is noted (Barriers.antt).
+unfoldable pub noted : State → Input → State
+noted s (SwitchOnOff value) = s
+noted s (TimedStartStop value) = s
+noted s (NumberedSceneControl learns number) = s
+noted s (SwitchOnOffForced force) = withForce s force
+noted s (LockDevice value) = s
+noted s (NightMode value) = withNight s value
+noted s (Bus event) = s
+noted s (Power event) = s

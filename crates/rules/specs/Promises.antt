@@ -20,7 +20,8 @@ use Rattle.rules.specs.declared.input.Input.the-variants.{SwitchOnOff, T
 use Rattle.rules.specs.declared.state.Link.{Link}
 use Rattle.rules.specs.declared.state.Link.the-variants.{Up, BusDown, PowerDown}
 use Rattle.rules.specs.declared.state.State.{State}
-use Rattle.rules.specs.declared.barrier.Barrier.the-variants.{Open}
+use Rattle.rules.specs.declared.barrier.Why.{Why}
+use Rattle.rules.specs.declared.barrier.Barrier.the-variants.{Open, Notes, Stopped}
 use Rattle.rules.specs.declared.record.Record.{Record}
 use Rattle.rules.specs.Inputs.{kind}
 use Rattle.rules.specs.Phases.{output}
@@ -67,9 +68,15 @@ stateAt t cues s = clockMove (plays (upTo t cues) s .state) t .state
 
 -- ---- the inputs that the promises speak of
 
--- "A stopped input is dropped for good; every other is taken"
+-- "A stopped input is dropped for good; every other is taken"; 02, [4]: "is noted"
 abbrev pub Taken : Turn → Type 0
 Taken x = barrier (x .met) (x .input) ≡ Open
+
+abbrev pub Noted : Turn → Type 0
+Noted x = barrier (x .met) (x .input) ≡ Notes
+
+abbrev pub Dropped : Turn → Type 0
+Dropped x = (why : Why) × (barrier (x .met) (x .input) ≡ Stopped why)
 
 abbrev pub recallsOn : Recalled → Bool
 recallsOn Nothing = false

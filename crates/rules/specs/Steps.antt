@@ -1,4 +1,4 @@
--- The clock move and the step of one input (01, "Phases" and "Which input counts").
+-- The clock move and the step of one input (01, "Phases" and "Which input counts"; 02, [4]).
 use Prim.Native.Nat.{ℕ, _≤_, _<_}
 use mathlib.Core.Bool.{true, false, cond}
 use mathlib.Core.List.{List, [], _++_}
@@ -15,11 +15,11 @@ use Rattle.rules.specs.declared.input.Input.{Input}
 use Rattle.rules.specs.declared.state.Link.the-variants.{Up}
 use Rattle.rules.specs.declared.state.State.{State}
 use Rattle.rules.specs.declared.barrier.Barrier.{Barrier}
-use Rattle.rules.specs.declared.barrier.Barrier.the-variants.{Open, Stopped}
+use Rattle.rules.specs.declared.barrier.Barrier.the-variants.{Open, Notes, Stopped}
 use Rattle.rules.specs.declared.record.Record.{Record}
 use Rattle.rules.specs.Inputs.{kind}
 use Rattle.rules.specs.Phases.{deadline, atDeadline}
-use Rattle.rules.specs.Orders.{order}
+use Rattle.rules.specs.Orders.{order, noted}
 use Rattle.rules.specs.Barriers.{barrier}
 use Rattle.rules.specs.Status.{written, byItself}
 use Rattle.rules.specs.Answers.{answer, sameButClock}
@@ -91,18 +91,20 @@ pub record Stepped : Type 0 where
   pub answer : ℕ
   pub records : List Record
 
--- from the moved state to the one after the order
-unfoldable pub taken : Moved → Input → State → Stepped
-taken m i after =
+-- from the moved state to the one after an input that counts, by what it meets
+unfoldable pub counted : Barrier → Moved → Input → State → Stepped
+counted b m i after =
     record {
       state = after;
-      answer = answer Open (sameButClock (m .state) after);
+      answer = answer b (sameButClock (m .state) after);
       records = m .records ++ written (kind i) (m .state) after;
     }
 
 -- "A stopped input is dropped for good; every other is taken, though it may change nothing."
+-- 02, [4]: "is noted: the flag or force changes, the phase does not. Release and unlocking then act by 01's rules on the noted values."
 unfoldable pub meet : Barrier → Moved → Input → Stepped
-meet Open m i = taken m i (order (m .state) i)
+meet Open m i = counted Open m i (order (m .state) i)
+meet Notes m i = counted Notes m i (noted (m .state) i)
 meet (Stopped why) m i = record { state = m .state; answer = answer (Stopped why) true; records = m .records }
 
 unfoldable pub act : Moved → Input → Stepped

@@ -1,11 +1,13 @@
 // What may stop an input.
 
-// The barriers of one kind of input: whether it is stopped while power is down, while the bus is down, while locked, while forced.
+// The barriers of one kind of input: power down, bus down, lock, force; and whether it sets a value, which lock and force note where they
+// stop any other.
 pub struct Row {
     pub power: bool,
     pub bus: bool,
     pub lock: bool,
     pub force: bool,
+    pub value: bool,
 }
 
 // Why an input is stopped.
@@ -16,8 +18,9 @@ pub enum Why {
     Forced,
 }
 
-// What an input meets: nothing, or the first barrier that stops it.
+// What an input meets: nothing, a barrier that notes it, or the first that stops it.
 pub enum Barrier {
     Open,
+    Notes,
     Stopped(Why),
 }

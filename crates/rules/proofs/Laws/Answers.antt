@@ -1,5 +1,6 @@
--- The answer octet tells exactly whether an input that is taken changed anything but the clock.
-use mathlib.Core.Bool.{Bool, true, false, true≢false}
+-- The answer octet tells exactly whether an input that is taken, or noted, changed anything but the clock.
+use Prim.Native.Nat.{ℕ}
+use mathlib.Core.Bool.{Bool, true, false, cond, true≢false}
 use mathlib.Core.Path.{_≡_, refl, sym}
 use mathlib.Core.Logic.{_↔_, Iff·trans, eq-comm}
 use mathlib.Core.List.{List, [], _∷_}
@@ -15,14 +16,14 @@ use Rattle.rules.specs.declared.state.Link.{Link}
 use Rattle.rules.specs.declared.state.Link.the-variants.{Up, BusDown, PowerDown}
 use Rattle.rules.specs.declared.state.State.{State}
 use Rattle.rules.specs.declared.barrier.Barrier.{Barrier}
-use Rattle.rules.specs.declared.barrier.Barrier.the-variants.{Open, Stopped}
-use Rattle.rules.specs.Orders.{order}
+use Rattle.rules.specs.declared.barrier.Barrier.the-variants.{Open, Notes, Stopped}
+use Rattle.rules.specs.Orders.{order, noted}
 use Rattle.rules.specs.Barriers.{barrier}
 use Rattle.rules.specs.Inputs.{forceNumber, forceOf}
 use Rattle.rules.specs.Answers.{answer, phaseNumber, due, phaseOf, linkNumber, linkOf, samePhase, sameScene, sameScenes, sameFlags, sameButClock}
-use Rattle.rules.specs.Steps.{atMoment, Moved, taken, meet, act}
+use Rattle.rules.specs.Steps.{atMoment, Moved, counted, meet, act}
 use Rattle.base.proofs.Tests.{and-left, and-right, beq-true, beq-same, eqb-same}
-use Rattle.rules.proofs.Laws.Orders.{order-leaves}
+use Rattle.rules.proofs.Laws.Orders.{order-leaves, noted-leaves}
 
 -- a phase, a force and a link can be read back from their numbers, so equal numbers mean equal things
 
@@ -103,24 +104,33 @@ state-same s = simp (eqb-same, beq-same, scenes-same)
 pub same-but-clock-is-exact : (a b : State) → a .clock ≡ b .clock → a .params ≡ b .params → (sameButClock a b ≡ true) ↔ (a ≡ b)
 same-but-clock-is-exact a b c p = (states-equal a b c p, λ e. rw e (state-same b))
 
--- ---- the answer of an input that is taken: 1 exactly when it changed nothing, 0 exactly when it changed something
+-- ---- the answer of an input that is taken or noted: 1 exactly when it changed nothing, 0 or 6 exactly when it changed something
 
-one-or-zero : {Same : Type 0} (b : Bool) → (b ≡ true) ↔ Same → ((answer Open b ≡ 1) ↔ Same) × ((answer Open b ≡ 0) ↔ (Same → ⊥))
-one-or-zero true e = ((λ _. e .0 refl, λ _. refl), (λ h _. omega arith, λ no. absurd (no (e .0 refl))))
-one-or-zero false e = ((λ h. absurd (omega arith), λ same. cc (e .1 same)), (λ _ same. true≢false (sym (e .1 same)), λ _. refl))
+one-or-other : {Same : Type 0} (other : ℕ) → (other ≡ 1 → ⊥) → (b : Bool) → (b ≡ true) ↔ Same → ((cond b 1 other ≡ 1) ↔ Same) × ((cond b 1 other ≡ other) ↔ (Same → ⊥))
+one-or-other other differs true e = ((λ _. e .0 refl, λ _. refl), (λ h _. differs (sym h), λ no. absurd (no (e .0 refl))))
+one-or-other other differs false e = ((λ h. absurd (differs h), λ same. cc (e .1 same)), (λ _ same. true≢false (sym (e .1 same)), λ _. refl))
 
 -- the test behind the answer is exact, since an order keeps what the test leaves out
 pub answer-one-means-nothing-changed : (s : State) (i : Input) →
     ((answer Open (sameButClock s (order s i)) ≡ 1) ↔ (order s i ≡ s)) × ((answer Open (sameButClock s (order s i)) ≡ 0) ↔ (order s i ≡ s → ⊥))
 answer-one-means-nothing-changed s i =
     let kept = order-leaves s i in
-    one-or-zero (sameButClock s (order s i)) (Iff·trans (same-but-clock-is-exact s (order s i) (sym (kept .clock)) (sym (kept .params))) eq-comm)
+    one-or-other 0 (λ e. omega arith) (sameButClock s (order s i)) (Iff·trans (same-but-clock-is-exact s (order s i) (sym (kept .clock)) (sym (kept .params))) eq-comm)
 
 -- the same of the answer and the state that an input gives, after the due timers had run
 pub taken-is-answered-by-its-change : (m : Moved) (i : Input) → barrier (m .state) i ≡ Open →
     ((act m i .answer ≡ 1) ↔ (act m i .state ≡ m .state)) × ((act m i .answer ≡ 0) ↔ (act m i .state ≡ m .state → ⊥))
-unfolding act meet taken
+unfolding act meet counted
 taken-is-answered-by-its-change m i free = rw free (answer-one-means-nothing-changed (m .state) i)
+
+-- "Answer 6 means noted and different; a noted equal value answers 1."
+pub noted-is-answered-by-its-change : (m : Moved) (i : Input) → barrier (m .state) i ≡ Notes →
+    ((act m i .answer ≡ 1) ↔ (act m i .state ≡ m .state)) × ((act m i .answer ≡ 6) ↔ (act m i .state ≡ m .state → ⊥))
+unfolding act meet counted
+noted-is-answered-by-its-change m i way =
+    let s = m .state in
+    let kept = noted-leaves s i in
+    rw way (one-or-other 6 (λ e. omega arith) (sameButClock s (noted s i)) (Iff·trans (same-but-clock-is-exact s (noted s i) (sym (kept .clock)) (sym (kept .params))) eq-comm))
 
 -- the answer that an input gives: that of the first barrier that it meets, and of whether anything but the clock changed
 pub answered-by-its-barrier : (m : Moved) (i : Input) → act m i .answer ≡ answer (barrier (m .state) i) (sameButClock (m .state) (act m i .state))
@@ -128,7 +138,8 @@ unfolding act
 answered-by-its-barrier m i = go (barrier (m .state) i)
   where
     go : (b : Barrier) → meet b m i .answer ≡ answer b (sameButClock (m .state) (meet b m i .state))
-    go Open = unfold meet taken in refl
+    go Open = unfold meet counted in refl
+    go Notes = unfold meet counted in refl
     go (Stopped why) = unfold meet in refl
 
 -- whatever the two clocks show

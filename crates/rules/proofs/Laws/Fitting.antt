@@ -1,6 +1,6 @@
--- An order that nothing stops leaves a phase that fits the clock and the flags.
+-- An order that nothing stops leaves a phase that fits the clock and the flags, and a value that is noted leaves one that fits still.
 use Prim.Native.Nat.{ℕ}
-use mathlib.Core.Bool.{Bool, true, false, _||_}
+use mathlib.Core.Bool.{Bool, true, false, _&&_, _||_}
 use mathlib.Core.Path.{_≡_, refl}
 use lib.Dec.{eqb}
 use Rattle.rules.specs.declared.parameters.Recalled.{Recalled}
@@ -15,18 +15,17 @@ use Rattle.rules.specs.declared.input.Input.the-variants.{SwitchOnOff, T
 use Rattle.rules.specs.declared.state.Link.{Link}
 use Rattle.rules.specs.declared.state.Link.the-variants.{Up, BusDown, PowerDown}
 use Rattle.rules.specs.declared.state.State.{State}
-use Rattle.rules.specs.declared.barrier.Barrier.the-variants.{Open}
-use Rattle.rules.specs.Inputs.{kind}
+use Rattle.rules.specs.declared.barrier.Barrier.the-variants.{Open, Notes}
 use Rattle.rules.specs.Scenes.{recalled}
 use Rattle.rules.specs.Phases.{output}
-use Rattle.rules.specs.Orders.{withPhase, withNight, withForce, withLink, withLock, standing, held, settle, byMode, switch, timed, recall, learn, scene, nightMode, forced, locked, unlocked, lockDevice, busMode, bus, powerFails, powerReturns, power, order}
-use Rattle.rules.specs.Barriers.{powerDown, rows, rowOf, barrier, powerStops, lockStops, forceStops}
-use Rattle.rules.specs.Soundness.{soon, heldIsSteady, forceDecides, nightEnds, powerDownIsClear}
+use Rattle.rules.specs.Orders.{withPhase, withNight, withForce, withLink, withLock, standing, held, settle, byMode, switch, timed, recall, learn, scene, nightMode, forced, locked, unlocked, lockDevice, busMode, bus, powerFails, powerReturns, power, order, noted}
+use Rattle.rules.specs.Barriers.{powerDown, rows, rowOf, barrier}
+use Rattle.rules.specs.Soundness.{isLit, soon, heldIsSteady, forceDecides, nightEnds, powerDownIsClear}
 use Rattle.base.proofs.Tests.{neither-left, cond-case}
 use Rattle.rules.proofs.Laws.Deadlines.{Times}
 use Rattle.rules.proofs.Laws.Phases.{Unheld, set-on-unheld, on-unheld, timed-start-unheld, off-unheld, timed-stop-unheld, night-falls-unheld}
-use Rattle.rules.proofs.Laws.Holding.{Fits, LooseIn, unheld-fits, fits-unheld, held-fits, power-down-is-free}
-use Rattle.rules.proofs.Laws.Barriers.{Unstopped, open-is-unstopped}
+use Rattle.rules.proofs.Laws.Holding.{Fits, LooseIn, unheld-fits, fits-unheld, held-fits, power-down-is-free, either-true}
+use Rattle.rules.proofs.Laws.Barriers.{Unstopped, open-is-unstopped, noted-where}
 
 -- set on or set off, where nothing holds the phase
 settle-fits : (s : State) (output : Bool) → Times (s .params) → LooseIn s → Fits (settle s output)
@@ -117,10 +116,6 @@ module _ (s : State) (n : Times (s .params)) (f : Fits s) where
   power-fits PowerDown e Failure = f
   power-fits PowerDown e Return = settle-fits (withLink s Up) _ n record { free = power-down-is-free s e f; powered = refl }
 
-  unstopped : (i : Input) → barrier s i ≡ Open → Unstopped (powerStops s i) (lockStops s i) (forceStops s i)
-  unfolding barrier
-  unstopped i way = open-is-unstopped (rowOf (kind i)) (s .link) (s .lock) (s .force) way
-
   -- neither lock nor force stands where both would have stopped the input
   freely : Unstopped (powerDown (s .link)) (s .lock) (standing (s .force)) → LooseIn s
   freely c = record { free = rw (c .unlocked) (c .unforced); powered = c .powered }
@@ -128,12 +123,28 @@ module _ (s : State) (n : Times (s .params)) (f : Fits s) where
   -- each kind of input by what its row of barriers has left standing
   pub order-fits : (i : Input) → barrier s i ≡ Open → Fits (order s i)
   unfolding order scene rowOf rows
-  order-fits (SwitchOnOff value) way = switch-fits (freely (unstopped (SwitchOnOff value) way)) value
-  order-fits (TimedStartStop value) way = timed-fits (freely (unstopped (TimedStartStop value) way)) value
+  order-fits (SwitchOnOff value) way = switch-fits (freely (open-is-unstopped s (SwitchOnOff value) way)) value
+  order-fits (TimedStartStop value) way = timed-fits (freely (open-is-unstopped s (TimedStartStop value) way)) value
   order-fits (NumberedSceneControl true number) way = learn-fits number
-  order-fits (NumberedSceneControl false number) way = recall-fits (freely (unstopped (NumberedSceneControl false number) way)) (recalled (s .scenes) number)
-  order-fits (SwitchOnOffForced force) way = let c = unstopped (SwitchOnOffForced force) way in forced-fits (c .unlocked) (c .powered) force
-  order-fits (LockDevice value) way = lock-fits (unstopped (LockDevice value) way .powered) value
-  order-fits (NightMode value) way = night-fits (freely (unstopped (NightMode value) way)) value
+  order-fits (NumberedSceneControl false number) way = recall-fits (freely (open-is-unstopped s (NumberedSceneControl false number) way)) (recalled (s .scenes) number)
+  order-fits (SwitchOnOffForced force) way = let c = open-is-unstopped s (SwitchOnOffForced force) way in forced-fits (c .unlocked) (c .powered) force
+  order-fits (LockDevice value) way = lock-fits (open-is-unstopped s (LockDevice value) way .powered) value
+  order-fits (NightMode value) way = night-fits (freely (open-is-unstopped s (NightMode value) way)) value
   order-fits (Bus event) way = bus-fits (s .link) event
   order-fits (Power event) way = power-fits (s .link) refl event
+
+  -- a value that is noted leaves the phase, and lock or force holds it still: the lock stands where a force is noted
+  pub noted-fits : (i : Input) → barrier s i ≡ Notes → Fits (noted s i)
+  unfolding noted held heldIsSteady forceDecides nightEnds powerDownIsClear
+  noted-fits (SwitchOnOff value) way = absurd (noted-where s (SwitchOnOff value) way)
+  noted-fits (TimedStartStop value) way = absurd (noted-where s (TimedStartStop value) way)
+  noted-fits (NumberedSceneControl learns number) way = absurd (noted-where s (NumberedSceneControl learns number) way)
+  noted-fits (SwitchOnOffForced force) way =
+      let w = noted-where s (SwitchOnOffForced force) way in
+      record { soon = f .soon; steady = rw (w .locked) (rw (w .locked) at (f .steady)); decided = rw (w .locked); ends = rw (w .locked) (either-true (s .night && isLit (s .phase))); clear = rw (w .linked) }
+  noted-fits (LockDevice value) way = absurd (noted-where s (LockDevice value) way)
+  noted-fits (NightMode value) way =
+      let w = noted-where s (NightMode value) way in
+      record { soon = f .soon; steady = f .steady; decided = f .decided; ends = rw (w .held) (either-true (value && isLit (s .phase))); clear = rw (w .linked) }
+  noted-fits (Bus event) way = absurd (noted-where s (Bus event) way)
+  noted-fits (Power event) way = absurd (noted-where s (Power event) way)

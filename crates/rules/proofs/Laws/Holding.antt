@@ -126,7 +126,7 @@ unfolding soon
 plain-is-steady true t = (refl, refl)
 plain-is-steady false t = (refl, refl)
 
-either-true : (b : Bool) → cond b true true ≡ true
+pub either-true : (b : Bool) → cond b true true ≡ true
 either-true true = refl
 either-true false = refl
 

@@ -5,9 +5,9 @@ use Prim.Native.Nat.{ℕ}
 use Rattle.rules.specs.declared.input.Input.{Input}
 use Rattle.rules.specs.declared.state.State.{State}
 use Rattle.rules.specs.declared.barrier.Barrier.{Barrier}
-use Rattle.rules.specs.declared.barrier.Barrier.the-variants.{Open, Stopped}
+use Rattle.rules.specs.declared.barrier.Barrier.the-variants.{Open, Notes, Stopped}
 use Rattle.rules.specs.Barriers.{barrier}
-use Rattle.rules.specs.Steps.{Moved, clockMove, taken, meet, act, step}
+use Rattle.rules.specs.Steps.{Moved, clockMove, counted, meet, act, step}
 use Rattle.rules.specs.Lists.{Cue, cue, Played, andThen, moved, stepped, plays, playsTo, still}
 use Rattle.rules.proofs.Laws.Soundness.{step-params}
 
@@ -43,5 +43,6 @@ unfolding act
 acts-after-the-move m i = go (barrier (m .state) i)
   where
     go : (b : Barrier) → stepped (meet b m i) ≡ andThen (moved m) (λ x. stepped (meet b (still x) i))
-    go Open = unfold meet taken in refl
+    go Open = unfold meet counted in refl
+    go Notes = unfold meet counted in refl
     go (Stopped why) = unfold meet in simp append-nil

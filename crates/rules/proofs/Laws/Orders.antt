@@ -20,7 +20,7 @@ use Rattle.rules.specs.declared.state.State.{State}
 use Rattle.rules.specs.Scenes.{recalled, learnt}
 use Rattle.rules.specs.Phases.{output}
 use Rattle.rules.specs.declared.phase.Phase.the-variants.{Dark, Lit}
-use Rattle.rules.specs.Orders.{withForce, withLink, withLock, withScenes, standing, held, settle, switch, timed, recall, learn, scene, nightMode, forced, locked, unlocked, lockDevice, busMode, bus, powerFails, powerReturns, power, order}
+use Rattle.rules.specs.Orders.{withForce, withLink, withLock, withScenes, standing, held, settle, switch, timed, recall, learn, scene, nightMode, forced, locked, unlocked, lockDevice, busMode, bus, powerFails, powerReturns, power, order, noted}
 use Rattle.rules.specs.Said.{Flags, flagsOf, flagsAfterPower, MadeOf, Leaves}
 use Rattle.base.proofs.Tests.{no, cond-case}
 
@@ -127,6 +127,29 @@ order-leaves s (LockDevice value) = lock-leaves s value
 order-leaves s (NightMode value) = night-leaves s value
 order-leaves s (Bus event) = bus-leaves s (s .link) event refl
 order-leaves s (Power event) = power-leaves s (s .link) event
+
+-- a value that is noted changes one flag, or none
+pub noted-leaves : (s : State) (i : Input) → With s (flagsOf (noted s i)) (noted s i)
+unfolding noted
+noted-leaves s (SwitchOnOff value) = same
+noted-leaves s (TimedStartStop value) = same
+noted-leaves s (NumberedSceneControl learns number) = same
+noted-leaves s (SwitchOnOffForced force) = same
+noted-leaves s (LockDevice value) = same
+noted-leaves s (NightMode value) = same
+noted-leaves s (Bus event) = same
+noted-leaves s (Power event) = same
+
+pub noted-phase : (s : State) (i : Input) → noted s i .phase ≡ s .phase
+unfolding noted
+noted-phase s (SwitchOnOff value) = refl
+noted-phase s (TimedStartStop value) = refl
+noted-phase s (NumberedSceneControl learns number) = refl
+noted-phase s (SwitchOnOffForced force) = refl
+noted-phase s (LockDevice value) = refl
+noted-phase s (NightMode value) = refl
+noted-phase s (Bus event) = refl
+noted-phase s (Power event) = refl
 
 -- 01, "Slips we have seen": "An unlock that forgets a standing force."
 pub unlock-obeys-a-standing-force : (s : State) → s .lock ≡ true →

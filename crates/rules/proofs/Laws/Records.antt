@@ -11,14 +11,14 @@ use Rattle.rules.specs.declared.phase.Phase.the-variants.{Dark, Lit, Sta
 use Rattle.rules.specs.declared.input.Input.{Input}
 use Rattle.rules.specs.declared.state.State.{State}
 use Rattle.rules.specs.declared.barrier.Barrier.{Barrier}
-use Rattle.rules.specs.declared.barrier.Barrier.the-variants.{Open, Stopped}
+use Rattle.rules.specs.declared.barrier.Barrier.the-variants.{Open, Notes, Stopped}
 use Rattle.rules.specs.declared.record.Record.{Record}
 use Rattle.rules.specs.Inputs.{kind}
 use Rattle.rules.specs.Phases.{output, litAt, atDeadline}
-use Rattle.rules.specs.Orders.{withPhase, order}
+use Rattle.rules.specs.Orders.{withPhase, order, noted}
 use Rattle.rules.specs.Barriers.{barrier}
 use Rattle.rules.specs.Status.{value, staircase, attributes, sameStatus, written, byItself}
-use Rattle.rules.specs.Steps.{atMoment, Moved, clockMove, taken, meet, act, step, Moves, rest, fire}
+use Rattle.rules.specs.Steps.{atMoment, Moved, clockMove, counted, meet, act, step, Moves, rest, fire}
 use Rattle.rules.specs.Calls.{blank, places}
 use Rattle.base.proofs.Tests.{cond-case, cond-zero}
 use Rattle.rules.proofs.Laws.Timers.{alike-writes-nothing, clock-moves}
@@ -80,8 +80,9 @@ pub a-move-writes-at-most-two : (s : State) (t : ℕ) → length (clockMove s t 
 a-move-writes-at-most-two s t = omega (arith, moves-show (clock-moves s t), two-show (s .phase))
 
 meet-writes : (x : Barrier) (m : Moved) (i : Input) → length (meet x m i .records) ≤ length (m .records) + 1
-unfolding meet taken
+unfolding meet counted
 meet-writes Open m i = rw length-append (omega (arith, one-record-at-most (kind i) (m .state) (order (m .state) i)))
+meet-writes Notes m i = rw length-append (omega (arith, one-record-at-most (kind i) (m .state) (noted (m .state) i)))
 meet-writes (Stopped why) m i = omega arith
 
 -- two of the clock move, and one of the order

@@ -1,29 +1,30 @@
--- A sound state stays sound: from its start, by a timer, by a clock move, by an order that nothing stops, by a step.
+-- A sound state stays sound: from its start, by a timer, by a clock move, by an order that nothing stops, by a value that is noted, by a step.
 use Prim.Native.Nat.{ℕ, _+_, _≤_}
 use mathlib.Core.Bool.{true, false}
 use mathlib.Core.List.{List}
-use mathlib.Core.Path.{_≡_, refl, _∙_, ap}
+use mathlib.Core.Path.{_≡_, refl, sym, _∙_, ap, subst}
 use native.Mathlib.Omega.{arith}
 use borrow.Author.Tests.{leb-true, le-leb}
 use Rattle.rules.specs.declared.parameters.Params.{Params}
 use Rattle.rules.specs.declared.parameters.Scene.{Scene}
+use Rattle.rules.specs.declared.phase.Phase.{Phase}
 use Rattle.rules.specs.declared.phase.Deadline.{Deadline}
 use Rattle.rules.specs.declared.phase.Deadline.the-variants.{Never, At}
 use Rattle.rules.specs.declared.input.Input.{Input}
 use Rattle.rules.specs.declared.input.Input.the-variants.{SwitchOnOff, TimedStartStop, NumberedSceneControl, SwitchOnOffForced, LockDevice, NightMode, Bus, Power}
 use Rattle.rules.specs.declared.state.State.{State}
 use Rattle.rules.specs.declared.barrier.Barrier.{Barrier}
-use Rattle.rules.specs.declared.barrier.Barrier.the-variants.{Open, Stopped}
+use Rattle.rules.specs.declared.barrier.Barrier.the-variants.{Open, Notes, Stopped}
 use Rattle.base.specs.Time.{lastStamp}
 use Rattle.rules.specs.Inputs.{sceneNumber}
 use Rattle.rules.specs.Forms.{formOf, isVersion}
 use Rattle.rules.specs.Parameters.{timeInRange, timesInRange, modesInRange, paramsInRange}
 use Rattle.rules.specs.Scenes.{entryInRange, scenesInRange}
 use Rattle.rules.specs.Phases.{output, deadline}
-use Rattle.rules.specs.Orders.{order}
+use Rattle.rules.specs.Orders.{order, noted}
 use Rattle.rules.specs.Barriers.{barrier}
 use Rattle.rules.specs.Answers.{due}
-use Rattle.rules.specs.Steps.{fresh, atMoment, tick, Moved, ticked, clockMove, taken, meet, act, step, Quiet, fired}
+use Rattle.rules.specs.Steps.{fresh, atMoment, tick, Moved, ticked, clockMove, counted, meet, act, step, Quiet, fired}
 use Rattle.rules.specs.Soundness.{soon, consistent, sound}
 use Rattle.rules.specs.Calls.{leastParams, unused, noScenes, ownState}
 use Rattle.rules.specs.Said.{scenesAfter}
@@ -33,8 +34,8 @@ use Rattle.rules.proofs.Laws.Phases.{timer-unheld}
 use Rattle.rules.proofs.Laws.Holding.{Fits, fits-view, fits-consistent, waiting-is-loose, fits-unheld, unheld-fits}
 use Rattle.rules.proofs.Laws.Steps.{tick-case, tick-keeps, three-are-enough}
 use Rattle.rules.proofs.Laws.Scenes.{learnt-in-range}
-use Rattle.rules.proofs.Laws.Fitting.{order-fits}
-use Rattle.rules.proofs.Laws.Orders.{order-leaves}
+use Rattle.rules.proofs.Laws.Fitting.{order-fits, noted-fits}
+use Rattle.rules.proofs.Laws.Orders.{order-leaves, noted-leaves, noted-phase}
 
 -- ---- the rules of a sound state by name
 
@@ -174,32 +175,51 @@ order-is-sound s i small h way =
       consistent = fits-consistent _ f;
     }
 
-meet-case : (P : State → Type 0) (b : Barrier) (m : Moved) (i : Input) → (b ≡ Open → P (order (m .state) i)) → P (m .state) → P (meet b m i .state)
-unfolding meet taken
-meet-case P Open m i f g = f refl
-meet-case P (Stopped why) m i f g = g
+-- a value that is noted keeps all that an order keeps, and the phase
+pub noted-is-sound : (s : State) (i : Input) → sound s ≡ true → barrier s i ≡ Notes → sound (noted s i) ≡ true
+noted-is-sound s i h way =
+    let view = sound-view s h in
+    let k = noted-leaves s i in
+    let f = noted-fits s (times-bounded (s .params) (view .params)) (fits s view) i way in
+    sound-whole (noted s i)
+    record { params = rw (k .params) (view .params); scenes = rw (k .scenes) (view .scenes); clock = rw (k .clock) (view .clock); soon = f .soon; consistent = fits-consistent _ f }
 
--- what holds after the clock move, and after the order where nothing stops it, holds after the step
+meet-case : (P : State → Type 0) (b : Barrier) (m : Moved) (i : Input) → (b ≡ Open → P (order (m .state) i)) → (b ≡ Notes → P (noted (m .state) i)) → P (m .state) → P (meet b m i .state)
+unfolding meet counted
+meet-case P Open m i f n g = f refl
+meet-case P Notes m i f n g = n refl
+meet-case P (Stopped why) m i f n g = g
+
+-- what holds after the clock move, after the order where nothing stops it, and after the value where it is noted, holds after the step
 pub step-case : (P : State → Type 0) (s : State) (i : Input) (t : ℕ) →
-    (barrier (clockMove s t .state) i ≡ Open → P (order (clockMove s t .state) i)) → P (clockMove s t .state) → P (step s i t .state)
+    (barrier (clockMove s t .state) i ≡ Open → P (order (clockMove s t .state) i)) → (barrier (clockMove s t .state) i ≡ Notes → P (noted (clockMove s t .state) i)) → P (clockMove s t .state) → P (step s i t .state)
 unfolding step act
-step-case P s i t f g = meet-case P _ (clockMove s t) i f g
+step-case P s i t f n g = meet-case P _ (clockMove s t) i f n g
+
+-- of a phase that is what the clock move and the order leave: a value that is noted changes no phase
+pub step-phase-case : (P : Phase → Type 0) (s : State) (i : Input) (t : ℕ) →
+    (barrier (clockMove s t .state) i ≡ Open → P (order (clockMove s t .state) i .phase)) → P (clockMove s t .state .phase) → P (step s i t .state .phase)
+step-phase-case P s i t f g = step-case (λ (u : State). P (u .phase)) s i t f (λ way. subst P (sym (noted-phase (clockMove s t .state) i)) g) g
+
+pub noted-is-the-note : (s : State) (i : Input) (t : ℕ) → barrier (clockMove s t .state) i ≡ Notes → step s i t .state ≡ noted (clockMove s t .state) i
+unfolding step act meet counted
+noted-is-the-note s i t way = rw way
 
 pub taken-is-the-order : (s : State) (i : Input) (t : ℕ) → barrier (clockMove s t .state) i ≡ Open → step s i t .state ≡ order (clockMove s t .state) i
-unfolding step act meet taken
+unfolding step act meet counted
 taken-is-the-order s i t way = rw way
 
 pub step-is-sound : (s : State) (i : Input) (t : ℕ) → sceneNumber i ≤ 63 → sound s ≡ true → s .clock ≤ t → t ≤ 864_000 → sound (step s i t .state) ≡ true
 step-is-sound s i t small h later end =
     let safe = move-is-sound s t h later end in
-    step-case (λ (u : State). sound u ≡ true) s i t (order-is-sound (clockMove s t .state) i small safe) safe
+    step-case (λ (u : State). sound u ≡ true) s i t (order-is-sound (clockMove s t .state) i small safe) (noted-is-sound (clockMove s t .state) i safe) safe
 
 pub step-clock : (s : State) (i : Input) (t : ℕ) → step s i t .state .clock ≡ t
 step-clock s i t =
     let there = move-clock s t in
-    step-case (λ (u : State). u .clock ≡ t) s i t (λ way. order-leaves (clockMove s t .state) i .clock ∙ there) there
+    step-case (λ (u : State). u .clock ≡ t) s i t (λ way. order-leaves (clockMove s t .state) i .clock ∙ there) (λ way. noted-leaves (clockMove s t .state) i .clock ∙ there) there
 
 pub step-params : (s : State) (i : Input) (t : ℕ) → step s i t .state .params ≡ s .params
 step-params s i t =
     let same = move-params s t in
-    step-case (λ (u : State). u .params ≡ s .params) s i t (λ way. order-leaves (clockMove s t .state) i .params ∙ same) same
+    step-case (λ (u : State). u .params ≡ s .params) s i t (λ way. order-leaves (clockMove s t .state) i .params ∙ same) (λ way. noted-leaves (clockMove s t .state) i .params ∙ same) same

@@ -22,18 +22,19 @@ use Rattle.rules.specs.declared.input.Input.the-variants.{SwitchOnOff, T
 use Rattle.rules.specs.declared.state.Link.{Link}
 use Rattle.rules.specs.declared.state.Link.the-variants.{Up, BusDown, PowerDown}
 use Rattle.rules.specs.declared.state.State.{State}
-use Rattle.rules.specs.declared.barrier.Barrier.the-variants.{Open}
+use Rattle.rules.specs.declared.barrier.Barrier.the-variants.{Open, Notes}
 use Rattle.base.specs.Time.{earlier}
 use Rattle.rules.specs.Scenes.{recalled, learnt}
 use Rattle.rules.specs.Phases.{output, deadline, atDeadline}
-use Rattle.rules.specs.Orders.{offAfterDelay, off, timedStop, nightFalls, withPhase, withNight, withScenes, standing, switch, timed, recall, learn, scene, nightMode, forced, lockDevice, bus, power, order}
-use Rattle.rules.specs.Barriers.{row, rows, rowOf, firstBarrier, barrier}
+use Rattle.rules.specs.Orders.{offAfterDelay, off, timedStop, nightFalls, withPhase, withNight, withScenes, standing, held, switch, timed, recall, learn, scene, nightMode, forced, lockDevice, bus, power, order}
+use Rattle.rules.specs.Barriers.{row, rows, rowOf, outranked, firstBarrier, barrier}
 use Rattle.rules.specs.Steps.{fresh, atMoment, tickAt, tick, ticked, clockMove, step, Quiet}
 use Rattle.rules.specs.Lists.{Cue, cue, Played, plays}
 use Rattle.rules.specs.Promises.{Rises, turn, turns, Each, stateAt, Taken, recallsOn}
 use Rattle.rules.specs.Mistakes.{LeavesNoTrace, asksFor, stirs, OffIsHeard, AskingAgainIsIdle}
 use Rattle.base.proofs.Tests.{no, cond-case, either-way}
 use Rattle.rules.proofs.Laws.Steps.{tick-case, three-are-enough}
+use Rattle.rules.proofs.Laws.Barriers.{NotedWhere, noted-where, noted-is-held}
 use Rattle.rules.proofs.Laws.Soundness.{move-clock, move-params, step-case, taken-is-the-order, step-params}
 use Rattle.rules.proofs.Laws.Lists.{plays-append, plays-keep-params}
 use Rattle.rules.proofs.Laws.Moments.{at-case, at-the-end, rises-from, rises-to, at-after}
@@ -204,10 +205,15 @@ module _ (s : State) (m : ℕ) (h : Heard m s) where
   order-heard (Power Failure) calm = no (sym calm)
   order-heard (Power Return) calm = subst (λ (l : Link). Heard m (power s l Return)) (sym (h .linked)) h
 
+-- with neither lock nor force, nothing is noted
+heard-notes-nothing : (s : State) (m : ℕ) → Heard m s → (i : Input) → barrier s i ≡ Notes → ⊥
+unfolding held
+heard-notes-nothing s m h i way = no (rw (h .unlocked, h .unforced) at (noted-is-held s i way .0))
+
 step-heard : (s : State) (i : Input) (t m : ℕ) → Heard m s → stirs (clockMove s t .state) i ≡ false → Heard m (step s i t .state)
 step-heard s i t m h calm =
     let there = move-heard s t m h in
-    step-case (Heard m) s i t (λ way. order-heard (clockMove s t .state) m there i calm) there
+    step-case (Heard m) s i t (λ way. order-heard (clockMove s t .state) m there i calm) (λ way. absurd (heard-notes-nothing (clockMove s t .state) m there i way)) there
 
 -- ---- an Off or scene-off
 
@@ -224,9 +230,17 @@ asking-switches s (NightMode night) value asks = cc
 asking-switches s (Bus event) value asks = cc
 asking-switches s (Power event) value asks = cc
 
+-- and sets no value, so that it is not noted
+pub asking-is-not-noted : (s : State) (i : Input) (value : Bool) → asksFor s i ≡ Output value → barrier s i ≡ Notes → ⊥
+asking-is-not-noted s i value asks way = go i asks (noted-where s i way)
+  where
+    go : (i : Input) → asksFor s i ≡ Output value → NotedWhere s i → ⊥
+    go (SwitchOnOffForced force) asks w = no cc
+    go (NightMode night) asks w = no cc
+
 -- where one is taken no lock and no force stands, and the link is up
-nothing-stands : (link : Link) (lock : Bool) (force : Force) → firstBarrier (row true true true true) link lock force ≡ Open → (lock ≡ false) × (force ≡ Free) × (link ≡ Up)
-unfolding firstBarrier
+nothing-stands : (link : Link) (lock : Bool) (force : Force) → firstBarrier (row true true true true false) link lock force ≡ Open → (lock ≡ false) × (force ≡ Free) × (link ≡ Up)
+unfolding firstBarrier outranked
 nothing-stands Up false Free way = (refl, refl, refl)
 nothing-stands Up false Off way = (cc, cc, cc)
 nothing-stands Up false On way = (cc, cc, cc)
@@ -262,7 +276,7 @@ asking-again-leaves-no-trace s i m u h later off =
     let met : State = clockMove s u .state in
     let quiet : Quiet u (deadline (met .phase)) = unfold clockMove ticked in three-are-enough s u in
     let same = repeated-off-changes-nothing (met .params) m (met .clock) (met .phase) (rw (move-params s u, move-clock s u) later) (move-heard s u m h .fades) (rw (move-clock s u) quiet) in
-    unchanged-leaves-no-trace s i u (λ _. asking-switches met i false off ∙ ap (withPhase met) same)
+    unchanged-leaves-no-trace s i u (λ _. asking-switches met i false off ∙ ap (withPhase met) same) (λ way. absurd (asking-is-not-noted met i false off way))
 
 -- ---- the inputs that follow
 

@@ -7,12 +7,13 @@ use Rattle.rules.specs.declared.parameters.Params.{Params}
 use Rattle.rules.specs.declared.parameters.Scene.{Scene}
 use Rattle.rules.specs.declared.input.Input.{Input}
 use Rattle.rules.specs.declared.state.State.{State}
+use Rattle.rules.specs.declared.barrier.Why.{Why}
 use Rattle.rules.specs.declared.barrier.Barrier.{Barrier}
-use Rattle.rules.specs.declared.barrier.Barrier.the-variants.{Open, Stopped}
-use Rattle.rules.specs.Orders.{order}
+use Rattle.rules.specs.declared.barrier.Barrier.the-variants.{Open, Notes, Stopped}
+use Rattle.rules.specs.Orders.{order, noted}
 use Rattle.rules.specs.Barriers.{barrier}
 use Rattle.rules.specs.Status.{written}
-use Rattle.rules.specs.Steps.{fresh, Moved, taken, meet, clockMove, act, step}
+use Rattle.rules.specs.Steps.{fresh, Moved, counted, meet, clockMove, act, step}
 use Rattle.rules.proofs.Laws.Timers.{moves-compose, alike-writes-nothing}
 use Rattle.rules.specs.Lists.{Cue, cue, Played, andThen, moved, stepped, plays, playsTo, playList, still}
 use Rattle.rules.specs.Promises.{Rises, upTo, stateAt, NotBefore}
@@ -23,20 +24,22 @@ use Rattle.rules.proofs.Laws.Lists.{andThen-assoc, andThen-from, plays-
 nothing-written : (cause : ℕ) (s : State) → written cause s s ≡ []
 nothing-written cause s = alike-writes-nothing cause s s refl refl
 
--- so does every input that, if it is taken at all, changes nothing
-no-trace : (b : Barrier) (m : Moved) (i : Input) → (b ≡ Open → order (m .state) i ≡ m .state) → (meet b m i .state ≡ m .state) × (meet b m i .records ≡ m .records)
-unfolding meet taken
-no-trace Open m i same = rw (same refl) (refl, simp (nothing-written, append-nil))
-no-trace (Stopped why) m i same = (refl, refl)
+-- so does every input that, if it is taken or noted at all, changes nothing
+no-trace : (b : Barrier) (m : Moved) (i : Input) → (b ≡ Open → order (m .state) i ≡ m .state) → (b ≡ Notes → noted (m .state) i ≡ m .state) →
+    (meet b m i .state ≡ m .state) × (meet b m i .records ≡ m .records)
+unfolding meet counted
+no-trace Open m i same equal = rw (same refl) (refl, simp (nothing-written, append-nil))
+no-trace Notes m i same equal = rw (equal refl) (refl, simp (nothing-written, append-nil))
+no-trace (Stopped why) m i same equal = (refl, refl)
 
-pub unchanged-leaves-no-trace : (s : State) (i : Input) (t : ℕ) →
-    (barrier (clockMove s t .state) i ≡ Open → order (clockMove s t .state) i ≡ clockMove s t .state) → LeavesNoTrace s i t
+pub unchanged-leaves-no-trace : (s : State) (i : Input) (t : ℕ) → let m : State = clockMove s t .state in
+    (barrier m i ≡ Open → order m i ≡ m) → (barrier m i ≡ Notes → noted m i ≡ m) → LeavesNoTrace s i t
 unfolding step act
-unchanged-leaves-no-trace s i t same = no-trace _ (clockMove s t) i same
+unchanged-leaves-no-trace s i t same equal = no-trace _ (clockMove s t) i same equal
 
--- a stopped input is not taken
-pub dropped-leaves-no-trace : (s : State) (i : Input) (t : ℕ) → (barrier (clockMove s t .state) i ≡ Open → ⊥) → LeavesNoTrace s i t
-dropped-leaves-no-trace s i t stops = unchanged-leaves-no-trace s i t (λ e. absurd (stops e))
+-- a stopped input is neither taken nor noted
+pub dropped-leaves-no-trace : (s : State) (i : Input) (t : ℕ) (why : Why) → barrier (clockMove s t .state) i ≡ Stopped why → LeavesNoTrace s i t
+dropped-leaves-no-trace s i t why stops = unchanged-leaves-no-trace s i t (λ e. cc) (λ e. cc)
 
 -- ---- struck from the list altogether
 
@@ -110,4 +113,4 @@ no-trace-may-be-struck p scenes before t i later end r trace =
 -- a dropped cue leaves no trace
 pub an-outranked-cue-may-be-struck : (p : Params) (scenes : List Scene) (list : List Cue) (end : ℕ) → Rises 0 list end → OutrankedIsDropped p scenes list end
 an-outranked-cue-may-be-struck p scenes list end r before t i later e stops =
-    no-trace-may-be-struck p scenes before t i later end (rw e r) (dropped-leaves-no-trace _ i t stops)
+    no-trace-may-be-struck p scenes before t i later end (rw e r) (dropped-leaves-no-trace _ i t (stops .0) (stops .1))

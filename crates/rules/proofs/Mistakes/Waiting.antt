@@ -24,21 +24,21 @@ use Rattle.rules.specs.declared.state.Link.{Link}
 use Rattle.rules.specs.declared.state.Link.the-variants.{Up, BusDown, PowerDown}
 use Rattle.rules.specs.declared.state.State.{State}
 use Rattle.rules.specs.declared.barrier.Barrier.{Barrier}
-use Rattle.rules.specs.declared.barrier.Barrier.the-variants.{Open, Stopped}
+use Rattle.rules.specs.declared.barrier.Barrier.the-variants.{Open, Notes, Stopped}
 use Rattle.rules.specs.Scenes.{recalled, learnt}
 use Rattle.rules.specs.Phases.{output, deadline, litAt, setOn}
-use Rattle.rules.specs.Orders.{on, timedStart, offAfterDelay, off, timedStop, nightFalls, withPhase, withNight, withForce, withLink, withLock, withScenes, standing, held, settle, plain, byMode, switch, timed, recall, learn, scene, nightMode, forced, locked, unlockingOutput, unlocked, lockDevice, busMode, bus, powerFails, powerReturns, power, order}
+use Rattle.rules.specs.Orders.{on, timedStart, offAfterDelay, off, timedStop, nightFalls, withPhase, withNight, withForce, withLink, withLock, withScenes, standing, held, settle, plain, byMode, switch, timed, recall, learn, scene, nightMode, forced, locked, unlockingOutput, unlocked, lockDevice, busMode, bus, powerFails, powerReturns, power, order, noted}
 use Rattle.rules.specs.Barriers.{barrier}
 use Rattle.rules.specs.Steps.{fresh, atMoment, Moved, clockMove, step, Quiet}
 use Rattle.rules.specs.Lists.{Cue, cue, plays}
 use Rattle.rules.specs.Promises.{Rises, Turn, turn, turns, Each, stateAt, Taken, recallsOn, lights, NotBefore, ShowsLight}
 use Rattle.rules.specs.Mistakes.{LeavesNoTrace, asksFor, OnIsIdleWhileItWaits, OnIsNeverLater}
 use Rattle.base.proofs.Tests.{no, cond-case, either-way, by-order}
-use Rattle.rules.proofs.Laws.Soundness.{taken-is-the-order, step-clock, step-params}
+use Rattle.rules.proofs.Laws.Soundness.{taken-is-the-order, noted-is-the-note, step-clock, step-params}
 use Rattle.rules.proofs.Laws.Timers.{no-timer-due-no-move}
 use Rattle.rules.proofs.Laws.Moments.{at-case, at-the-end, next-is-later, rises-from, at-past}
 use Rattle.rules.proofs.Promises.Light.{lit-now, Waits, comes-on, Shines, taken-shines, shows-here, shows-later, reached}
-use Rattle.rules.proofs.Mistakes.Delays.{asking-switches}
+use Rattle.rules.proofs.Mistakes.Delays.{asking-switches, asking-is-not-noted}
 use Rattle.rules.proofs.Mistakes.Rank.{unchanged-leaves-no-trace, dropped-leaves-no-trace, at-by-way-of, no-trace-may-be-struck}
 
 -- ---- an On or scene-on that meets a steady wait
@@ -52,7 +52,7 @@ repeated-on-leaves-no-trace : (s : State) (i : Input) (u d : ℕ) → clockMove 
 unfolding switch
 repeated-on-leaves-no-trace s i u d e lit =
     let met : State = clockMove s u .state in
-    unchanged-leaves-no-trace s i u (λ _. asking-switches met i true lit ∙ ap (withPhase met) (waiting-is-kept _ _ _ _ d _ e))
+    unchanged-leaves-no-trace s i u (λ _. asking-switches met i true lit ∙ ap (withPhase met) (waiting-is-kept _ _ _ _ d _ e)) (λ way. absurd (asking-is-not-noted met i true lit way))
 
 pub an-on-is-idle-while-it-waits : (p : Params) (scenes : List Scene) (list : List Cue) (end : ℕ) → Rises 0 list end → OnIsIdleWhileItWaits p scenes list end
 an-on-is-idle-while-it-waits p scenes list end r before t i later d e waits lit =
@@ -310,6 +310,18 @@ module _ (unstopped : Bool) (d : ℕ) (s : State) (is-timed : Bool) (phase : Pha
   order-follows early within (Bus event) unless = bus-follows (s .link) event
   order-follows early within (Power event) unless = power-follows (s .link) event
 
+  -- a value that is noted is noted in both
+  noted-follows : (i : Input) → Follows unstopped d (noted s i) (noted (withPhase s phase) i)
+  unfolding noted
+  noted-follows (SwitchOnOff value) = stays
+  noted-follows (TimedStartStop value) = stays
+  noted-follows (NumberedSceneControl learns number) = stays
+  noted-follows (SwitchOnOffForced force) = inl (record { timed = is-timed; phase = phase; waits = waits; behind = behind; same = refl })
+  noted-follows (LockDevice value) = stays
+  noted-follows (NightMode value) = inl (record { timed = is-timed; phase = phase; waits = waits; behind = behind; same = refl })
+  noted-follows (Bus event) = stays
+  noted-follows (Power event) = stays
+
 -- up to d the clock moves alike, and the same barriers stand
 module _ (unstopped : Bool) (d : ℕ) (s : State) (is-timed : Bool) (phase : Phase) (waits : s .phase ≡ Starting is-timed d) (behind : Behind unstopped d is-timed phase) (t : ℕ) (early : t < d) where
   moves-with : clockMove s t .state ≡ atMoment s t (s .phase)
@@ -330,8 +342,11 @@ module _ (unstopped : Bool) (d : ℕ) (s : State) (is-timed : Bool) (phase : Pha
       by Open way =
           rw (taken-is-the-order s i t way, taken-is-the-order (withPhase s phase) i t (barred-alike i ∙ way), moves-with, moves-without)
           (order-follows unstopped d (atMoment s t (s .phase)) is-timed phase waits behind early within i (unless way))
+      by Notes way =
+          rw (noted-is-the-note s i t way, noted-is-the-note (withPhase s phase) i t (barred-alike i ∙ way), moves-with, moves-without)
+          (noted-follows unstopped d (atMoment s t (s .phase)) is-timed phase waits behind i)
       by (Stopped why) stop =
-          rw (dropped-leaves-no-trace s i t (λ way. no cc) .0, dropped-leaves-no-trace (withPhase s phase) i t (λ way. let clash : Stopped why ≡ Open = sym stop ∙ sym (barred-alike i) ∙ way in no cc) .0, moves-with, moves-without)
+          rw (dropped-leaves-no-trace s i t why stop .0, dropped-leaves-no-trace (withPhase s phase) i t why (barred-alike i ∙ stop) .0, moves-with, moves-without)
           (inl (record { timed = is-timed; phase = phase; waits = waits; behind = behind; same = refl }))
 
 -- ---- the inputs that follow

@@ -25,7 +25,7 @@ use Rattle.rules.specs.Promises.{Rises, Turn, turn, turns, Each, stateAt
 use Rattle.base.proofs.Tests.{no, cond-zero, either-way, by-order}
 use Rattle.rules.proofs.Promises.Lasting.{OverBy}
 use Rattle.rules.proofs.Laws.Steps.{three-are-enough}
-use Rattle.rules.proofs.Laws.Soundness.{move-clock, move-params, step-case, taken-is-the-order, step-clock, step-params}
+use Rattle.rules.proofs.Laws.Soundness.{move-clock, move-params, step-phase-case, taken-is-the-order, step-clock, step-params}
 use Rattle.rules.proofs.Laws.Timers.{the-first-timer-first, no-timer-due-no-move}
 use Rattle.rules.proofs.Promises.Prolonging.{Over, move-over, step-over}
 use Rattle.rules.proofs.Laws.Lists.{plays-keep-params}
@@ -113,7 +113,7 @@ not-yet-due t d (Starting timed e) early h = omega arith
 step-waits : (s : State) (i : Input) (t d : ℕ) → t < d → Waits d (s .phase) → (Taken (turn s t i) → dims (clockMove s t .state) i ≡ false) → Waits d (step s i t .state .phase)
 step-waits s i t d early waits undimmed =
     let there : Waits d (clockMove s t .state .phase) = rw (no-timer-due-no-move s t (not-yet-due t d (s .phase) early waits)) waits in
-    step-case (λ (u : State). Waits d (u .phase)) s i t (λ way. order-waits (clockMove s t .state) d there i (undimmed way)) there
+    step-phase-case (Waits d) s i t (λ way. order-waits (clockMove s t .state) d there i (undimmed way)) there
 
 -- it ends in light
 
@@ -352,7 +352,7 @@ module _ (s : State) (lit : output (s .phase) ≡ true) where
 step-stays-lit : (s : State) (i : Input) (t : ℕ) → 1 ≤ s .params .timedon → output (clockMove s t .state .phase) ≡ true → (Taken (turn s t i) → dims (clockMove s t .state) i ≡ false) →
     LitAt t (step s i t .state .phase)
 step-stays-lit s i t some lit undimmed =
-    (step-case (λ (u : State). output (u .phase) ≡ true) s i t (λ way. order-stays-lit (clockMove s t .state) lit i (undimmed way)) lit, nothing-due-after-a-step s i t some)
+    (step-phase-case (λ (x : Phase). output x ≡ true) s i t (λ way. order-stays-lit (clockMove s t .state) lit i (undimmed way)) lit, nothing-due-after-a-step s i t some)
 
 -- an order that lights does not dim
 recalls-one-way : (found : Recalled) → recallsOn found ≡ true → recallsOff found ≡ false

@@ -14,16 +14,17 @@ use Rattle.rules.specs.declared.input.Input.the-variants.{SwitchOnOff, T
 use Rattle.rules.specs.declared.state.Link.{Link}
 use Rattle.rules.specs.declared.state.Link.the-variants.{Up, BusDown, PowerDown}
 use Rattle.rules.specs.declared.state.State.{State}
-use Rattle.rules.specs.declared.barrier.Barrier.the-variants.{Open}
+use Rattle.rules.specs.declared.barrier.Barrier.the-variants.{Open, Notes}
 use Rattle.rules.specs.Scenes.{recalled}
 use Rattle.rules.specs.Phases.{output}
-use Rattle.rules.specs.Orders.{withPhase, withForce, withLink, withLock, standing, held, settle, plain, byMode, switch, timed, recall, learn, scene, nightMode, forced, locked, unlocked, lockDevice, busMode, bus, powerFails, powerReturns, power, order}
+use Rattle.rules.specs.Orders.{withPhase, withForce, withLink, withLock, standing, held, settle, plain, byMode, switch, timed, recall, learn, scene, nightMode, forced, locked, unlocked, lockDevice, busMode, bus, powerFails, powerReturns, power, order, noted}
 use Rattle.rules.specs.Barriers.{powerDown, barrier}
 use Rattle.rules.specs.Steps.{tick, ticked, clockMove, step}
 use Rattle.rules.specs.Promises.{recallsOn, lights, modeOn, busOn, longestLight}
 use Rattle.base.proofs.Tests.{cond-case, either-way}
 use Rattle.rules.proofs.Promises.Lasting.{OverBy, timer-over, off-over, timed-stop-over, night-ends-over, set-on-over, on-over, timed-start-over, night-falls-over}
 use Rattle.rules.proofs.Laws.Steps.{tick-case}
+use Rattle.rules.proofs.Laws.Barriers.{NotedWhere, noted-where}
 use Rattle.rules.proofs.Laws.Soundness.{move-clock, move-params, step-case}
 
 -- night rules where it is on and neither lock nor force stands
@@ -140,10 +141,19 @@ module _ (s : State) (m : ℕ) (over : Over m s) where
   order-over (Bus event) room = bus-over (s .link) event (λ on. room (busIsOn on))
   order-over (Power event) room = power-over (s .link) event (λ down. room (fromPowerDown down))
 
+  -- a value that is noted is held both before and after, and leaves the phase
+  noted-over : (i : Input) → barrier s i ≡ Notes → Over m (noted s i)
+  unfolding noted held
+  noted-over i way = go i (noted-where s i way)
+    where
+      go : (i : Input) → NotedWhere s i → Over m (noted s i)
+      go (SwitchOnOffForced force) w = rw (w .locked) (rw (w .locked) at over)
+      go (NightMode value) w = rw (w .held, and-false value) (rw (w .held, and-false (s .night)) at over)
+
 -- ---- a step
 
 pub step-over : (s : State) (i : Input) (t m : ℕ) → Over m s →
     (barrier (clockMove s t .state) i ≡ Open → Prolongs (clockMove s t .state) i → t + longestLight (s .params) ≤ m) → Over m (step s i t .state)
 step-over s i t m over room =
     let there = move-over s t m over in
-    step-case (Over m) s i t (λ way. order-over (clockMove s t .state) m there i (λ prolongs. rw (move-clock s t, move-params s t) (room way prolongs))) there
+    step-case (Over m) s i t (λ way. order-over (clockMove s t .state) m there i (λ prolongs. rw (move-clock s t, move-params s t) (room way prolongs))) (noted-over (clockMove s t .state) m there i) there

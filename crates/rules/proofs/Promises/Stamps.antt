@@ -23,19 +23,19 @@ use Rattle.rules.specs.declared.state.Link.{Link}
 use Rattle.rules.specs.declared.state.Link.the-variants.{Up, BusDown, PowerDown}
 use Rattle.rules.specs.declared.state.State.{State}
 use Rattle.rules.specs.declared.barrier.Barrier.{Barrier}
-use Rattle.rules.specs.declared.barrier.Barrier.the-variants.{Open, Stopped}
+use Rattle.rules.specs.declared.barrier.Barrier.the-variants.{Open, Notes, Stopped}
 use Rattle.rules.specs.declared.record.Record.{Record}
 use Rattle.rules.specs.Inputs.{kind}
 use Rattle.rules.specs.Scenes.{recalled}
 use Rattle.rules.specs.Phases.{output, deadline, litAt, atDeadline, setOn}
 use Rattle.rules.specs.Orders.{on, timedStart, offAfterDelay, off, timedStop, nightFalls, plain, withForce, withLink, withLock, standing, held, settle, byMode, switch, timed, recall, learn, scene, nightMode, forced, locked, unlocked, lockDevice, busMode, bus, powerFails, powerReturns, power, order}
 use Rattle.rules.specs.Status.{recordOf, byItself, sameStatus, written}
-use Rattle.rules.specs.Steps.{Moved, ticked, clockMove, taken, meet, act, step, Quiet, fired, Moves, rest, fire}
+use Rattle.rules.specs.Steps.{Moved, ticked, clockMove, counted, meet, act, step, Quiet, fired, Moves, rest, fire}
 use Rattle.rules.specs.Lists.{Cue, cue, plays, playsTo}
 use Rattle.rules.specs.Promises.{Rises}
 use Rattle.base.proofs.Tests.{cond-zero, either-way}
 use Rattle.rules.proofs.Laws.Steps.{three-are-enough}
-use Rattle.rules.proofs.Laws.Soundness.{move-clock, move-params, step-case, step-clock}
+use Rattle.rules.proofs.Laws.Soundness.{move-clock, move-params, step-phase-case, step-clock}
 use Rattle.rules.proofs.Laws.Timers.{alike-writes-nothing, clock-moves}
 use Rattle.rules.proofs.Laws.Lists.{plays-to-next}
 
@@ -228,7 +228,7 @@ step-ahead : (s : State) (i : Input) (t f : ℕ) → f ≤ t + 1 → f ≤ t + s
 step-ahead s i t f near by-timed-on =
     let met : State = clockMove s t .state in
     let early = due-from-earlier f (t + 1) (deadline (met .phase)) near (moved-on-time s t) in
-    step-case (OnTime f) s i t (λ way. order-on-time f met (rw (move-clock s t) near) (rw (move-clock s t, move-params s t) by-timed-on) early i) early
+    step-phase-case (Ahead f) s i t (λ way. order-on-time f met (rw (move-clock s t) near) (rw (move-clock s t, move-params s t) by-timed-on) early i) early
 
 -- so nothing is due before its stamp
 step-on-time : (s : State) (i : Input) (t : ℕ) → DueFrom t (deadline (step s i t .state .phase))
@@ -272,8 +272,9 @@ none-of-its-own m i = simp (alike-writes-nothing (kind i) (m .state) (m .state) 
 
 -- the records of a step: those of its clock move, then its own
 meet-records : (b : Barrier) (m : Moved) (i : Input) → meet b m i .records ≡ m .records ++ written (kind i) (m .state) (meet b m i .state)
-unfolding meet taken
+unfolding meet counted
 meet-records Open m i = refl
+meet-records Notes m i = refl
 meet-records (Stopped why) m i = none-of-its-own m i
 
 pub step-records : (s : State) (i : Input) (t : ℕ) → step s i t .records ≡ clockMove s t .records ++ written (kind i) (clockMove s t .state) (step s i t .state)
