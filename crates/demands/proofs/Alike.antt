@@ -22,15 +22,15 @@ use Rattle.rules.specs.declared.state.Link.{Link}
 use Rattle.rules.specs.declared.state.Link.the-variants.{Up, BusDown, PowerDown}
 use Rattle.rules.specs.declared.state.State.{State}
 use Rattle.rules.specs.declared.barrier.Barrier.{Barrier}
-use Rattle.rules.specs.declared.barrier.Barrier.the-variants.{Open, Stopped}
+use Rattle.rules.specs.declared.barrier.Barrier.the-variants.{Open, Notes, Stopped}
 use Rattle.rules.specs.Phases.{output, deadline, litAt, atDeadline, setOn}
 use Rattle.rules.specs.Scenes.{recalled}
-use Rattle.rules.specs.Orders.{on, timedStart, offAfterDelay, off, timedStop, nightFalls, withPhase, withForce, held, standing, settle, switch, timed, recall, learn, scene, nightMode, forced, locked, unlockingOutput, unlocked, lockDevice, busMode, bus, powerFails, powerReturns, power, order}
+use Rattle.rules.specs.Orders.{on, timedStart, offAfterDelay, off, timedStop, nightFalls, withPhase, withForce, held, standing, settle, switch, timed, recall, learn, scene, nightMode, forced, locked, unlockingOutput, unlocked, lockDevice, busMode, bus, powerFails, powerReturns, power, order, noted}
 use Rattle.rules.specs.Barriers.{barrier}
 use Rattle.rules.specs.Inputs.{kind}
 use Rattle.rules.specs.Status.{value, attributes, recordOf, byItself, sameStatus, written}
 use Rattle.rules.specs.Answers.{sameFlags, sameButClock}
-use Rattle.rules.specs.Steps.{Moved, Stepped, fresh, tickAt, tick, ticked, clockMove, taken, meet, act, step}
+use Rattle.rules.specs.Steps.{Moved, Stepped, fresh, tickAt, tick, ticked, clockMove, counted, meet, act, step}
 use Rattle.rules.specs.Lists.{Cue, playList, still}
 use Rattle.sensor.specs.declared.signal.Signal.{Signal}
 use Rattle.sensor.specs.declared.signal.Signal.the-variants as signal
@@ -196,6 +196,17 @@ module _ (v : ℕ) where
   alike-order s (Bus event) = alike-bus s (s .link) event
   alike-order s (Power event) = alike-power s (s .link) event
 
+  alike-noted : (s : State) (i : Input) → noted (like s) i ≡ like (noted s i)
+  unfolding noted
+  alike-noted s (SwitchOnOff value) = refl
+  alike-noted s (TimedStartStop value) = refl
+  alike-noted s (NumberedSceneControl learns number) = refl
+  alike-noted s (SwitchOnOffForced force) = refl
+  alike-noted s (LockDevice value) = refl
+  alike-noted s (NightMode value) = refl
+  alike-noted s (Bus event) = refl
+  alike-noted s (Power event) = refl
+
   -- ---- timers, records, steps
 
   alike-tick : (s : State) (t : ℕ) → tick (like s) t ≡ like (tick s t)
@@ -222,12 +233,16 @@ module _ (v : ℕ) where
   abbrev StepsAlike : Stepped → Stepped → Type 0
   StepsAlike old new = (new .state ≡ like (old .state)) × (new .answer ≡ old .answer) × (new .records ≡ old .records)
 
+  alike-counted : (b : Barrier) (m n : Moved) (i : Input) (old new : State) → n .state ≡ like (m .state) → n .records ≡ m .records → new ≡ like old → StepsAlike (counted b m i old) (counted b n i new)
+  unfolding counted
+  alike-counted b m n i old new state records after =
+      (after, rw (after, state) (unfold sameButClock sameFlags in refl), rw (after, state, records, alike-written (kind i) (m .state) old))
+
   alike-meet : (b : Barrier) (m n : Moved) (i : Input) → n .state ≡ like (m .state) → n .records ≡ m .records → StepsAlike (meet b m i) (meet b n i)
-  unfolding meet taken
+  unfolding meet
   alike-meet (Stopped why) m n i state records = (state, refl, records)
-  alike-meet Open m n i state records =
-      let after : order (n .state) i ≡ like (order (m .state) i) = ap (λ (x : State). order x i) state ∙ alike-order (m .state) i in
-      (after, rw (after, state) (unfold sameButClock sameFlags in refl), rw (after, state, records, alike-written (kind i) (m .state) (order (m .state) i)))
+  alike-meet Open m n i state records = alike-counted Open m n i _ _ state records (ap (λ (x : State). order x i) state ∙ alike-order (m .state) i)
+  alike-meet Notes m n i state records = alike-counted Notes m n i _ _ state records (ap (λ (x : State). noted x i) state ∙ alike-noted (m .state) i)
 
   alike-step : (s : State) (i : Input) (t : ℕ) → StepsAlike (step s i t) (step (like s) i t)
   unfolding step act

@@ -27,7 +27,7 @@ use Rattle.rules.specs.Said.{scenesAfter}
 use Rattle.rules.specs.Steps.{clockMove, step}
 use Rattle.rules.specs.Readings.{Reading, cues, verdict, readInputs}
 use Rattle.rules.specs.Files.{cueAt, lentFor}
-use Rattle.rules.proofs.Laws.Orders.{order-leaves}
+use Rattle.rules.proofs.Laws.Orders.{order-leaves, noted-leaves}
 use Rattle.rules.proofs.Laws.Soundness.{move-keeps, step-case, step-clock}
 use Rattle.rules.specs.declared.call.Single.{Single}
 use Rattle.rules.specs.Layout.{inputPlace}
@@ -183,7 +183,7 @@ single-scenes s octets = by (single-finds s octets)
     by (SingleFinds.plays x h m t) =
         let u : ℕ = stampAt octets 0 in
         unfold singleDone in
-        step-case (λ (v : State). length (v .scenes) ≡ length (s .scenes)) s x u (λ way. ap (λ (k : List Scene). length k) (order-leaves (clockMove s u .state) x .scenes) ∙ scenes-after-length (clockMove s u .state) x ∙ moved-scenes u) (moved-scenes u)
+        step-case (λ (v : State). length (v .scenes) ≡ length (s .scenes)) s x u (λ way. ap (λ (k : List Scene). length k) (order-leaves (clockMove s u .state) x .scenes) ∙ scenes-after-length (clockMove s u .state) x ∙ moved-scenes u) (λ way. ap (λ (k : List Scene). length k) (noted-leaves (clockMove s u .state) x .scenes) ∙ moved-scenes u) (moved-scenes u)
 
 -- a sound state stays sound, and keeps its parameters, and so its version, and the length of its table
 abbrev pub Kept : State → State → Type 0
