@@ -2,6 +2,7 @@
 pub mod EveryFile
 pub mod Shown
 pub mod ThreeMistakes
+pub mod Noting
 pub mod Used
 pub mod Joined
 pub mod Unique

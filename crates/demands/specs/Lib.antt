@@ -1,4 +1,5 @@
 pub mod Demands
+pub mod Notes
 pub mod Joined
 pub mod Changes
 pub mod Live

@@ -96,6 +96,11 @@ pub record MadeOf (p : Params) (t : ℕ) (k : List Scene) (f : Flags) (u : State
 abbrev pub Leaves : State → Input → State → Type 0
 Leaves s i u = MadeOf (s .params) (s .clock) (scenesAfter s i) (flagsAfter s i) u
 
+-- 02, [4]: "is noted: the flag or force changes, the phase does not": of every other field what its order leaves
+pub record OnlyItsValue (s : State) (i : Input) (u : State) : Type 0 where
+  pub leaves : Leaves s i u
+  pub phase : u .phase ≡ s .phase
+
 -- ---- what the modes set: what stands in a mode's place of its row, from 0 on; no other mode is in range (01, "Time and the cue file": "0 keep, 1 off, 2 on", "3 as before locking", "0 as before the failure, 1 off, 2 on")
 
 -- "set on" or "set off" where neither lock nor force stands

@@ -1,4 +1,4 @@
--- What each mode sets, and what Off, timed orders and nightfall make of a phase, in 01's words.
+-- What each mode sets, and what Off, timed orders and nightfall make of a phase, in 01's words; and what a noted value changes, in those of 02.
 use Prim.Native.Nat.{ℕ, zero, suc, _+_, _≤_}
 use mathlib.Core.Bool.{Bool, true, false, cond, _&&_}
 use mathlib.Core.List.{[], _∷_}
@@ -15,16 +15,21 @@ use Rattle.rules.specs.declared.input.Force.{Force}
 use Rattle.rules.specs.declared.input.Force.the-variants.{Free, Off, On}
 use Rattle.rules.specs.declared.input.Event.{Event}
 use Rattle.rules.specs.declared.input.Event.the-variants.{Failure, Return}
+use Rattle.rules.specs.declared.input.Input.{Input}
+use Rattle.rules.specs.declared.input.Input.the-variants.{SwitchOnOffForced, NightMode}
+use Rattle.rules.specs.declared.barrier.Barrier.the-variants.{Notes}
 use Rattle.rules.specs.declared.state.Link.{Link}
 use Rattle.rules.specs.declared.state.Link.the-variants.{Up, BusDown, PowerDown}
 use Rattle.rules.specs.declared.state.State.{State}
 use Rattle.rules.specs.Phases.{output, litAt, setOn}
-use Rattle.rules.specs.Orders.{timedStart, offAfterDelay, off, timedStop, nightFalls, withLock, withLink, held, settle, plain, byMode, locked, unlockingOutput, unlocked, lockDevice, busMode, bus, powerReturns, power, order}
-use Rattle.rules.specs.Said.{setTo, NothingHolds, ModesSet, runsTimed, EndsAtEarlier, OffOrders, TimedOrders, NightFalls}
+use Rattle.rules.specs.Orders.{timedStart, offAfterDelay, off, timedStop, nightFalls, withLock, withLink, held, settle, plain, byMode, locked, unlockingOutput, unlocked, lockDevice, busMode, bus, powerReturns, power, order, noted}
+use Rattle.rules.specs.Barriers.{barrier}
+use Rattle.rules.specs.Said.{OnlyItsValue, setTo, NothingHolds, ModesSet, runsTimed, EndsAtEarlier, OffOrders, TimedOrders, NightFalls}
 use Rattle.rules.specs.Facts.{ParamsFit}
 use Rattle.base.specs.Time.{earlier}
 use Rattle.base.proofs.Tests.{no, either-way, by-order}
 use Rattle.rules.proofs.Laws.Facts.{held-exactly-when}
+use Rattle.rules.proofs.Laws.Barriers.{NotedWhere, noted-where}
 
 -- ---- modes
 
@@ -162,3 +167,13 @@ night-falls p t =
       timed = λ d. refl;
       warning = λ d. refl;
     }
+
+-- ---- a value that is noted
+
+pub a-noted-value-changes-nothing-else : (s : State) (i : Input) → barrier s i ≡ Notes → OnlyItsValue s i (noted s i)
+unfolding noted
+a-noted-value-changes-nothing-else s i way = go i (noted-where s i way)
+  where
+    go : (i : Input) → NotedWhere s i → OnlyItsValue s i (noted s i)
+    go (SwitchOnOffForced force) w = record { leaves = record { params = refl; clock = refl; scenes = refl; flags = refl }; phase = refl }
+    go (NightMode value) w = record { leaves = record { params = refl; clock = refl; scenes = refl; flags = refl }; phase = refl }

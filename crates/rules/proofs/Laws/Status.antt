@@ -17,7 +17,7 @@ use Rattle.rules.proofs.Laws.Orders.{none-stands-exactly-when}
 use Rattle.rules.proofs.Laws.Numbers.{power-down-exactly-when}
 
 -- a bit, as 0 or 1
-abbrev one : Bool → ℕ
+abbrev pub one : Bool → ℕ
 one b = cond b 1 0
 
 one-few : (b : Bool) → one b ≤ 1
@@ -34,7 +34,7 @@ weighed true weight = omega arith
 weighed false weight = omega arith
 
 -- the five bits of a sum of five weights
-bits-of : (a b c d e : Bool) (n : ℕ) → n ≡ bit a 1 + bit b 2 + bit c 4 + bit d 8 + bit e 16 →
+pub bits-of : (a b c d e : Bool) (n : ℕ) → n ≡ bit a 1 + bit b 2 + bit c 4 + bit d 8 + bit e 16 →
     (n % 2 ≡ one a) × (n / 2 % 2 ≡ one b) × (n / 4 % 2 ≡ one c) × (n / 8 % 2 ≡ one d) × (n / 16 % 2 ≡ one e) × (n < 32)
 bits-of a b c d e n is =
     let sum : n ≡ one a + 2 * one b + 4 * one c + 8 * one d + 16 * one e = omega (arith, weighed b 2, weighed c 4, weighed d 8, weighed e 16) in

@@ -55,7 +55,7 @@ night-rules : (s : State) → NightRules s → (s .night && not (held s)) ≡ tr
 unfolding held
 night-rules s n = rw (n .night, n .unlocked, n .unforced)
 
-night-is-dark : (s : State) (t : ℕ) → NightRules s → Over t s → output (clockMove s t .state .phase) ≡ false
+pub night-is-dark : (s : State) (t : ℕ) → NightRules s → Over t s → output (clockMove s t .state .phase) ≡ false
 unfolding clockMove ticked
 night-is-dark s t n over = let m = clockMove s t .state in over-is-off (m .params) _ t (m .phase) (night-rules m (moved-night s t n)) (move-over s t t over) (three-are-enough s t)
 
