@@ -24,3 +24,4 @@ pub mod Computing
 pub mod WrongWalls
 pub mod WrongPairs
 pub mod Readings
+pub mod NoteReadings

@@ -5,7 +5,6 @@ use mathlib.Core.Bool.{Bool, true, false, cond, not, _&&_, _||_, or-true, or-fal
 use mathlib.Core.Path.{_≡_, refl, sym, ap, subst, _∙_}
 use mathlib.Core.Logic.{_⊎_, inl, inr}
 use mathlib.Core.List.{List, [], _∷_}
-use lib.Dec.{eqb}
 use Rattle.base.proofs.Tests.{no, cond-case}
 use Rattle.rules.specs.declared.parameters.Params.{Params}
 use Rattle.rules.specs.declared.parameters.Scene.{Scene}
@@ -24,16 +23,16 @@ use Rattle.rules.specs.declared.state.Link.the-variants.{Up, BusDown, PowerDown
 use Rattle.rules.specs.declared.state.State.{State}
 use Rattle.rules.specs.Inputs.{kind}
 use Rattle.rules.specs.Phases.{output, deadline, litAt, setOn}
-use Rattle.rules.specs.Orders.{withPhase, withNight, withForce, withLink, withLock, standing, held, settle, plain, byMode, forced, locked, unlocked, lockDevice, busMode, bus, powerFails, powerReturns, power, order, noted}
-use Rattle.rules.specs.Barriers.{rows, rowOf, outranked, firstBarrier, barrier}
+use Rattle.rules.specs.Orders.{withPhase, withLink, standing, held, settle, plain, byMode, forced, locked, unlocked, lockDevice, busMode, bus, powerFails, powerReturns, power, order, noted}
+use Rattle.rules.specs.Barriers.{rows, rowOf, firstBarrier, barrier}
 use Rattle.rules.specs.Soundness.{sound}
 use Rattle.rules.specs.Steps.{Moved, Stepped, fresh, atMoment, clockMove, act, step, Quiet}
 use Rattle.rules.specs.Lists.{Cue, cue, andThen, moved, stepped, plays, playsTo}
-use Rattle.rules.specs.Said.{Flags, flagsOf, flagsAfterPower, flagsAfter}
+use Rattle.rules.specs.Said.{Flags, flagsAfterPower, flagsAfter}
 use Rattle.rules.specs.Promises.{turns, Each, upTo, stateAt}
 use Rattle.rules.proofs.Laws.Facts.{sound-exactly-when, held-exactly-when}
 use Rattle.rules.proofs.Laws.Barriers.{open-is-unstopped, NotedWhere, noted-where, noted-is-held}
-use Rattle.rules.proofs.Laws.Orders.{order-leaves, noted-leaves, noted-phase}
+use Rattle.rules.proofs.Laws.Orders.{order-leaves, noted-phase}
 use Rattle.rules.proofs.Laws.Soundness.{move-keeps, step-case, noted-is-the-note, taken-is-the-order}
 use Rattle.rules.proofs.Laws.Timers.{no-timer-due-no-move}
 use Rattle.rules.proofs.Laws.Lists.{plays-to-next}

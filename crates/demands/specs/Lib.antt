@@ -1,5 +1,6 @@
 pub mod Demands
 pub mod Notes
+pub mod NoteReadings
 pub mod Joined
 pub mod Changes
 pub mod Live

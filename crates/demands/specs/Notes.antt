@@ -21,7 +21,7 @@ use Rattle.rules.specs.Phases.{output}
 use Rattle.rules.specs.Orders.{standing, held}
 use Rattle.rules.specs.Barriers.{barrier}
 use Rattle.rules.specs.Status.{value, attributes}
-use Rattle.rules.specs.Steps.{fresh, step}
+use Rattle.rules.specs.Steps.{fresh}
 use Rattle.rules.specs.Lists.{Cue, cue, plays, playsTo}
 use Rattle.rules.specs.Said.{OnlyItsValue}
 use Rattle.rules.specs.Promises.{Rises, Turn, turn, turns, Each, stateAt, Taken, Noted, turnAfter}

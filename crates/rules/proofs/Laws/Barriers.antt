@@ -1,6 +1,6 @@
 -- The table of barriers says what 01 says in words, and the barrier that an input meets is the first that stands (its answer: Answers.antt).
 use mathlib.Core.Bool.{Bool, true, false, cond, not, _&&_, _||_, or-false}
-use mathlib.Core.Path.{_≡_, refl, sym, subst}
+use mathlib.Core.Path.{_≡_, refl, subst}
 use mathlib.Core.Logic.{_↔_}
 use lib.ListN.{length}
 use lib.Dec.{T, eqb, leb}
