@@ -251,8 +251,9 @@ impl Met {
         let mut claim = |what: &str, holds: bool| claims.claim(&format!("{}: {}", name, what), holds);
         let all = |counts: &[u64]| counts.iter().all(|count| *count > 0);
         let answers = self.answers[row].iter().zip(ANSWERS);
-        let as_possible =
-            |met: &AnswersMet, possible: &[usize]| (0..met.len()).all(|answer| possible.contains(&answer) == (met[answer] > 0));
+        let as_possible = |met: &AnswersMet, possible: &[usize]| {
+            (0..met.len()).all(|answer| possible.contains(&answer) == (met[answer] > 0))
+        };
         claim("every kind is answered in every way that it can be, and no other", {
             answers.into_iter().all(|(met, possible)| as_possible(met, possible))
         });
