@@ -81,7 +81,7 @@ impl Tally {
         let (by_bridge, differing) = comparison.stop();
         codes.say(&CODES);
         println!("answers 0 to 6: {:?}", answers);
-        noted.say();
+        noted.say("");
         let mut claims = Claims::new();
         claims.claim("number, records, answers and file are the model's for every file", differing == 0);
         claims.claim("at least 120,000 files, or as many as were asked for", files >= wanted.min(120_000));

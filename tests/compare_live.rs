@@ -211,7 +211,7 @@ impl Met {
                 continue;
             }
             println!("  answers 0 to 6 by kind: {:?}", self.answers[row]);
-            self.noted[row].say();
+            self.noted[row].say("  ");
             println!("  phases 0 to 6 handed in: {:?}; given: {:?}", self.phases_in[row], self.phases_out[row]);
             println!(
                 "  records of one input: {:?}; of a clock move: {:?}",

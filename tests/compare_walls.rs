@@ -110,7 +110,7 @@ impl Met {
     fn say(&self) {
         println!("edges by action 0 to 3, for button 1 rising, 1 falling, 2 rising, 2 falling: {:?}", self.actions);
         println!("answers 0 to 6 to telegrams: {:?}; to cues: {:?}", self.telegrams, self.cues);
-        self.noted.say();
+        self.noted.say("");
         println!(
             "silent edges {}, Off sent {}, On sent {}, toggled to Off {}, toggled to On {}, toggles turned by a status {}",
             self.silent, self.sent_off, self.sent_on, self.toggled_off, self.toggled_on, self.turned_by_a_status

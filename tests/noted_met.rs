@@ -134,9 +134,10 @@ impl Noted {
         self.start();
     }
 
-    pub fn say(&self) {
+    /// Behind an indent.
+    pub fn say(&self, indent: &str) {
         let counts: Vec<String> = WAYS.iter().map(|(way, name)| format!("{} {}", name, self.met[*way as usize])).collect();
-        println!("noted values: {}", counts.join("; "));
+        println!("{}noted values: {}", indent, counts.join("; "));
     }
 
     /// `of` says of what the counts are.
