@@ -165,8 +165,17 @@ static void check_records(const struct call *c, uint64_t number, const uint8_t *
     }
 }
 
+/* The octets of an input that was played. */
+static const uint8_t *input_of(const struct call *c, size_t i) {
+    return c->list + (takes_a_file(c) ? house_inputs_at(c->list) : 0) + HOUSE_INPUT_SIZE * i;
+}
+
 static void check_answers(const struct call *c, uint64_t number, const uint8_t *answers) {
-    for (size_t i = 0; i < played(c, taken_apart(number)); i++) expect(answers[i] <= 5, c, number, "an answer is above 5");
+    for (size_t i = 0; i < played(c, taken_apart(number)); i++) {
+        uint8_t kind = input_of(c, i)[4];
+        expect(answers[i] <= HOUSE_NOTED, c, number, "an answer is above 6");
+        expect(answers[i] != HOUSE_NOTED || kind == HOUSE_FORCE || kind == HOUSE_NIGHT_MODE, c, number, "neither a force nor a night is noted");
+    }
 }
 
 static void check_number(const struct call *c, uint64_t number) {
