@@ -46,8 +46,8 @@ static uint64_t by(const struct calls *side, const struct call *c, const uint8_t
 
 #define CODES_OF_A_FILE 0x1FFu
 
-/* The answers are 0 to 6, for every call that gives any. */
-enum { ANSWERS = 7 };
+/* How many answers there are, for every call that gives any. */
+enum { ANSWERS = HOUSE_NOTED + 1 };
 
 static const struct {
     const char *name;
@@ -174,9 +174,16 @@ static void check_records(const struct call *c, uint64_t number, const uint8_t *
     }
 }
 
+/* The octets of an input that was played. */
+static const uint8_t *input_of(const struct call *c, size_t i) {
+    return c->list + (takes_a_file(c) ? house_inputs_at(c->list) : 0) + HOUSE_INPUT_SIZE * i;
+}
+
 static void check_answers(const struct call *c, uint64_t number, const uint8_t *answers) {
     for (size_t i = 0; i < played(c, taken_apart(number)); i++) {
+        uint8_t kind = input_of(c, i)[4];
         expect(answers[i] < promised[c->which].answers, c, number, "an answer that there is not");
+        expect(answers[i] != HOUSE_NOTED || kind == HOUSE_FORCE || kind == HOUSE_NIGHT_MODE, c, number, "neither a force nor a night is noted");
         answered[c->which][answers[i]]++;
     }
 }
