@@ -503,7 +503,10 @@ fn lists_that_agree_in_the_newest_values_go_on_alike() {
     let mut apart = [0; 2];
     for _ in 0..40_000 {
         let hold = if rng.chance(50) { Hold::Lock } else { Hold::Force };
-        let Some(mut state) = any_state(&mut rng) else { continue };
+        let mut state = match any_state(&mut rng) {
+            Some(state) => state,
+            None => continue,
+        };
         let (stamp, begins) = (state.clock + rng.below(50) as u32, hold.begins(&mut rng));
         take(&mut state, stamp, begins);
         if !hold.stands(&state) {
@@ -532,13 +535,16 @@ fn lists_that_agree_in_the_newest_values_go_on_alike() {
 // The customer's example: "a night order sent during a force must hold at its release"
 // ================================================================================================
 
-/// The house is held, told that it is night, and let go; nothing follows. It was lit at the end exactly
-/// where it is said, and then it is dark at the end of one timed light, and not before.
+/// The house is held, told that it is night, and let go; nothing follows. It is lit then exactly where
+/// it is said, by the states before and in the hold, and goes dark at the end of one timed light.
 fn held_over_nightfall(seed: u64, hold: Hold, lit_at_the_end: fn(&State, &State) -> bool) {
     let mut rng = Rng::new(seed);
     let mut met = [0; 2];
     for _ in 0..20_000 {
-        let Some(mut state) = any_state(&mut rng) else { continue };
+        let mut state = match any_state(&mut rng) {
+            Some(state) => state,
+            None => continue,
+        };
         let own = state.params.timed_on + state.params.prewarning;
         let begins = state.clock + rng.below(3_000) as u32;
         let nightfall = begins + rng.below(3_000) as u32;
