@@ -2,7 +2,7 @@
 //! wall lists, and a drag that is played live, each in every version.
 //!
 //! bench shows: a line for each show, its name and its lengths.
-//! bench mix SHOW N: what the N inputs of a show do: how many change something, change nothing, are stopped; and the records.
+//! bench mix SHOW N: what the N inputs of a show do: how many change something, change nothing, are noted, are stopped; and the records.
 //! bench count SHOW N SIDE TIMES: plays it so many times, by the `proved` calls or by the `model`, for a tool that counts
 //! instructions: what ten times more cost is ten times one, without the start and the end of the program.
 //! bench time SHOW N: the nanoseconds of one time, both sides, the best of several rounds taken in turn.
@@ -193,7 +193,8 @@ fn mix(show: &str, n: usize) {
     let (records, answers) = (given.records, given.answers);
     let by_timers = records.chunks(8).skip(start).filter(|r| r[6] == 0).count();
     let answered = |wanted: std::ops::RangeInclusive<u8>| answers.iter().filter(|a| wanted.contains(a)).count();
-    println!("{} {} {} {} {by_timers}", answered(0..=0), answered(1..=1), answered(2..=5), records.len() / 8);
+    let [changing, idle, noted, stopped] = [0..=0, 1..=1, 6..=6, 2..=5].map(answered);
+    println!("{changing} {idle} {noted} {stopped} {} {by_timers}", records.len() / 8);
 }
 
 fn time(show: &str, n: usize) {

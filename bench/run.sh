@@ -38,8 +38,8 @@ done
 rustc --edition 2021 -C opt-level=3 -C codegen-units=1 bench/bench.rs -o "$out/bench" "${proved[@]}"
 "$out/bench" shows >"$out/shows"
 
-echo "| show | inputs | change | change nothing | stopped | records | of timers |"
-echo "|---|---|---|---|---|---|---|"
+echo "| show | inputs | change | change nothing | noted | stopped | records | of timers |"
+echo "|---|---|---|---|---|---|---|---|"
 while read -r show lengths; do
     n=${lengths##* }
     echo "| $show | $n | $("$out/bench" mix "$show" "$n" | sed 's/ / | /g') |"

@@ -1,5 +1,6 @@
-/* A house that is played live, as by a cue editor: the operator drags sixty inputs into it, waits, and drags some more, one of
- * which is refused. What the operator sees is said in words. On x86-64, in the repository:
+/* A house that is played live, as by a cue editor: the operator drags sixty inputs into it, waits, and drags some more. One of these
+ * is refused; and a night that comes while a force stands is noted, and holds when the force is released. What the operator sees is
+ * said in words. On x86-64, in the repository:
  *
  * cc -I include examples/live.c target/staticlib/libdesk.a -o target/live_c && target/live_c
  */
@@ -15,7 +16,8 @@ static uint8_t answers[HOUSE_MOST_GROUPS];
 /* by the kind of an input, by its answer, and by the phase of a state */
 static const char *const kinds[] = {"?", "switch", "timed light", "scene", "force", "lock", "night", "bus", "power"};
 static const char *const answered[] = {"is obeyed",          "changes nothing",             "is dropped: forced",
-                                       "is dropped: locked", "is dropped: the bus is down", "is dropped: the power is down"};
+                                       "is dropped: locked", "is dropped: the bus is down", "is dropped: the power is down",
+                                       "is noted"};
 static const char *const phases[] = {"dark", "lit", "starting", "starting, timed", "lit for a while", "warning", "going dark"};
 
 /* A stamp in seconds; inputs and records both begin with it. */
@@ -85,17 +87,19 @@ int main(void) {
     /* seconds: OnDelay 1, OffDelay 2, TimedOn 10, Prewarning 3; all modes 0, no scenes */
     static const uint8_t parameters[HOUSE_PARAMETERS_SIZE_1] = {0, 1, 0, 2, 0, 10, 0, 3, [16] = 255, 0, 255, 0, 255, 0, 255,
                                                                 0, 255, 0, 255, 0, 255, 0, 255};
-    uint8_t drag[60 * HOUSE_INPUT_SIZE], more[4 * HOUSE_INPUT_SIZE];
+    uint8_t drag[60 * HOUSE_INPUT_SIZE], more[6 * HOUSE_INPUT_SIZE];
     write_drag(drag);
     house_put_input(more, 820, HOUSE_SWITCH, 1);
     house_put_input(more + 8, 830, HOUSE_SWITCH, 2); /* a value that no switch has */
     house_put_input(more + 16, 840, HOUSE_FORCE, HOUSE_FORCE_ON);
     house_put_input(more + 24, 850, HOUSE_TIMED_LIGHT, 1);
+    house_put_input(more + 32, 860, HOUSE_NIGHT_MODE, 1);           /* under the force: the light stays as it is */
+    house_put_input(more + 40, 870, HOUSE_FORCE, HOUSE_NO_CONTROL); /* and from here on it is lit for a while, by night */
     accepted(house_fresh(parameters, sizeof parameters, state, sizeof state));
     play(drag, 60);
     say_state();
     say_records(accepted(house_move(state, sizeof state, 800, records, sizeof records)));
     say_state();
-    play(more, 4);
+    play(more, 6);
     say_state();
 }

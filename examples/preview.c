@@ -30,7 +30,8 @@ int main(void) {
     }
     for (unsigned i = 0; i < house_count(number); i++) say_record(records + HOUSE_RECORD_SIZE * i);
     for (unsigned i = 0; i < house_inputs(file); i++) {
-        if (answers[i] >= HOUSE_STOPPED_BY_FORCE) printf("input %u was dropped (answer %u)\n", i, answers[i]);
+        if (house_dropped(answers[i])) printf("input %u was dropped (answer %u)\n", i, answers[i]);
+        if (answers[i] == HOUSE_NOTED) printf("input %u was noted\n", i);
     }
     return 0;
 }

@@ -10,7 +10,7 @@ static uint8_t wall[HOUSE_LONGEST_WALL + 1];
 static uint8_t records[HOUSE_RECORDS_ROOM(HOUSE_MOST_INPUTS)];
 static uint8_t answers[HOUSE_MOST_INPUTS];
 
-/* by the cause of a record, and by the answer to an edge */
+/* by the cause of a record, and by the answer to an edge, which is never noted: it sends a switch */
 static const char *const causes[] = {"by itself",   "by an On or Off", "by a timed start or stop", "by a scene",
                                      "by a force",  "by the lock",     "by the night",             "by the bus",
                                      "by the power"};

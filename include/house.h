@@ -43,7 +43,7 @@ extern "C" {
  *
  * The major number changes where something that a caller relies on does: a name, a size, an answer. The minor number changes where
  * something is added. The versions of a cue file that are read are numbers of their own. */
-#define HOUSE_VERSION_MAJOR 1
+#define HOUSE_VERSION_MAJOR 2
 #define HOUSE_VERSION_MINOR 0
 #define HOUSE_OLDEST_FILE 1
 #define HOUSE_NEWEST_FILE 2
@@ -312,15 +312,26 @@ enum house_attribute {
     HOUSE_STAIRCASE = 16 /* timed light runs, its prewarning included */
 };
 
-/* An answer to an input. A stopped input is dropped for good. */
+/* An answer to an input.
+ *
+ * A stopped input is dropped for good, and leaves nothing behind but the clock. Night and force are values, of which the last one is kept
+ * even where lock or force stops other inputs: a night or a day under lock or force, and a force or its release under the lock, is noted.
+ * The value changes, and a record shows it where an attribute does; the light stays as it is. The release or the unlocking then acts on
+ * the values that stand. A bus or a power that is down drops them too, and a power failure clears what was noted. */
 enum house_answer {
-    HOUSE_CHANGED = 0,         /* it changed something */
-    HOUSE_UNCHANGED = 1,       /* it was taken, and changed nothing but the clock; or an edge that sends nothing */
+    HOUSE_CHANGED = 0,          /* it changed something */
+    HOUSE_UNCHANGED = 1,        /* it changed nothing but the clock, taken or noted; or an edge that sends nothing */
     HOUSE_STOPPED_BY_FORCE = 2,
     HOUSE_STOPPED_BY_LOCK = 3,
-    HOUSE_STOPPED_BY_BUS = 4,  /* the bus is down */
-    HOUSE_STOPPED_BY_POWER = 5 /* power is down */
+    HOUSE_STOPPED_BY_BUS = 4,   /* the bus is down */
+    HOUSE_STOPPED_BY_POWER = 5, /* power is down */
+    HOUSE_NOTED = 6             /* a night or a force was noted, and is another than the one before */
 };
+
+/* Whether an answer says that its input was stopped. Not every answer above 1 does. */
+static inline int house_dropped(unsigned answer) {
+    return answer >= HOUSE_STOPPED_BY_FORCE && answer <= HOUSE_STOPPED_BY_POWER;
+}
 
 /* ---- Runs: a whole list at once */
 

@@ -147,12 +147,12 @@ write('lock_and_force', cue_file(
     [
         (0, FORCED, FORCE_ON),      # 0
         (10, SWITCH, OFF),          # 1: stopped by the force
-        (20, NIGHT, ON),            # 2: stopped by the force
+        (20, NIGHT, ON),            # 2: noted under the force
         (30, LOCK, LOCK_IT),        # 3: no force stops a lock
-        (40, FORCED, FORCE_OFF),    # 4: stopped by the lock
+        (40, FORCED, FORCE_OFF),    # 4: noted under the lock; a force stands as before, so there is no record
         (50, SCENE, 1),             # 5: by both: the lock answers
-        (60, FORCED, RELEASE),      # 6: stopped by the lock, so the force still stands
-        (70, LOCK, UNLOCK_IT),      # 7: the force decides: on
+        (60, FORCED, RELEASE),      # 6: noted: no force stands any more
+        (70, LOCK, UNLOCK_IT),      # 7: on as before locking, and timed, for it is night: it would end at 770
         (80, FORCED, FORCE_OFF),    # 8
         (90, LOCK, LOCK_IT),        # 9: on by the mode
         (100, LOCK, LOCK_IT),       # 10: locked already
@@ -163,13 +163,48 @@ write('lock_and_force', cue_file(
         (150, TIMED, START),        # 15
         (160, LOCK, LOCK_IT),       # 16: the timer is gone
         (170, SWITCH, OFF),         # 17: stopped by the lock
-        (180, LOCK, UNLOCK_IT),     # 18: on as before locking
+        (180, LOCK, UNLOCK_IT),     # 18: on as before locking, and timed anew
         (190, FORCED, FORCE_OFF),   # 19
         (190, FORCED, FORCE_ON),    # 20
-        (200, FORCED, RELEASE),     # 21: stays on
+        (200, FORCED, RELEASE),     # 21: stays on, timed
         (210, SWITCH, OFF),         # 22
     ],
     end=1000))
+
+# ---- night_under_force: a festival's night. Night and force keep their last value while something stronger stands, and it holds when that
+# goes: what the house clock sends is not lost, unless the bus is down
+
+write('night_under_force', cue_file(
+    parameters(timed_on=300, prewarning=30, locking=MODE_OFF, unlocking=MODE_ON),
+    [
+        (0, SWITCH, ON),                # 0: the first show is over
+        (6000, FORCED, FORCE_ON),       # 1: the cleaners hold the house lit
+        (9000, SWITCH, OFF),            # 2: the last usher's Off is stopped
+        (12000, NIGHT, ON),             # 3: the house clock's night, while they sweep: noted
+        (15000, NIGHT, ON),             # 4: it sends that again: nothing is new
+        (24000, FORCED, RELEASE),       # 5: the cleaners go: by night lit for five minutes, and dark at 27300
+        (36000, NIGHT, OFF),            # 6: day again, for the late show
+        (36000, SWITCH, ON),            # 7: its doors
+        (54000, LOCK, LOCK_IT),         # 8: it starts, dark and locked
+        (72000, NIGHT, ON),             # 9: the clock's night once more: noted
+        (90000, LOCK, UNLOCK_IT),       # 10: applause: lit, by night for five minutes, with the house full
+        (90600, NIGHT, OFF),            # 11: so the desk sends day, which lets the time run on
+        (90600, SWITCH, ON),            # 12: and On, which ends that
+        (108000, LOCK, LOCK_IT),        # 13: the film at midnight
+        (126000, FORCED, FORCE_OFF),    # 14: the riggers want it dark when that is over: noted
+        (126010, FORCED, FORCE_OFF),    # 15: pressed twice
+        (144000, LOCK, UNLOCK_IT),      # 16: the end: the force decides: it stays dark, where the mode says on
+        (150000, SWITCH, ON),           # 17: somebody looks for a coat, and is stopped by the force
+        (162000, FORCED, RELEASE),      # 18: the riggers are done
+        (165600, FORCED, FORCE_ON),     # 19: the cleaners again
+        (168000, BUS, FAILURE),         # 20: the force stands: no mode
+        (180000, NIGHT, ON),            # 21: the clock's night: the bus is down, so this one is lost
+        (183000, BUS, RETURN),          # 22
+        (189000, FORCED, RELEASE),      # 23: the cleaners go, and the light stays: nobody told the house of the night
+        (201000, NIGHT, ON),            # 24: the watch sends it: five minutes from here, and dark at 204300
+        (252000, NIGHT, OFF),           # 25: morning
+    ],
+    end=288000))
 
 # ---- power_cut: bus and power fail and return
 

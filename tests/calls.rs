@@ -350,6 +350,9 @@ pub fn of_lengths(list: &[u8], lengths: RangeInclusive<usize>) -> Vec<Vec<u8>> {
 /// One more than the greatest code.
 const CODES: usize = 13;
 
+/// How often each answer was met, from 0 to the greatest: 6, noted and different.
+pub type AnswersMet = [u64; 7];
+
 /// How many lists met each code, by the version that their first two octets name: the played ones, then any other.
 pub struct Codes {
     met: Vec<[u64; CODES]>,

@@ -12,8 +12,12 @@ mod files;
 #[path = "calls.rs"]
 mod calls;
 
-use calls::{damaged, lent, number_named, of_lengths, Call, Case, Claims, Codes, Comparison, Outcome};
+#[path = "noted_met.rs"]
+mod noted_met;
+
+use calls::{damaged, lent, number_named, of_lengths, AnswersMet, Call, Case, Claims, Codes, Comparison, Outcome};
 use files::{CueFile, Layout, Rng, LAYOUTS};
+use noted_met::Noted;
 
 /// The codes that a cue file can have.
 const CODES: [usize; 9] = [0, 1, 2, 3, 4, 5, 6, 7, 8];
@@ -22,7 +26,8 @@ const CODES: [usize; 9] = [0, 1, 2, 3, 4, 5, 6, 7, 8];
 struct Tally {
     comparison: Comparison,
     codes: Codes,
-    answers: [u64; 6],
+    answers: AnswersMet,
+    noted: Noted,
     longest: Vec<usize>,
 }
 
@@ -36,8 +41,11 @@ impl Tally {
         let run = model::run(&case.list, case.records_len, case.answers_len);
         let expected = Outcome::of_model(&case, model::number(&run), &run.records, &run.answers);
         self.codes.note(&case.list, expected.code());
-        for answer in &run.answers {
+        self.noted.start();
+        let inputs = case.list.len() - 8 * run.answers.len();
+        for (input, answer) in case.list[inputs..].chunks_exact(8).zip(&run.answers) {
             self.answers[usize::from(*answer)] += 1;
+            self.noted.note(input, *answer);
         }
         if expected.code() == 0 {
             let longest = &mut self.longest[usize::from(case.list[1]) - 1];
@@ -66,13 +74,14 @@ impl Tally {
     }
 
     fn finish(self, seed: u64, wanted: u64) -> ! {
-        let Tally { comparison, codes, answers, longest } = self;
+        let Tally { comparison, codes, answers, noted, longest } = self;
         let files = comparison.compared;
         let null_is_met = comparison.null_is_met(&[Call::Run]);
         println!("seed {}, {} files, the longest of each version with {:?} inputs", seed, files, longest);
         let (by_bridge, differing) = comparison.stop();
         codes.say(&CODES);
-        println!("answers 0 to 5: {:?}", answers);
+        println!("answers 0 to 6: {:?}", answers);
+        noted.say("");
         let mut claims = Claims::new();
         claims.claim("number, records, answers and file are the model's for every file", differing == 0);
         claims.claim("at least 120,000 files, or as many as were asked for", files >= wanted.min(120_000));
@@ -80,6 +89,7 @@ impl Tally {
         codes.claim(&CODES, &mut claims);
         claims.claim("NULL is met for every pointer", null_is_met);
         claims.claim("every answer is met", answers.iter().all(|&k| k > 0));
+        noted.claim("", &mut claims);
         claims.claim("a sample went by the bridge", by_bridge >= 100);
         claims.finish()
     }
@@ -89,7 +99,13 @@ fn main() {
     let seed = number_named("SEED", 20_260_101);
     let wanted = number_named("FILES", 120_000);
     let mut rng = Rng::new(seed);
-    let mut tally = Tally { comparison: Comparison::start(), codes: Codes::new(), answers: [0; 6], longest: vec![0; LAYOUTS.len()] };
+    let mut tally = Tally {
+        comparison: Comparison::start(),
+        codes: Codes::new(),
+        answers: AnswersMet::default(),
+        noted: Noted::default(),
+        longest: vec![0; LAYOUTS.len()],
+    };
     for layout in &LAYOUTS {
         tally.ends(layout, &mut rng);
     }

@@ -26,10 +26,14 @@ mod live_cases;
 #[path = "live_scripts.rs"]
 mod live_scripts;
 
-use calls::{number_named, room, Call, Case, Claims, Comparison, Outcome};
+#[path = "noted_met.rs"]
+mod noted_met;
+
+use calls::{number_named, room, AnswersMet, Call, Case, Claims, Comparison, Outcome};
 use files::{stamp_of, CueFile, Layout, Rng, LAYOUTS};
 use images::{broken, Fields, OCTETS, PHASES, RULES, STARTING};
 use live_cases::{clock_move, LAST, MOVE_ROOM};
+use noted_met::Noted;
 
 /// The calls that are compared, and the codes that each can give: for a version that is played, and for what has no such version.
 const CALLS: [(Call, &[usize], &[usize]); 4] = [
@@ -39,14 +43,14 @@ const CALLS: [(Call, &[usize], &[usize]); 4] = [
     (Call::RunTo, &[0, 1, 3, 4, 5, 6, 7, 8], &[1, 2]),
 ];
 
-/// The answers that a kind can have, by what stops it.
+/// The answers that a kind can have, by what stops it; a force and a night are noted where lock or force would stop them.
 const ANSWERS: [&[usize]; 8] = [
     &[0, 1, 2, 3, 4, 5],
     &[0, 1, 2, 3, 4, 5],
     &[0, 1, 2, 3, 4, 5],
-    &[0, 1, 3, 4, 5],
+    &[0, 1, 4, 5, 6],
     &[0, 1, 4, 5],
-    &[0, 1, 2, 3, 4, 5],
+    &[0, 1, 4, 5, 6],
     &[0, 1, 5],
     &[0, 1],
 ];
@@ -83,8 +87,9 @@ fn row(case: &Case) -> usize {
 struct Met {
     /// By call and code.
     codes: [[[u64; 13]; CALLS.len()]; ROWS],
-    /// Answers to inputs of changes, by kind.
-    answers: [[[u64; 6]; 8]; ROWS],
+    /// Answers to inputs of changes, by kind, and what was noted.
+    answers: [[AnswersMet; 8]; ROWS],
+    noted: [Noted; ROWS],
     /// The phases of states that were handed in and accepted, and of those given.
     phases_in: [[u64; PHASES as usize]; ROWS],
     phases_out: [[u64; PHASES as usize]; ROWS],
@@ -109,7 +114,8 @@ impl Met {
     fn new() -> Met {
         Met {
             codes: [[[0; 13]; CALLS.len()]; ROWS],
-            answers: [[[0; 6]; 8]; ROWS],
+            answers: [[AnswersMet::default(); 8]; ROWS],
+            noted: Default::default(),
             phases_in: [[0; PHASES as usize]; ROWS],
             phases_out: [[0; PHASES as usize]; ROWS],
             broken_alone: [[0; RULES.len()]; ROWS],
@@ -161,8 +167,11 @@ impl Met {
     fn note_change(&mut self, row: usize, case: &Case, given: &Outcome) {
         let inputs: Vec<&[u8]> = case.list.chunks_exact(8).collect();
         let played = if given.code() == 0 { inputs.len() } else { given.place() };
+        let Fields { lock, force, .. } = Fields::of(&case.state);
+        self.noted[row].start_from(lock, force);
         for (index, input) in inputs[..played].iter().enumerate() {
             self.answers[row][usize::from(input[4]) - 1][usize::from(given.answers[index])] += 1;
+            self.noted[row].note(input, given.answers[index]);
             self.after_an_input[row] += u64::from(index > 0 && inputs[index - 1][..4] == input[..4]);
         }
         let records = given.records[..8 * given.count()].chunks_exact(8);
@@ -201,7 +210,8 @@ impl Met {
             if row == LAYOUTS.len() {
                 continue;
             }
-            println!("  answers 0 to 5 by kind: {:?}", self.answers[row]);
+            println!("  answers 0 to 6 by kind: {:?}", self.answers[row]);
+            self.noted[row].say("  ");
             println!("  phases 0 to 6 handed in: {:?}; given: {:?}", self.phases_in[row], self.phases_out[row]);
             println!(
                 "  records of one input: {:?}; of a clock move: {:?}",
@@ -241,8 +251,9 @@ impl Met {
         let mut claim = |what: &str, holds: bool| claims.claim(&format!("{}: {}", name, what), holds);
         let all = |counts: &[u64]| counts.iter().all(|count| *count > 0);
         let answers = self.answers[row].iter().zip(ANSWERS);
-        let as_possible =
-            |met: &[u64; 6], possible: &[usize]| (0..6).all(|answer| possible.contains(&answer) == (met[answer] > 0));
+        let as_possible = |met: &AnswersMet, possible: &[usize]| {
+            (0..met.len()).all(|answer| possible.contains(&answer) == (met[answer] > 0))
+        };
         claim("every kind is answered in every way that it can be, and no other", {
             answers.into_iter().all(|(met, possible)| as_possible(met, possible))
         });
@@ -257,6 +268,7 @@ impl Met {
         claim("inputs at the stamp of a timer and of an input", self.after_a_timer[row] > 0 && self.after_an_input[row] > 0);
         claim("inputs are refused after none, after some and after 255", all(&self.stood[row]));
         claim("changes of 0 and of 256 inputs", all(&self.ends[row]));
+        self.noted[row].claim(&format!("{}: ", name), claims);
     }
 }
 

@@ -18,8 +18,12 @@ mod walls;
 #[path = "calls.rs"]
 mod calls;
 
-use calls::{damaged, lent, number_named, of_lengths, Call, Case, Claims, Codes, Comparison, Outcome};
+#[path = "noted_met.rs"]
+mod noted_met;
+
+use calls::{damaged, lent, number_named, of_lengths, AnswersMet, Call, Case, Claims, Codes, Comparison, Outcome};
 use files::{CueFile, Layout, Rng, LAYOUTS};
+use noted_met::Noted;
 use wall::WallRun;
 use walls::WallList;
 
@@ -28,9 +32,10 @@ use walls::WallList;
 struct Met {
     /// By edge (button 1 rising, 1 falling, 2 rising, 2 falling) and action.
     actions: [[u64; 4]; 4],
-    /// Answers to telegrams, and to cues.
-    telegrams: [u64; 6],
-    cues: [u64; 6],
+    /// Answers to telegrams, none of which is noted, and to cues.
+    telegrams: AnswersMet,
+    cues: AnswersMet,
+    noted: Noted,
     silent: u64,
     sent_off: u64,
     sent_on: u64,
@@ -58,8 +63,10 @@ impl Met {
         let items: Vec<&[u8]> = cues[cues.len() - 8 * run.answers.len()..].chunks_exact(8).collect();
         let mut sends = run.sends.iter().peekable();
         let mut last_sent = None;
+        self.noted.start();
         for (index, item) in items.iter().enumerate() {
             let answer = usize::from(run.answers[index]);
+            self.noted.note(item, run.answers[index]);
             let tie = index > 0 && items[index - 1][..4] == item[..4];
             if !is_edge(item) {
                 self.cues[answer] += 1;
@@ -102,7 +109,8 @@ impl Met {
 
     fn say(&self) {
         println!("edges by action 0 to 3, for button 1 rising, 1 falling, 2 rising, 2 falling: {:?}", self.actions);
-        println!("answers 0 to 5 to telegrams: {:?}; to cues: {:?}", self.telegrams, self.cues);
+        println!("answers 0 to 6 to telegrams: {:?}; to cues: {:?}", self.telegrams, self.cues);
+        self.noted.say("");
         println!(
             "silent edges {}, Off sent {}, On sent {}, toggled to Off {}, toggled to On {}, toggles turned by a status {}",
             self.silent, self.sent_off, self.sent_on, self.toggled_off, self.toggled_on, self.turned_by_a_status
@@ -117,8 +125,10 @@ impl Met {
 
     fn claim(&self, claims: &mut Claims) {
         claims.claim("every action is met on every edge", self.actions.iter().flatten().all(|&k| k > 0));
-        claims.claim("every answer to a telegram is met", self.telegrams.iter().all(|&k| k > 0));
+        let (answered, noted) = self.telegrams.split_at(6);
+        claims.claim("every answer to a telegram is met, and none is noted", answered.iter().all(|&k| k > 0) && noted == [0]);
         claims.claim("every answer to a cue is met", self.cues.iter().all(|&k| k > 0));
+        self.noted.claim("", claims);
         claims.claim("every kind of cue is met", self.kinds[1..].iter().all(|&k| k > 0));
         let sent = [self.silent, self.sent_off, self.sent_on, self.toggled_off, self.toggled_on, self.turned_by_a_status];
         claims.claim("silent edges, Off, On, both toggles, and toggles turned by a status are met", sent.iter().all(|&k| k > 0));

@@ -132,7 +132,7 @@ const ORDERS: [(u8, u8); 25] = [
 
 /// Every order in every situation, at the moments that matter: with every value of the mode that an order looks at, whatever outputs are
 /// remembered, with delays and without, with learning and without, with a deadline before the off delay would end and one after it. Once
-/// for each mode also at the moments of the timers to come, and on from there to the last stamp.
+/// for each mode also at the moments of the timers to come, and on from there to the last stamp; and what is noted, to its end.
 pub fn grid(layout: &Layout, play: &mut Play) {
     let usual = usual(layout);
     for times in [usual.times, [0, 0, usual.times[2], 0]] {
@@ -167,8 +167,20 @@ fn orders_in(situation: &Fields, and_on: bool, play: &mut Play) {
             let after = play(change_in_room(&state, &[input(stamp, kind, value)]));
             if and_on {
                 play(clock_move(&after.state, LAST, MOVE_ROOM));
+                let_go(&after, stamp, play);
             }
         }
+    }
+}
+
+/// Where an order was noted, the lock and the force end, each by itself and both.
+fn let_go(after: &Outcome, stamp: u32, play: &mut Play) {
+    const NOTED: u8 = 6;
+    let (unlock, release) = (input(stamp, 5, 0), input(stamp, 4, 0));
+    let ends: [&[[u8; 8]]; 3] = [&[unlock], &[release], &[unlock, release]];
+    for end in ends.iter().filter(|_| after.answers == [NOTED]) {
+        let free = play(change_in_room(&after.state, end));
+        play(clock_move(&free.state, LAST, MOVE_ROOM));
     }
 }
 

@@ -1,4 +1,5 @@
-//! Evenings that are played live, script by script: document 01's cases, the slips that were seen, times in tenths, every mode, scenes.
+//! Evenings that are played live, script by script: document 01's cases, the slips that were seen, nights and forces that are noted, times
+//! in tenths, every mode, scenes.
 //! Each is played from a fresh state input by input, then by clock moves, and again in one change; nothing here knows what it should give.
 #![allow(dead_code)]
 
@@ -89,6 +90,58 @@ const SLIPS: [Script; 16] = [
     ([0, 0, 10, 0], NONE, &[(5, ON), (6, NIGHT)], &[LAST]),
 ];
 
+/// Nights and forces under lock and force (document 02, request 4): the lists of its readings.
+const AT_ONCE: [u32; 4] = [0, 0, 600, 100];
+const NOTED: [Script; 17] = [
+    (AT_ONCE, NONE, &[(10, FORCE_ON), (20, NIGHT), (30, FREE)], &[629, 630, 729, 730]),
+    (AT_ONCE, NONE, &[(10, FORCE_ON), (20, NIGHT), (25, DAY), (30, FREE)], &[LAST]),
+    (AT_ONCE, NONE, &[(10, FORCE_OFF), (20, NIGHT), (30, FREE), (40, ON)], &[739, 740]),
+    (AT_ONCE, [0, 1, 0, 0, 0], &[(0, FORCE_ON), (10, LOCK), (20, FREE), (30, UNLOCK)], &[LAST]),
+    (AT_ONCE, [0, 1, 0, 0, 0], &[(0, FORCE_ON), (10, LOCK), (20, (4, 1)), (30, UNLOCK)], &[LAST]),
+    (AT_ONCE, [1, 3, 0, 0, 0], &[(0, FORCE_ON), (10, LOCK), (20, (4, 1)), (30, UNLOCK)], &[LAST]),
+    (AT_ONCE, NONE, &[(0, FORCE_ON), (10, LOCK), (20, FORCE_OFF), (30, UNLOCK)], &[LAST]),
+    (AT_ONCE, NONE, &[(10, LOCK), (20, FORCE_OFF), (25, FORCE_ON), (30, UNLOCK), (40, FREE)], &[LAST]),
+    (
+        AT_ONCE,
+        NONE,
+        &[
+            (0, LOCK),
+            (5, FREE),
+            (10, FORCE_ON),
+            (15, FORCE_ON),
+            (20, FORCE_OFF),
+            (25, FREE),
+            (35, NIGHT),
+            (40, NIGHT),
+            (45, DAY),
+        ],
+        &[LAST],
+    ),
+    (AT_ONCE, NONE, &[(0, START), (10, LOCK), (30, NIGHT)], &[LAST]),
+    (
+        AT_ONCE,
+        [0, 2, 0, 0, 0],
+        &[(0, LOCK), (10, BUS_FAILS), (20, NIGHT), (25, FORCE_ON), (30, BUS_RETURNS), (40, UNLOCK)],
+        &[LAST],
+    ),
+    (AT_ONCE, NONE, &[(0, FORCE_ON), (10, BUS_FAILS), (20, NIGHT), (30, BUS_RETURNS), (40, FREE)], &[LAST]),
+    (
+        AT_ONCE,
+        [0, 2, 0, 0, 0],
+        &[(0, LOCK), (5, NIGHT), (10, BUS_FAILS), (20, DAY), (30, BUS_RETURNS), (40, UNLOCK)],
+        &[739, 740],
+    ),
+    (AT_ONCE, NONE, &[(0, FORCE_ON), (5, NIGHT), (10, LOCK), (20, FREE), (30, UNLOCK)], &[629, 630, 729, 730]),
+    (AT_ONCE, NONE, &[(0, FORCE_ON), (10, LOCK), (20, NIGHT), (30, UNLOCK), (40, FREE)], &[739, 740]),
+    (WORKED, AS_BEFORE, &[(0, ON), (30, LOCK), (40, NIGHT), (50, UNLOCK)], &[649, 650, 749, 750]),
+    (
+        AT_ONCE,
+        [0, 0, 0, 0, 2],
+        &[(0, LOCK), (10, FORCE_ON), (20, NIGHT), (30, POWER_FAILS), (35, NIGHT), (40, POWER_RETURNS)],
+        &[LAST],
+    ),
+];
+
 /// Times that no whole seconds give.
 const TENTHS: [u32; 4] = [7, 13, 61, 25];
 const EVENINGS: [Script; 26] = [
@@ -133,7 +186,7 @@ const EVENINGS: [Script; 26] = [
 
 /// All scripts of a version: those of document 01 in both, the ones in tenths in the second.
 pub fn scripts(layout: &Layout, play: &mut Play) {
-    let whole_seconds = DOCUMENT.iter().chain(&SLIPS);
+    let whole_seconds = DOCUMENT.iter().chain(&SLIPS).chain(&NOTED);
     let in_tenths = EVENINGS.iter().filter(|_| layout.unit == 1);
     for (times, modes, cues, stamps) in whole_seconds.chain(in_tenths) {
         evening(&parameters(layout, *times, &rest_of(*modes, 0, &[])), cues, stamps, play);
@@ -166,6 +219,9 @@ pub fn modes(layout: &Layout, play: &mut Play) {
         evening(&octets, &[&[(0, NIGHT)], &day[..]].concat(), &[LAST], play);
         let forced = [(0, FORCE_OFF), (1, LOCK), (2, UNLOCK), (3, FORCE_ON), (4, LOCK), (5, UNLOCK), (6, FREE)];
         evening(&octets, &forced, &[LAST], play);
+        let noted = [(0, ON), (10, LOCK), (20, FORCE_OFF), (21, FORCE_ON), (30, NIGHT), (40, UNLOCK), (50, FREE)];
+        evening(&octets, &noted, &[LAST], play);
+        evening(&octets, &[(0, FORCE_ON), (10, LOCK), (20, FREE), (30, NIGHT), (40, UNLOCK)], &[LAST], play);
     }
     for (failure, returning) in (0..3).flat_map(|a| (0..3).map(move |b| (a, b))) {
         let octets = with([0, 0, failure, returning, 0]);

@@ -1,5 +1,5 @@
 //! Tests of the model of the live calls: the image of a state, document 02's request 3 reading by
-//! reading, and the four calls for C.
+//! reading, the noted values of its request 4 in an image, and the four calls for C.
 //!
 //!     rustc --edition 2021 --test -O live_tests.rs -o t && ./t
 #[path = "model.rs"]
@@ -485,6 +485,46 @@ fn a_change_is_its_single_inputs_joined() {
         assert_eq!(whole, Change { state, code, place, records, answers });
     }
     assert!(codes[0] > 100 && codes[6] > 100 && codes[7] > 100, "{:?}", codes);
+}
+
+// ================================================================================================
+// Noted values (request 4)
+// ================================================================================================
+
+#[test]
+fn an_image_keeps_noted_values_from_call_to_call() {
+    let mut octets = image(&house()).to_vec();
+    let mut play = |cue: Cue| {
+        let given = change_in_room(&octets, &groups(&[cue]));
+        assert_eq!(given.number >> 48, 0);
+        octets = given.image;
+        // night, lock, force, and the phase
+        (given.answers[0], [octets[41], octets[42], octets[43], octets[47]])
+    };
+    assert_eq!(play((0, LOCK, 1)), (0, [0, 1, 0, 0]));
+    assert_eq!(play((10, FORCED, 3)), (6, [0, 1, 3, 0]));
+    assert_eq!(play((20, NIGHT, 1)), (6, [1, 1, 3, 0]));
+    assert_eq!(play((25, NIGHT, 1)), (1, [1, 1, 3, 0]));
+    assert_eq!(play((30, LOCK, 0)), (0, [1, 0, 3, 1]));
+    assert_eq!(play((40, FORCED, 0)), (0, [1, 0, 0, 4]));
+    assert_eq!(octets[52..], 640u32.to_be_bytes());
+}
+
+#[test]
+fn reading_4_12_an_image_of_a_lock_with_a_noted_force_is_sound() {
+    let locked = State { lock: true, force: Force::On, ..house() };
+    assert_eq!(state_of(&image(&locked)), Some(locked));
+    let unlocked = image(&State { lock: false, ..locked });
+    writes_nothing(&change_in_room(&unlocked, &groups(&[(0, NIGHT, 1)])), &unlocked, 9);
+}
+
+#[test]
+fn what_was_noted_before_a_refused_input_stands() {
+    let inputs = groups(&[(0, LOCK, 1), (5, FORCED, 2), (6, NIGHT, 1), (5, LOCK, 0)]);
+    let given = changed(&house(), &inputs);
+    assert_eq!((given.code, given.place, given.answers), (7, 3, vec![0, 6, 6]));
+    let noted = State { clock: 6, lock: true, force: Force::Off, night: true, ..house() };
+    assert_eq!(given.state, noted);
 }
 
 // ================================================================================================

@@ -278,6 +278,28 @@ def readings():
     pair_script('edges are not paired', seconds(2, 0, 1, 0), TOGGLE, [(0, PRESS_1), (5, PRESS_1), (6, LET_GO_1), (7, LET_GO_1)], 100)
 
 
+def noted():
+    """Nights and forces that are noted under a lock or a force: document 02, request 4. A telegram is dropped there, and the record of a
+    noted value is heard as any other."""
+    at_once = seconds(0, 0, 60, 10)
+    pair_script('a night under a force, and its release', at_once, TOGGLE,
+                [(10, FORCE_ON), (15, PRESS_1), (20, NIGHT), (25, PRESS_1), (30, FREE), (35, PRESS_1), (36, PRESS_1)], 629, 630, 735, 736)
+    pair_script('a night under a lock that is dark', at_once, TOGGLE,
+                [(0, LOCK), (10, PRESS_1), (15, NIGHT), (20, PRESS_1), (30, UNLOCK), (40, PRESS_1)], LAST)
+    pair_script('a night under a lock that is lit', at_once, TOGGLE,
+                [(0, PRESS_1), (5, LOCK), (10, PRESS_1), (15, NIGHT), (15, NIGHT), (20, PRESS_1), (30, UNLOCK)], 629, 630, 729, 730)
+    for unlocking in range(4):
+        pair_script('forces under a lock, unlocking %d' % unlocking, seconds(0, 0, 60, 10, locking=1, unlocking=unlocking), TOGGLE,
+                    [(0, FORCE_ON), (10, LOCK), (20, FORCE_OFF), (21, PRESS_1), (25, FORCE_ON), (26, FORCE_ON), (30, (4, 1)), (30, FREE),
+                     (31, PRESS_1), (40, UNLOCK), (41, PRESS_1)], LAST)
+    pair_script('a force under a lock stands after it', at_once, TOGGLE,
+                [(0, LOCK), (10, FORCE_ON), (20, UNLOCK), (21, PRESS_1), (30, FREE), (31, PRESS_1)], LAST)
+    pair_script('a bus that is down drops, and what was noted before it stays', at_once, TOGGLE,
+                [(0, PRESS_1), (5, LOCK), (10, NIGHT), (20, BUS_FAILS), (25, DAY), (26, FORCE_OFF), (30, BUS_RETURNS), (40, UNLOCK)], LAST)
+    pair_script('a power failure clears what was noted', seconds(0, 0, 60, 10, power=2), TOGGLE,
+                [(0, LOCK), (10, FORCE_ON), (20, NIGHT), (30, POWER_FAILS), (35, NIGHT), (40, POWER_RETURNS), (50, PRESS_1)], LAST)
+
+
 def clocks_apart():
     title('the clock of the sensor after that of the actuator')
     fresh_pair(seconds(10, 5, 60, 10, phase=STARTING, clock=100, deadline=200), TOGGLE)
@@ -471,6 +493,8 @@ def handed_pairs():
     handed_pair('force On and Dark', dict(force=FORCED_ON), {})
     handed_pair('night and Lit', dict(night=1, phase=LIT), {})
     handed_pair('power down and Lit', dict(link=POWER_DOWN, phase=LIT), {})
+    handed_pair('sound: a lock, force On and Dark', dict(lock=1, force=FORCED_ON), {})
+    handed_pair('sound: a lock, night and Lit', dict(lock=1, night=1, phase=LIT), {})
     handed_pair('the actuator and the sensor both unsound', dict(force=FORCED_ON), dict(clock=LAST + 1))
     for value in (0, 1):
         handed_pair('sound: Lit, the value of the sensor %d' % value, dict(phase=LIT), dict(value=value))
@@ -481,9 +505,9 @@ def handed_pairs():
 
 # 4. The actuator alone: a few inputs of each kind to each call. (tests/compare_live.rs has the others.)
 
-EVENING = [(0, START), (20, OFF), (20, ON), (100, recall(2)), (130, learn(3)), (150, NIGHT), (160, LOCK), (170, OFF), (180, UNLOCK),
-           (190, FORCE_OFF), (195, ON), (200, FREE), (210, BUS_FAILS), (220, ON), (230, BUS_RETURNS), (240, POWER_FAILS), (250, LOCK),
-           (260, POWER_RETURNS), (300, START), (1100, DAY)]
+EVENING = [(0, START), (20, OFF), (20, ON), (100, recall(2)), (130, learn(3)), (150, NIGHT), (160, LOCK), (165, DAY), (170, OFF),
+           (171, FORCE_ON), (172, FREE), (180, UNLOCK), (190, FORCE_OFF), (195, ON), (196, NIGHT), (200, FREE), (210, BUS_FAILS), (220, ON),
+           (230, BUS_RETURNS), (240, POWER_FAILS), (250, LOCK), (260, POWER_RETURNS), (300, START), (1100, DAY)]
 
 
 def inputs_of(items):
@@ -541,6 +565,7 @@ sensor_alone()
 sensor_refusals()
 handed_sensors()
 readings()
+noted()
 clocks_apart()
 pair_actions()
 pair_phases()

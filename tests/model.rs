@@ -1,5 +1,5 @@
 //! The house-light actuator of document 01, as an independent model, with the tenths in the delays of
-//! document 02, request 2.
+//! document 02, request 2, and its request 4: night and force are values, not events.
 //!
 //! Written from documents 00, 01 and 02 alone, to be read beside document 01: the sections come in
 //! its order and each rule stands under the sentence it renders. All times inside the model are
@@ -482,29 +482,38 @@ const BARRIERS: [Barriers; 8] = [
     row(false, false, false, false), // 8 power
 ];
 
+/// "Night and force are values, not events." (document 02): kinds 4 and 6. Under lock or force they are
+/// noted; the other kinds that the table stops there are dropped.
+fn is_value(kind: u8) -> bool {
+    matches!(kind, 4 | 6)
+}
+
 /// "Answer octet, first that fits: 5 power down, 4 bus down, 3 lock, 2 force"
-///
-/// None where no barrier of that kind stands: the input is taken.
-fn stopped(state: &State, kind: u8) -> Option<u8> {
+#[derive(Clone, Copy)]
+enum Barrier {
+    Force = 2,
+    Lock = 3,
+    BusDown = 4,
+    PowerDown = 5,
+}
+
+/// The first barrier of that kind that stands.
+fn first_barrier(state: &State, kind: u8) -> Option<Barrier> {
     let barriers = &BARRIERS[usize::from(kind) - 1];
     if barriers.power_down && state.link == Link::PowerDown {
-        Some(5)
+        Some(Barrier::PowerDown)
     } else if barriers.bus_down && state.link == Link::BusDown {
-        Some(4)
+        Some(Barrier::BusDown)
     } else if barriers.lock && state.lock {
-        Some(3)
+        Some(Barrier::Lock)
     } else if barriers.force && state.force != Force::None {
-        Some(2)
+        Some(Barrier::Force)
     } else {
         None
     }
 }
 
 /// "An input at stamp t first moves the clock ... Then the input acts."
-///
-/// "A stopped input is dropped for good; every other is taken, though it may change nothing."
-///
-/// "then 0 if anything but the clock changed after the due timers had run, else 1"
 ///
 /// It stands in each loop that plays a list: a call for every input would cost that loop a fifth more.
 #[inline(always)]
@@ -516,16 +525,51 @@ pub(crate) fn take_input(
 ) -> u8 {
     let (t, kind) = (u32_at(octets, 0), octets[4]);
     move_clock(state, t, tape);
-    if let Some(answer) = stopped(state, kind) {
-        return answer;
-    }
     let before = *state;
-    act(state, input, t);
-    write_change(status(&before), state, t, kind, tape);
-    if changed(&before, state) {
-        0
+    match first_barrier(state, kind) {
+        // "then 0 if anything but the clock changed after the due timers had run, else 1"
+        None => {
+            act(state, input, t);
+            record_and_answer(&before, state, kind, 0, tape)
+        }
+        // "a night value under lock or force, and a force value under lock, is noted"; "Answer 6
+        // means noted and different; a noted equal value answers 1." (document 02)
+        Some(Barrier::Lock | Barrier::Force) if is_value(kind) => {
+            note(state, input);
+            record_and_answer(&before, state, kind, 6, tape)
+        }
+        // "A stopped input is dropped for good; every other is taken, though it may change nothing.";
+        // "Bus and power down still drop." (document 02)
+        Some(barrier) => barrier as u8,
+    }
+}
+
+/// What the input did, by its record where there is one, and by its answer.
+#[inline(always)]
+fn record_and_answer(
+    before: &State,
+    now: &State,
+    kind: u8,
+    answer_if_changed: u8,
+    tape: &mut impl Tape,
+) -> u8 {
+    write_change(status(before), now, now.clock, kind, tape);
+    if changed(before, now) {
+        answer_if_changed
     } else {
         1
+    }
+}
+
+/// "the flag or force changes, the phase does not" (document 02)
+///
+/// A release notes that there is no force. "Release and unlocking then act by 01's rules on the noted
+/// values": they look at night and force, and need not know how these came.
+fn note(state: &mut State, input: Input) {
+    match input {
+        Input::SwitchOnOffForced { force } => state.force = force,
+        Input::NightMode { night } => state.night = night,
+        _no_value => {}
     }
 }
 

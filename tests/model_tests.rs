@@ -165,7 +165,7 @@ fn the_end_state_stands_at_the_end_time() {
 
 #[test]
 fn seen_slip_an_unlock_that_forgets_a_standing_force() {
-    let cues = [(0, FORCED, 3), (10, LOCK, 1), (20, FORCED, 2), (30, LOCK, 0), (40, FORCED, 1)];
+    let cues = [(0, FORCED, 3), (10, LOCK, 1), (20, ON_OFF, 0), (30, LOCK, 0), (40, FORCED, 1)];
     let params = Params { behaviour_at_locking: 1, behaviour_at_unlocking: 1, ..worked() };
     let f = file(&params, 1000, &cues);
     expect(
@@ -621,11 +621,12 @@ fn barriers() {
     let bus = State { link: Link::BusDown, ..up };
     let bus_and_all = State { link: Link::BusDown, ..lock_and_force };
     let power = State { link: Link::PowerDown, ..up };
+    // by kind: taken (0), noted (6), or dropped with this answer
     let rows: [(&State, [u8; 8]); 7] = [
         (&up, [0; 8]),
-        (&force, [2, 2, 2, 0, 0, 2, 0, 0]),
-        (&lock, [3, 3, 3, 3, 0, 3, 0, 0]),
-        (&lock_and_force, [3, 3, 3, 3, 0, 3, 0, 0]),
+        (&force, [2, 2, 2, 0, 0, 6, 0, 0]),
+        (&lock, [3, 3, 3, 6, 0, 6, 0, 0]),
+        (&lock_and_force, [3, 3, 3, 6, 0, 6, 0, 0]),
         (&bus, [4, 4, 4, 4, 4, 4, 0, 0]),
         (&bus_and_all, [4, 4, 4, 4, 4, 4, 0, 0]),
         (&power, [5, 5, 5, 5, 5, 5, 5, 0]),
@@ -635,13 +636,21 @@ fn barriers() {
         for kind in 1..=8 {
             for value in 0..=1 {
                 let got = single(state, &input((1100, kind, value)));
-                let stop = stops[usize::from(kind) - 1];
-                if stop == 0 {
-                    assert!(got.answer <= 1, "kind {} {:?}", kind, state);
-                } else {
-                    assert_eq!(got.answer, stop, "kind {} {:?}", kind, state);
-                    assert_eq!(got.state, State { clock: 1100, ..*state });
-                    assert!(got.records.is_empty());
+                let dropped = State { clock: 1100, ..*state };
+                match stops[usize::from(kind) - 1] {
+                    0 => assert!(got.answer <= 1, "kind {} {:?}", kind, state),
+                    6 => {
+                        let noted = match kind {
+                            FORCED => State { force: Force::None, ..dropped },
+                            _ => State { night: value == 1, ..dropped },
+                        };
+                        let answer = if noted == dropped { 1 } else { 6 };
+                        assert_eq!((got.state, got.answer), (noted, answer), "kind {}", kind);
+                    }
+                    stop => {
+                        assert_eq!((got.state, got.answer), (dropped, stop), "kind {}", kind);
+                        assert!(got.records.is_empty());
+                    }
                 }
             }
         }

@@ -74,5 +74,6 @@ tests_of() {
 tests_of model_tests "the model"
 tests_of wall_tests "the model of the wall buttons"
 tests_of live_tests "the model of the live calls"
+tests_of noted_tests "night and force as values, in every form"
 
 tally

@@ -86,6 +86,15 @@ fn sample(rng: &mut Rng, made: Made) -> Vec<Vec<u8>> {
     sample
 }
 
+/// The answers to the inputs of a list.
+fn answers(file: &[u8], walls: bool) -> Vec<u8> {
+    if walls {
+        wall::wall_run(file, usize::MAX, usize::MAX).answers
+    } else {
+        model::run(file, usize::MAX, usize::MAX).answers
+    }
+}
+
 /// Whether a word stands first; it is taken away.
 fn told_to(command: &mut Vec<String>, wanted: &str) -> bool {
     let told = command.first().map_or(false, |word| word == wanted);
@@ -106,7 +115,9 @@ fn main() {
     let sample = sample(&mut rng, if walls { wall_list } else { cue_file });
     let mut passed = 0;
     let mut failed = 0;
+    let mut answered = [0; 7];
     for file in &sample {
+        answers(file, walls).iter().for_each(|answer| answered[usize::from(*answer)] += 1);
         let expected = match (phases, words, walls) {
             (true, _, _) => told::phases(file, walls),
             (_, true, _) => told::words(file, walls),
@@ -123,7 +134,11 @@ fn main() {
             }
         }
     }
-    println!("{} printouts compared, seed {}", sample.len(), seed);
+    println!("{} printouts compared, seed {}, answers 0 to 6: {:?}", sample.len(), seed, answered);
+    if answered.contains(&0) {
+        failed += 1;
+        println!("FAILED: an answer is not met");
+    }
     println!("{} passed, {} failed", passed, failed);
     std::process::exit(if failed == 0 { 0 } else { 1 });
 }

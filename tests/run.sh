@@ -170,7 +170,7 @@ if command -v rustc >/dev/null; then
 fi
 counted "the shows" bash tests/shows.sh
 counted "the command ./preview" bash tests/preview.sh
-example preview example.cue tenths.cue
+example preview example.cue tenths.cue night_under_force.cue
 example wall foyer.wall stage_door.wall
 example live
 counted "the package" bash tests/package.sh

@@ -144,7 +144,9 @@ fn outcome(input: &[u8], one: &PairSingle, sent: Option<u8>) -> String {
     match one.answer {
         2..=5 => format!("dropped, {}", REASONS[usize::from(one.answer) - 2]),
         _ if kind > 8 && sent.is_none() => "sends nothing".into(),
-        1 => "taken, changes nothing".into(),
+        1 => "changes nothing".into(),
+        // under a lock or a force the house is dark or lit, and that is all that there is to tell
+        6 => format!("noted, stays {}", house(&one.pair.actuator)),
         _ if kind == 3 && value >= 128 => {
             let entry = one.pair.actuator.scenes.iter().find(|scene| scene.number == value - 128).unwrap();
             format!("taken, learnt as {}", if entry.flags & 1 == 1 { "on" } else { "off" })
@@ -196,14 +198,16 @@ fn summary(octets: &[u8], walls: bool) -> String {
     };
     let end = u32_at(octets, 16);
     let given = |answer: u8| answers.iter().filter(|&&a| a == answer).count();
-    let dropped = answers.iter().filter(|&&a| a >= 2).count();
+    let dropped = answers.iter().filter(|a| (2..=5).contains(*a)).count();
+    let noted = if given(6) == 0 { String::new() } else { format!(", {} noted", given(6)) };
     let mut text = format!("The house was lit for {} of {}.\n", moment(lit(&records, end)), moment(end));
     let n = answers.len();
     let what = if walls { "input" } else { "cue" };
     let many = if n == 1 { "" } else { "s" };
     let figures = if n >= 1000 { format!("{},{:03}", n / 1000, n % 1000) } else { n.to_string() };
     let stop = if dropped == 0 { "." } else { ":" };
-    text += &format!("{} {}{}: {} changed something, {} changed nothing, {} dropped{}\n", figures, what, many, given(0), given(1), dropped, stop);
+    let changed = format!("{} changed something, {} changed nothing", given(0), given(1));
+    text += &format!("{} {}{}: {}{}, {} dropped{}\n", figures, what, many, changed, noted, dropped, stop);
     for (answer, reason) in (2..).zip(REASONS) {
         if given(answer) > 0 {
             text += &format!("  {} because {}\n", given(answer), reason);

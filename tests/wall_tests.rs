@@ -1,6 +1,6 @@
 //! Tests of the independent model of the wall buttons: every reading of document 02, request 1, that
-//! a test can tell from the other way to read it; the refusals; the tenths of request 2; and what
-//! holds of every wall list.
+//! a test can tell from the other way to read it; the refusals; the tenths of request 2; the noted
+//! values of request 4, as the pair meets them; and what holds of every wall list.
 //!
 //!     rustc --edition 2021 --test -O wall_tests.rs -o t && ./t
 #[path = "model.rs"]
@@ -667,6 +667,45 @@ fn the_same_times_give_the_same_in_either_version() {
         let actuator = State { params, ..plain.end.actuator };
         assert_eq!(Pair { actuator, ..plain.end }, twin.end);
     }
+}
+
+// ================================================================================================
+// Noted values (request 4)
+// ================================================================================================
+
+#[test]
+fn a_telegram_is_no_value_and_is_dropped_as_before() {
+    let params = delays(0, 0, 60, 10);
+    let items = [(0, LOCK, 1), press(10), (15, FORCED, 3), press(20), (30, LOCK, 0), press(40)];
+    let list = wall_list(&params, 100, &items, &TOGGLE);
+    // under the lock with 3, under the force that was noted there with 2
+    let records = [(0, 0, 3, 5), (15, 0, 7, 4), (30, 255, 5, 5)];
+    expect(&list, &records, &[ON, ON, OFF], &[0, 3, 6, 3, 0, 2]);
+}
+
+#[test]
+fn the_record_of_a_noted_value_is_heard() {
+    // a press under the lock turned the value, the record of a noted night turns it back
+    let params = delays(0, 0, 60, 10);
+    let items = |value| [(0, LOCK, 1), press(10), (20, NIGHT, value), press(30)];
+    let list = wall_list(&params, 100, &items(1), &TOGGLE);
+    expect(&list, &[(0, 0, 3, 5), (20, 0, 11, 6)], &[ON, ON], &[0, 3, 6, 3]);
+    // an equal one writes none
+    let list = wall_list(&params, 100, &items(0), &TOGGLE);
+    expect(&list, &[(0, 0, 3, 5)], &[ON, OFF], &[0, 3, 1, 3]);
+    // nor does a force that is noted for the other
+    let items = [(0, LOCK, 1), (5, FORCED, 3), press(10), (20, FORCED, 2), press(30)];
+    let list = wall_list(&params, 100, &items, &TOGGLE);
+    expect(&list, &[(0, 0, 3, 5), (5, 0, 7, 4)], &[ON, OFF], &[0, 6, 3, 6, 3]);
+}
+
+#[test]
+fn a_press_after_a_release_into_the_night_is_timed() {
+    let params = delays(0, 0, 60, 10);
+    let items = [(0, FORCED, 2), (10, NIGHT, 1), (20, FORCED, 0), press(30)];
+    let list = wall_list(&params, 1000, &items, &TOGGLE);
+    let records = [(0, 0, 5, 4), (10, 0, 13, 6), (20, 0, 9, 4), (30, 255, 25, 1), (730, 0, 9, 0)];
+    expect(&list, &records, &[ON], &[0, 6, 0, 0]);
 }
 
 // ================================================================================================

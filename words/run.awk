@@ -3,7 +3,9 @@
 # the file come the names of its inputs, and whether a timed light has a warning.
 
 BEGIN {
-    split("a force stands,the house is locked,the bus is down,the power is down", reasons, ",")
+    # by the answer, from 1 on: why an input is dropped, and nothing where it is not
+    last_reason = split(",a force stands,the house is locked,the bus is down,the power is down", reasons, ",")
+    noted = 6
 }
 
 # of the printout: a timer or the end is told by what comes next
@@ -27,6 +29,12 @@ function take_answer(i, answer) {
     answered = 1
     given = answer
     answers[answer]++
+    played++
+    if (is_dropped(answer)) dropped++
+}
+
+function is_dropped(answer) {
+    return reasons[answer] != ""
 }
 
 # A phase is printed at the start, after each input, and after each timer and at the end.
@@ -77,9 +85,10 @@ function has_warning() {
 }
 
 function outcome() {
-    if (given >= 2) return "dropped, " reasons[given - 1]
+    if (is_dropped(given)) return "dropped, " reasons[given]
     if (kind > 8 && sent == "") return "sends nothing"
-    if (given == 1) return "taken, changes nothing"
+    if (given == 1) return "changes nothing"
+    if (given == noted) return "noted, stays " house()
     if (kind == 3 && value >= 128) return "taken, learnt as " (lit ? "on" : "off")
     return "taken, " house()
 }
@@ -96,13 +105,12 @@ function input_name() {
     return (kind == 7 ? "Bus" : "Power") (value ? " returns" : " fails")
 }
 
-function say_end(    answer, dropped) {
+function say_end(    answer) {
     say(clock, "(end) " house_at_end())
     record(clock, 0)
-    for (answer = 2; answer <= 5; answer++) dropped += answers[answer]
     print ""
     print "The house was lit for " moment(lit_for) " of " moment(clock) "."
-    print some(answers[0] + answers[1] + dropped, WALL ? "input" : "cue") ": " answers[0] + 0 " changed something, " answers[1] + 0 \
-        " changed nothing, " dropped + 0 " dropped" (dropped ? ":" : ".")
-    for (answer = 2; answer <= 5; answer++) if (answers[answer]) print "  " answers[answer] " because " reasons[answer - 1]
+    print some(played, WALL ? "input" : "cue") ": " answers[0] + 0 " changed something, " answers[1] + 0 " changed nothing, " \
+        (answers[noted] ? answers[noted] " noted, " : "") dropped + 0 " dropped" (dropped ? ":" : ".")
+    for (answer = 1; answer <= last_reason; answer++) if (is_dropped(answer) && answers[answer]) print "  " answers[answer] " because " reasons[answer]
 }

@@ -46,30 +46,39 @@ static uint64_t by(const struct calls *side, const struct call *c, const uint8_t
 
 #define CODES_OF_A_FILE 0x1FFu
 
+/* How many answers there are, for every call that gives any. */
+enum { ANSWERS = HOUSE_NOTED + 1 };
+
 static const struct {
     const char *name;
     unsigned codes; /* a bit for each that it can give */
+    unsigned answers; /* how many there are */
 } promised[CALLS] = {
-    [RUN] = {"house_run", CODES_OF_A_FILE},
-    [WALL_RUN] = {"house_wall_run", CODES_OF_A_FILE | 1u << 11},
-    [FRESH] = {"house_fresh", 1u << 0 | 1u << 1 | 1u << 5 | 1u << 8},
-    [CHANGE] = {"house_change", 1u << 0 | 1u << 6 | 1u << 7 | 1u << 8 | 1u << 9 | 1u << 12},
-    [MOVE] = {"house_move", 1u << 0 | 1u << 7 | 1u << 8 | 1u << 9},
-    [RUN_TO] = {"house_run_to", CODES_OF_A_FILE},
+    [RUN] = {"house_run", CODES_OF_A_FILE, ANSWERS},
+    [WALL_RUN] = {"house_wall_run", CODES_OF_A_FILE | 1u << 11, ANSWERS},
+    [FRESH] = {"house_fresh", 1u << 0 | 1u << 1 | 1u << 5 | 1u << 8, 0},
+    [CHANGE] = {"house_change", 1u << 0 | 1u << 6 | 1u << 7 | 1u << 8 | 1u << 9 | 1u << 12, ANSWERS},
+    [MOVE] = {"house_move", 1u << 0 | 1u << 7 | 1u << 8 | 1u << 9, 0},
+    [RUN_TO] = {"house_run_to", CODES_OF_A_FILE, ANSWERS},
 };
 
-/* How often each code was given; of the calls that were made it is told when the program ends. */
-static uint64_t met[CALLS][16], made[CALLS];
+/* How often each code and each answer was given; of the calls that were made it is told when the program ends. */
+static uint64_t met[CALLS][16], answered[CALLS][ANSWERS], made[CALLS];
 
-static void tell_codes(int which) {
+static void tell_call(int which) {
     const char *name = promised[which].name;
-    for (unsigned code = 0; code < 16 && made[which] > 0; code++) {
+    for (unsigned code = 0; code < 16; code++) {
         if (promised[which].codes >> code & 1) fprintf(stderr, "code %u of %s: %" PRIu64 "\n", code, name, met[which][code]);
+    }
+    for (unsigned answer = 0; answer < promised[which].answers; answer++) {
+        fprintf(stderr, "answer %u of %s: %" PRIu64 "\n", answer, name, answered[which][answer]);
     }
 }
 
 static void tell(void) {
-    for (int which = 0; which < CALLS; which++) tell_codes(which);
+    for (int which = 0; which < CALLS; which++) {
+        if (made[which] > 0) tell_call(which);
+    }
 }
 
 /* What a number says. */
@@ -165,8 +174,18 @@ static void check_records(const struct call *c, uint64_t number, const uint8_t *
     }
 }
 
+/* The octets of an input that was played. */
+static const uint8_t *input_of(const struct call *c, size_t i) {
+    return c->list + (takes_a_file(c) ? house_inputs_at(c->list) : 0) + HOUSE_INPUT_SIZE * i;
+}
+
 static void check_answers(const struct call *c, uint64_t number, const uint8_t *answers) {
-    for (size_t i = 0; i < played(c, taken_apart(number)); i++) expect(answers[i] <= 5, c, number, "an answer is above 5");
+    for (size_t i = 0; i < played(c, taken_apart(number)); i++) {
+        uint8_t kind = input_of(c, i)[4];
+        expect(answers[i] < promised[c->which].answers, c, number, "an answer that there is not");
+        expect(answers[i] != HOUSE_NOTED || kind == HOUSE_FORCE || kind == HOUSE_NIGHT_MODE, c, number, "neither a force nor a night is noted");
+        answered[c->which][answers[i]]++;
+    }
 }
 
 static void check_number(const struct call *c, uint64_t number) {

@@ -63,12 +63,12 @@ figure() {
     grep -oE "$2[ (]+[0-9]+" "$1" | tail -n 1 | grep -oE '[0-9]+$' || echo 0
 }
 
-# each_code_met TARGET: every call of it was made, and gave every code that it can give.
-each_code_met() {
+# all_met TARGET: every call of it was made, and gave every code and every answer that it can give.
+all_met() {
     local log=$out/$1.log call met=0
     for call in ${calls[$1]}; do
         grep -q "^code 0 of $call: " "$log" || { echo "$call was not made"; met=1; }
-        ! grep -E "^code [0-9]+ of $call: 0$" "$log" || met=1
+        ! grep -E "^(code|answer) [0-9]+ of $call: 0$" "$log" || met=1
     done
     return $met
 }
@@ -80,10 +80,10 @@ judge() {
     if [ "$status" -ne 0 ] || [ "$runs" -eq 0 ]; then
         fail "$target ended with status $status after $runs executions"
         grep -E '^FOUND: |^SUMMARY: |Test unit written to' "$log" || tail -n 20 "$log"
-    elif ! each_code_met "$target"; then
-        fail "$target: $runs executions found nothing, and did not meet every code"
+    elif ! all_met "$target"; then
+        fail "$target: $runs executions found nothing, and did not meet every code and answer"
     else
-        pass "$target: $runs executions, $(figure "$log" cov:) edges, $(figure "$log" ft:) features, every code met, nothing found"
+        pass "$target: $runs executions, $(figure "$log" cov:) edges, $(figure "$log" ft:) features, every code and answer met, nothing found"
     fi
 }
 

@@ -436,6 +436,14 @@ static void play_in_threads(void) {
 
 /* ---- the header by itself */
 
+/* Those of 2 to 5, and no other. */
+static int answers_drop(void) {
+    for (unsigned answer = 0; answer <= 255; answer++) {
+        if (house_dropped(answer) != (answer >= 2 && answer <= 5)) return 0;
+    }
+    return HOUSE_NOTED == 6;
+}
+
 static void read_and_write(void) {
     const char *name = "house.h";
     uint8_t input[HOUSE_INPUT_SIZE] = {PATTERN, PATTERN, PATTERN, PATTERN, PATTERN, PATTERN, PATTERN, PATTERN};
@@ -445,6 +453,7 @@ static void read_and_write(void) {
     house_put_input(input, HOUSE_LAST_STAMP - 1, HOUSE_SCENE, HOUSE_LEARN + HOUSE_LAST_SCENE);
     claim("an input", name, memcmp(input, octets_of_input, sizeof input) == 0 && house_stamp(input) == 863999);
     claim("a number", name, house_code(number) == 12 && house_place(number) == 0x1234 && house_count(number) == 0x80000007u);
+    claim("which answers drop", name, answers_drop());
     claim("a file of version 1", name, house_file_version(file) == 1 && house_inputs(file) == INPUTS && house_inputs_at(file) == 52);
     claim("a file of version 2", name, house_file_version(later) == 2 && house_inputs(later) == INPUTS && house_inputs_at(later) == 60);
 }
