@@ -4,7 +4,7 @@ use Rattle.rules.specs.Runs.{packing}
 
 -- raised when something changes that a caller relies on: a name, a size, an answer
 abbrev pub major : ℕ
-major = 1
+major = 2
 
 -- raised when something is added; 0 again with a new major
 abbrev pub minor : ℕ

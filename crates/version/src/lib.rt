@@ -3,7 +3,7 @@ ghost use mathlib.Core.Path.{_≡_};
 ghost use Rattle.version.specs.Versions.{houseVersion};
 use buffers::report::pack;
 
-const MAJOR: u8 = 1;
+const MAJOR: u8 = 2;
 
 const MINOR: u16 = 0;
 
