@@ -1,4 +1,4 @@
--- An input at the moved clock does what the rules say: it is taken, or stopped. A step is the clock move, and then that.
+-- An input at the moved clock does what the rules say: it is dropped, or counts. A step is the clock move, and then that.
 use Prim.Native.Nat.{ℕ, _≤_}
 use mathlib.Core.Bool.{true, false, _&&_}
 use mathlib.Core.List.{List, [], _∷_, _++_}
@@ -10,7 +10,6 @@ use Rattle.rules.specs.declared.parameters.Scene.{Scene}
 use Rattle.rules.specs.declared.phase.Phase.{Phase}
 use Rattle.rules.specs.declared.input.Input.{Input}
 use Rattle.rules.specs.declared.state.State.{State}
-use Rattle.rules.specs.declared.barrier.Why.{Why}
 use Rattle.rules.specs.declared.barrier.Barrier.{Barrier}
 use Rattle.rules.specs.declared.barrier.Barrier.the-variants.{Open, Stopped}
 use Rattle.rules.specs.Inputs.{kind}
@@ -33,10 +32,12 @@ use Rattle.orders.proofs.Lights.{light-is-granted, other-orders-keep-the-table}
 use Rattle.timers.specs.declared.clock.Clocked.{Clocked}
 use Rattle.actuator.specs.declared.step.Acting.{Acting}
 use Rattle.actuator.specs.declared.step.Done.{Done}
+use Rattle.actuator.specs.declared.step.Fate.{Fate}
+use Rattle.actuator.specs.declared.step.Fate.the-variants.{Dropped, Counts}
 use Rattle.records.specs.declared.notes.Note.the-variants.{Silent}
 use Rattle.records.specs.Notes.{noteOf, added}
 use Rattle.timers.specs.Ticks.{clocked}
-use Rattle.actuator.specs.Acts.{acting, done, doneBy, stoppedBy, acted}
+use Rattle.actuator.specs.Acts.{fate, acting, done, doneBy, droppedBy, acted}
 use Rattle.timers.proofs.Moves.{joined}
 use Rattle.records.proofs.Written.{first-written, added-first}
 
@@ -100,23 +101,38 @@ module _ (p : Params) (k : List Scene) (l : Lamp) (i : Input) where
 
 -- ---- at the moved clock
 
+-- the answer that a dropped input gets
+abbrev answerIn : Fate → ℕ
+answerIn (Dropped answer) = answer
+answerIn Counts = 0
+
+dropped-or-counts : {A : Type 0} {answer : ℕ} → Dropped answer ≡ Counts → A
+dropped-or-counts e = absurd (let z : _≡_ {A = ℕ} 0 1 = cc in omega arith)
+
+-- an input that counts is free
+pub counts-when-open : (b : Barrier) → fate b ≡ Counts → b ≡ Open
+unfolding fate
+counts-when-open Open e = refl
+counts-when-open (Stopped why) e = dropped-or-counts e
+
 module _ (s : State) (i : Input) where
   pub open-is-taken : barrier s i ≡ Open → doneBy s i (order s i) ≡ done (act (still s) i)
   unfolding doneBy done act meet taken
   open-is-taken free = rw (free, first-written (kind i) s (order s i)) refl
 
-  pub barred-is-stopped : (why : Why) → barrier s i ≡ Stopped why → stoppedBy s why ≡ done (act (still s) i)
-  unfolding stoppedBy done act meet
-  barred-is-stopped why bars = rw bars refl
-
-  -- the scene table is that of the order, or stays
+  -- the scene table is that of the order
   pub open-teaches : barrier s i ≡ Open → order s i .scenes ≡ act (still s) i .state .scenes
   unfolding act meet taken
   open-teaches free = rw free refl
 
-  pub barred-keeps : (why : Why) → barrier s i ≡ Stopped why → s .scenes ≡ act (still s) i .state .scenes
-  unfolding act meet
-  barred-keeps why bars = rw bars refl
+  -- nothing is left of a dropped input but its answer
+  pub dropped-leaves : (answer : ℕ) → fate (barrier s i) ≡ Dropped answer → (droppedBy s answer ≡ done (act (still s) i)) × (s .scenes ≡ act (still s) i .state .scenes)
+  unfolding act
+  dropped-leaves answer = go (barrier s i)
+    where
+      go : (b : Barrier) → fate b ≡ Dropped answer → (droppedBy s answer ≡ done (meet b (still s) i)) × (s .scenes ≡ meet b (still s) i .state .scenes)
+      go Open e = unfold fate in dropped-or-counts (sym e)
+      go (Stopped why) e = unfold fate droppedBy done meet in (rw (sym (ap answerIn e)) refl, refl)
 
   -- the parameters stay in any case, and one record is written at most
   pub acting-keeps : (act (still s) i .state .params ≡ s .params) × (length (act (still s) i .records) ≤ 1)

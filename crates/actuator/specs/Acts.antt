@@ -1,8 +1,9 @@
 -- What an input came to, as the code has it.
+use Prim.Native.Nat.{ℕ}
 use Rattle.rules.specs.declared.input.Input.{Input}
 use Rattle.rules.specs.declared.state.State.{State}
-use Rattle.rules.specs.declared.barrier.Why.{Why}
-use Rattle.rules.specs.declared.barrier.Barrier.the-variants.{Open}
+use Rattle.rules.specs.declared.barrier.Barrier.{Barrier}
+use Rattle.rules.specs.declared.barrier.Barrier.the-variants.{Open, Stopped}
 use Rattle.rules.specs.Inputs.{kind}
 use Rattle.rules.specs.Answers.{stoppedNumber, answer, sameButClock}
 use Rattle.rules.specs.Steps.{Stepped}
@@ -11,7 +12,14 @@ use Rattle.lamps.specs.Lamps.{lampOf}
 use Rattle.actuator.specs.declared.step.Acted.{Acted}
 use Rattle.actuator.specs.declared.step.Acting.{Acting}
 use Rattle.actuator.specs.declared.step.Done.{Done}
+use Rattle.actuator.specs.declared.step.Fate.{Fate}
+use Rattle.actuator.specs.declared.step.Fate.the-variants.{Dropped, Counts}
 use Rattle.records.specs.Notes.{notes, noteOf, firstOf}
+
+-- what becomes of an input, by what it meets
+unfoldable pub fate : Barrier → Fate
+fate Open = Counts
+fate (Stopped why) = Dropped (stoppedNumber why)
 
 -- a whole step
 unfoldable pub acted : Stepped → Acted
@@ -25,9 +33,9 @@ acting d = record { state = d .state; answer = d .answer; note = firstOf (d .rec
 unfoldable pub done : Stepped → Done
 done d = record { lamp = lampOf (d .state); answer = d .answer; note = firstOf (d .records) }
 
--- one that is taken, and one that is stopped
+-- one that is taken, and one that is dropped with this answer
 unfoldable pub doneBy : State → Input → State → Done
 doneBy s i after = record { lamp = lampOf after; answer = answer Open (sameButClock s after); note = noteOf (kind i) s after }
 
-unfoldable pub stoppedBy : State → Why → Done
-stoppedBy s why = record { lamp = lampOf s; answer = stoppedNumber why; note = Silent }
+unfoldable pub droppedBy : State → ℕ → Done
+droppedBy s answer = record { lamp = lampOf s; answer = answer; note = Silent }

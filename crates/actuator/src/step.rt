@@ -7,13 +7,14 @@ ghost use Rattle.base.specs.Time.{lastStamp};
 ghost use Rattle.rules.specs.declared.parameters.Scene.{Scene};
 ghost use Rattle.rules.specs.Answers.{stoppedNumber, answer, sameScenes};
 ghost use Rattle.rules.specs.Orders.{order};
+ghost use Rattle.rules.specs.Barriers.{rowOf, firstBarrier, barrier};
 ghost use Rattle.rules.specs.Steps.{act, step};
 ghost use Rattle.rules.specs.Lists.{still};
 ghost use Rattle.rules.specs.Soundness.{sound};
 ghost use Rattle.phases.specs.Room.{Room, Roomy};
 ghost use Rattle.lamps.specs.Lamps.{stateOf};
 ghost use Rattle.orders.specs.Lights.{isLight};
-ghost use Rattle.actuator.specs.Acts.{doneBy, acting, acted};
+ghost use Rattle.actuator.specs.Acts.{fate, done, doneBy, acting, acted};
 use barriers::barrier::barrier_to;
 use inputs::value::is_lesson;
 use inputs::value::kind_of;
@@ -36,7 +37,13 @@ use states::same::same_lamp;
 use states::same::same_phase;
 use timers::clock::move_clock;
 
-// What an input does that is taken, but for the scene table.
+// What becomes of an input at its barrier: it is dropped for good, with this answer, or it counts.
+pub enum Fate {
+    Dropped(u8),
+    Counts,
+}
+
+// What an input that counts does, but for the scene table.
 pub struct Done {
     pub lamp: Lamp,
     pub answer: u8,
@@ -58,7 +65,7 @@ pub struct Acted {
 }
 
 // The answer octet of an input that is stopped.
-pub fn stopped_number(why: Why) -> u8
+fn stopped_number(why: Why) -> u8
     ensures { λ r. ⌜ r ≡ stoppedNumber why ⌝ }
 {
     match why {
@@ -69,6 +76,18 @@ pub fn stopped_number(why: Why) -> u8
     }
 }
 
+// What becomes of an input of a kind, once the clock has moved: the one place where an input meets its barrier.
+pub fn fate_of(l: Lamp, kind: u8) -> Fate
+    requires { ⌜ (1 ≤ kind) × (kind ≤ 8) ⌝ }
+    ensures { λ r. ⌜ r ≡ fate (firstBarrier (rowOf kind) (l .link) (l .lock) (l .force)) ⌝ }
+{
+    let b = barrier_to(l, kind);
+    match b {
+        Barrier::Open => Fate::Counts,
+        Barrier::Stopped(why) => Fate::Dropped(stopped_number(why)),
+    }
+}
+
 // The answer octet of an input that is taken.
 fn taken_number(same: bool) -> u8
     ensures { λ r. ⌜ r ≡ answer Barrier.Open same ⌝ }
@@ -76,18 +95,7 @@ fn taken_number(same: bool) -> u8
     if same { 1 } else { 0 }
 }
 
-// The scene table after an input that is taken. Only a lesson can change it, so no other input pays for it.
-pub fn scenes_after(p: Params, k: [Scene; 8], l: Lamp, i: Input) -> [Scene; 8]
-    ensures { λ r. ⌜ r ≡ order (stateOf p k l) i .scenes ⌝ }
-{
-    if is_lesson(i) {
-        table_after(p, k, l, i)
-    } else {
-        k
-    }
-}
-
-// Whether it is the table that was there before.
+// Whether the scene table after an order is the one before it. Only a lesson can change it, so no other input pays for it.
 fn same_table(p: Params, k: [Scene; 8], l: Lamp, i: Input) -> bool
     ensures { λ r. ⌜ r ≡ sameScenes k (order (stateOf p k l) i .scenes) ⌝ }
 {
@@ -142,10 +150,10 @@ fn take_other(p: Params, l: Lamp, i: Input) -> Done
     }
 }
 
-// An input at the moved clock that nothing stops: kinds 1 to 3 are orders to the light.
+// An input at the moved clock that counts: kinds 1 to 3 are orders to the light.
 pub fn take(p: Params, k: [Scene; 8], l: Lamp, i: Input) -> Done
-    requires { ⌜ Roomy p (l .clock) (l .phase) ⌝ }
-    ensures { λ r. ⌜ r ≡ doneBy (stateOf p k l) i (order (stateOf p k l) i) ⌝ }
+    requires { ⌜ Roomy p (l .clock) (l .phase) × (fate (barrier (stateOf p k l) i) ≡ Fate.Counts) ⌝ }
+    ensures { λ r. ⌜ r ≡ done (act (still (stateOf p k l)) i) ⌝ }
 {
     match kind_of(i) {
         1..=3 => take_light(p, k, l, i),
@@ -153,7 +161,19 @@ pub fn take(p: Params, k: [Scene; 8], l: Lamp, i: Input) -> Done
     }
 }
 
-// An input to a whole state while the clock stands: a stopped one leaves the state as it is.
+// The scene table after an input at the moved clock that counts. Only a lesson can change it, so no other input pays for it.
+pub fn scenes_after(p: Params, k: [Scene; 8], l: Lamp, i: Input) -> [Scene; 8]
+    requires { ⌜ fate (barrier (stateOf p k l) i) ≡ Fate.Counts ⌝ }
+    ensures { λ r. ⌜ r ≡ act (still (stateOf p k l)) i .state .scenes ⌝ }
+{
+    if is_lesson(i) {
+        table_after(p, k, l, i)
+    } else {
+        k
+    }
+}
+
+// An input to a whole state while the clock stands: a dropped one leaves the state as it is.
 pub fn act_input(s: State, i: Input) -> Acting
     requires { ⌜ Roomy (s .params) (s .clock) (s .phase) ⌝ }
     ensures { λ r. ⌜ r ≡ acting (act (still s) i) ⌝ }
@@ -161,9 +181,14 @@ pub fn act_input(s: State, i: Input) -> Acting
     let p = s.params;
     let k = s.scenes;
     let l = lamp::lamp_of(s);
-    let b = barrier_to(l, kind_of(i));
-    match b {
-        Barrier::Open => {
+    let f = fate_of(l, kind_of(i));
+    match f {
+        Fate::Dropped(answer) => Acting {
+            state: s,
+            answer,
+            note: Note::Silent,
+        },
+        Fate::Counts => {
             let d = take(p, k, l, i);
             let after = d.lamp;
             let note = d.note;
@@ -173,11 +198,6 @@ pub fn act_input(s: State, i: Input) -> Acting
                 note,
             }
         }
-        Barrier::Stopped(why) => Acting {
-            state: s,
-            answer: stopped_number(why),
-            note: Note::Silent,
-        },
     }
 }
 

@@ -14,13 +14,9 @@ use Rattle.rules.specs.declared.parameters.Scene.{Scene}
 use Rattle.rules.specs.declared.input.Input.{Input}
 use Rattle.rules.specs.declared.input.Decoded.{Decoded}
 use Rattle.rules.specs.declared.input.Decoded.the-variants.{Meant, Wrong}
-use Rattle.rules.specs.declared.barrier.Why.{Why}
-use Rattle.rules.specs.declared.barrier.Barrier.the-variants.{Open, Stopped}
 use Rattle.rules.specs.declared.state.State.{State}
 use Rattle.rules.specs.declared.record.Record.{Record}
 use Rattle.rules.specs.Inputs.{decoded}
-use Rattle.rules.specs.Orders.{order}
-use Rattle.rules.specs.Answers.{stoppedNumber}
 use Rattle.rules.specs.Barriers.{barrier}
 use Rattle.rules.specs.Steps.{clockMove, act}
 use Rattle.rules.specs.Lists.{still}
@@ -48,11 +44,12 @@ use Rattle.pairs.proofs.Refusals.Calls.{an-item-writes-at-most-three}
 use Rattle.lamps.specs.declared.lamp.Lamp.{Lamp}
 use Rattle.lamps.specs.Lamps.{stateOf}
 use Rattle.actuator.specs.declared.step.Done.{Done}
-use Rattle.actuator.specs.Acts.{done, doneBy, stoppedBy}
+use Rattle.actuator.specs.declared.step.Fate.the-variants.{Dropped}
+use Rattle.actuator.specs.Acts.{fate, done, droppedBy}
 use Rattle.records.specs.Notes as noted
 use Rattle.records.proofs.Written.{listed-first}
 use Rattle.timers.proofs.Moves.{joined}
-use Rattle.actuator.proofs.Taken.{open-is-taken, open-teaches, barred-is-stopped, barred-keeps, acting-keeps, later, later-joined}
+use Rattle.actuator.proofs.Taken.{dropped-leaves, acting-keeps, later, later-joined}
 use Rattle.buffers.proofs.Splices.{records-none, records-more}
 use Rattle.buffers.proofs.Standing.{Standing, standing-first, standing-more}
 use Rattle.turns.specs.declared.turn.Asked.the-variants.{Nothing, Order}
@@ -261,7 +258,7 @@ module _ (inputs : List ℕ) (n : ℕ) (start : Pair) (before : ℕ) (r₀ a₀ 
     going-asks = let x = asked-for p table l z heard t k r r₁ m moves behind room item u turned kind value orders in (x .0, x .2)
 
     module _ (x : Input) (means : decoded kind value ≡ Meant x) where
-      going-acts : (d : Done) → d ≡ done (act (still (stateOf p table (m .lamp))) x) → (count : ℕ) → count ≡ m .count + length (noted.listed (d .note))
+      pub going-acts : (d : Done) → d ≡ done (act (still (stateOf p table (m .lamp))) x) → (count : ℕ) → count ≡ m .count + length (noted.listed (d .note))
           → (r₂ : List ℕ) → r₂ ≡ splice r₁ (8 * m .count) (recordsOctets (noted.listed (d .note))) → length r₂ ≡ length r
           → (left : List Scene) → left ≡ act (still (stateOf p table (m .lamp))) x .state .scenes
           → Going inputs n start before r₀ a₀ r₂ (set a i (d .answer)) (pairOf (stateOf p left (d .lamp)) (listened r₂ count (u .sensor) (u .heard))) count (i + 1)
@@ -271,19 +268,11 @@ module _ (inputs : List ℕ) (n : ℕ) (start : Pair) (before : ℕ) (r₀ a₀ 
           count (count-acts p table l z heard t k r r₁ m moves behind room item u turned kind value orders x means d does count counts r₂ writes)
           r₂ (records-act p table l z heard t k r r₁ m moves behind room item u turned kind value orders x means d does count counts r₂ writes) same
 
-      -- one that is taken, and one that is stopped
-      pub going-taken : barrier (stateOf p table (m .lamp)) x ≡ Open → (d : Done) → d ≡ doneBy (stateOf p table (m .lamp)) x (order (stateOf p table (m .lamp)) x)
-          → (count : ℕ) → count ≡ m .count + length (noted.listed (d .note))
-          → (r₂ : List ℕ) → r₂ ≡ splice r₁ (8 * m .count) (recordsOctets (noted.listed (d .note))) → length r₂ ≡ length r
-          → (left : List Scene) → left ≡ order (stateOf p table (m .lamp)) x .scenes
-          → Going inputs n start before r₀ a₀ r₂ (set a i (d .answer)) (pairOf (stateOf p left (d .lamp)) (listened r₂ count (u .sensor) (u .heard))) count (i + 1)
-      going-taken free d takes count counts r₂ writes same left teaches =
+      -- one that is dropped writes nothing
+      pub going-dropped : (answer : ℕ) → fate (barrier (stateOf p table (m .lamp)) x) ≡ Dropped answer →
+          Going inputs n start before r₀ a₀ r₁ (set a i answer) (pairOf (stateOf p table (m .lamp)) (listened r₁ (m .count) (u .sensor) (u .heard))) (m .count) (i + 1)
+      unfolding droppedBy
+      going-dropped answer drops =
           let now : State = stateOf p table (m .lamp) in
-          going-acts d (takes ∙ open-is-taken now x free) count counts r₂ writes same left (teaches ∙ open-teaches now x free)
-
-      pub going-stopped : (why : Why) → barrier (stateOf p table (m .lamp)) x ≡ Stopped why →
-          Going inputs n start before r₀ a₀ r₁ (set a i (stoppedNumber why)) (pairOf (stateOf p table (m .lamp)) (listened r₁ (m .count) (u .sensor) (u .heard))) (m .count) (i + 1)
-      unfolding stoppedBy
-      going-stopped why bars =
-          let now : State = stateOf p table (m .lamp) in
-          going-acts (stoppedBy now why) (barred-is-stopped now x why bars) (m .count) (omega arith) r₁ (records-none r₁ (8 * m .count)) long table (barred-keeps now x why bars)
+          let left = dropped-leaves now x answer drops in
+          going-acts (droppedBy now answer) (left .0) (m .count) (omega arith) r₁ (records-none r₁ (8 * m .count)) long table (left .1)

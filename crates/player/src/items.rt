@@ -7,10 +7,10 @@ ghost use Rattle.phases.specs.Room.{Room};
 ghost use Rattle.pairs.specs.Pairs.{pairOf};
 ghost use Rattle.turns.specs.Turns.{listened};
 ghost use Rattle.player.specs.Playing.{Ready, ItemsPlayed, Advanced};
+use actuator::step::Fate;
+use actuator::step::fate_of;
 use actuator::step::scenes_after;
-use actuator::step::stopped_number;
 use actuator::step::take;
-use barriers::barrier::barrier_to;
 use buffers::put::put_note;
 use inputs::known_input;
 use lamps::lamp::Lamp;
@@ -19,7 +19,6 @@ use lamps::lamp::lamp_of;
 use lamps::lamp::state_of;
 use layout::input_place;
 use octets::group::stamp_at;
-use rules::barrier::Barrier;
 use rules::parameters::Params;
 use rules::state::State;
 use sensor::state::Sensor;
@@ -102,9 +101,9 @@ pub fn play_items(
                 i += 1;
             }
             Asked::Order(kind, value) => {
-                let b = barrier_to(moved, kind);
-                match b {
-                    Barrier::Open => {
+                let f = fate_of(moved, kind);
+                match f {
+                    Fate::Counts => {
                         let x = known_input(kind, value);
                         let d = take(p, k, moved, x);
                         let note = d.note;
@@ -117,9 +116,9 @@ pub fn play_items(
                         l = d.lamp;
                         i += 1;
                     }
-                    Barrier::Stopped(why) => {
+                    Fate::Dropped(answer) => {
                         count = m.count;
-                        answers[i as usize] = stopped_number(why);
+                        answers[i as usize] = answer;
                         z = sensor;
                         heard = turn.heard;
                         l = moved;

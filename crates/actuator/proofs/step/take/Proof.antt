@@ -1,9 +1,11 @@
 use Prim.Native.Nat.{_≤_, _<_}
 use mathlib.Core.Logic.{⊎-elim}
+use mathlib.Core.Path.{_∙_}
 use native.Mathlib.Omega.{arith}
 use borrow.Author.Tests.{le-leb, lt-leb}
 use Rattle.rules.specs.Inputs.{kind}
 use Rattle.rules.proofs.Laws.Inputs.{kind-range}
+use Rattle.actuator.proofs.Taken.{counts-when-open, open-is-taken}
 use borrow.Author.Needs.{needs}
 use Rattle.actuator.proofs.step.take.Statement.{statement}
 use Rattle.actuator.proofs.step.take.Tie as tie
@@ -11,17 +13,20 @@ use Rattle.actuator.proofs.step.take.Tie as tie
 take-light-requires : tie.Need-take-light-requires
 take-light-requires c κs =
     let few : kind (c .before .before .before .args .i) ≤ 3 = omega (arith, c .if2 .taken, c .before .before .kind-of .ensures) in
-    (c .before .before .before .pre, le-leb _ 3 few)
+    (c .before .before .before .pre .0, le-leb _ 3 few)
 
 take-other-requires : tie.Need-take-other-requires
 take-other-requires c κs =
     let i = c .before .before .args .i in
     let late : 3 < kind i = rw (← c .before .kind-of .ensures) (⊎-elim (λ none. absurd (omega (arith, none .taken, c .before .kind-of .ensures, kind-range i .0))) (λ more. more .1 .left) (c .if1 .came)) in
-    (c .before .before .pre .room, lt-leb (kind i) 3 late)
+    (c .before .before .pre .0 .room, lt-leb (kind i) 3 late)
+
+returns : tie.Need-returns
+returns c = c .take-light .ensures ∙ open-is-taken _ _ (counts-when-open _ (c .before .before .before .before .pre .1))
 
 returns-2 : tie.Need-returns-2
-returns-2 c = c .take-other .ensures _
+returns-2 c = c .take-other .ensures _ ∙ open-is-taken _ _ (counts-when-open _ (c .before .before .before .pre .1))
 
 pub take-spec : {M : Type 1} → statement M
 take-spec =
-    tie.close (tie.spec (λ c κs. search needs) take-light-requires take-other-requires (λ c. search needs) returns-2)
+    tie.close (tie.spec (λ c κs. search needs) take-light-requires take-other-requires returns returns-2)
