@@ -1,14 +1,16 @@
 -- What an input came to, as the code has it.
 use Prim.Native.Nat.{ℕ}
+use mathlib.Core.Bool.{true, false, cond, _&&_}
 use Rattle.rules.specs.declared.input.Input.{Input}
 use Rattle.rules.specs.declared.state.State.{State}
 use Rattle.rules.specs.declared.barrier.Barrier.{Barrier}
-use Rattle.rules.specs.declared.barrier.Barrier.the-variants.{Open, Stopped}
+use Rattle.rules.specs.declared.barrier.Barrier.the-variants.{Open, Notes, Stopped}
 use Rattle.rules.specs.Inputs.{kind}
-use Rattle.rules.specs.Answers.{stoppedNumber, answer, sameButClock}
+use Rattle.rules.specs.Answers.{stoppedNumber, answer, samePhase, sameFlags, sameButClock}
 use Rattle.rules.specs.Steps.{Stepped}
 use Rattle.records.specs.declared.notes.Note.the-variants.{Silent}
-use Rattle.lamps.specs.Lamps.{lampOf}
+use Rattle.lamps.specs.declared.lamp.Lamp.{Lamp}
+use Rattle.lamps.specs.Lamps.{lampOf, alone}
 use Rattle.actuator.specs.declared.step.Acted.{Acted}
 use Rattle.actuator.specs.declared.step.Acting.{Acting}
 use Rattle.actuator.specs.declared.step.Done.{Done}
@@ -18,7 +20,8 @@ use Rattle.records.specs.Notes.{notes, noteOf, firstOf}
 
 -- what becomes of an input, by what it meets
 unfoldable pub fate : Barrier → Fate
-fate Open = Counts
+fate Open = Counts false
+fate Notes = Counts true
 fate (Stopped why) = Dropped (stoppedNumber why)
 
 -- a whole step
@@ -33,9 +36,16 @@ acting d = record { state = d .state; answer = d .answer; note = firstOf (d .rec
 unfoldable pub done : Stepped → Done
 done d = record { lamp = lampOf (d .state); answer = d .answer; note = firstOf (d .records) }
 
--- one that is taken, and one that is dropped with this answer
-unfoldable pub doneBy : State → Input → State → Done
-doneBy s i after = record { lamp = lampOf after; answer = answer Open (sameButClock s after); note = noteOf (kind i) s after }
+-- one that counts, by what it meets, and one that is dropped with this answer
+unfoldable pub doneBy : Barrier → State → Input → State → Done
+doneBy b s i after = record { lamp = lampOf after; answer = answer b (sameButClock s after); note = noteOf (kind i) s after }
 
 unfoldable pub droppedBy : State → ℕ → Done
 droppedBy s answer = record { lamp = lampOf s; answer = answer; note = Silent }
+
+-- one of this kind that leaves the scene table as it is, and the lamp as it is, or this one with this answer
+unfoldable pub leftBy : ℕ → ℕ → Lamp → Lamp → Done
+leftBy changed kind l after =
+    cond (samePhase (l .phase) (after .phase) && sameFlags (alone l) (alone after))
+    (record { lamp = l; answer = 1; note = Silent })
+    (record { lamp = after; answer = changed; note = noteOf kind (alone l) (alone after) })

@@ -1,12 +1,12 @@
-// One input: the clock moves to its stamp, then it acts, or is dropped for good.
+// One input: the clock moves to its stamp, then it acts, is noted, or is dropped for good.
 ghost use mathlib.Core.Path.{_≡_};
-ghost use mathlib.Core.Bool.{true, false};
+ghost use mathlib.Core.Bool.{Bool, true, false};
 ghost use mathlib.Core.List.{List};
 ghost use Prim.Native.Nat.{_≤_};
 ghost use Rattle.base.specs.Time.{lastStamp};
 ghost use Rattle.rules.specs.declared.parameters.Scene.{Scene};
 ghost use Rattle.rules.specs.Answers.{stoppedNumber, answer, sameScenes};
-ghost use Rattle.rules.specs.Orders.{order};
+ghost use Rattle.rules.specs.Orders.{order, noted};
 ghost use Rattle.rules.specs.Barriers.{rowOf, firstBarrier, barrier};
 ghost use Rattle.rules.specs.Steps.{act, step};
 ghost use Rattle.rules.specs.Lists.{still};
@@ -14,13 +14,14 @@ ghost use Rattle.rules.specs.Soundness.{sound};
 ghost use Rattle.phases.specs.Room.{Room, Roomy};
 ghost use Rattle.lamps.specs.Lamps.{stateOf};
 ghost use Rattle.orders.specs.Lights.{isLight};
-ghost use Rattle.actuator.specs.Acts.{fate, done, doneBy, acting, acted};
+ghost use Rattle.actuator.specs.Acts.{fate, done, doneBy, leftBy, acting, acted};
 use barriers::barrier::barrier_to;
 use inputs::value::is_lesson;
 use inputs::value::kind_of;
 use lamps::lamp;
 use lamps::lamp::Lamp;
 use orders::light_order;
+use orders::noted_value;
 use orders::other_order;
 use orders::table_after;
 use records::notes;
@@ -37,10 +38,10 @@ use states::same::same_lamp;
 use states::same::same_phase;
 use timers::clock::move_clock;
 
-// What becomes of an input at its barrier: it is dropped for good, with this answer, or it counts.
+// What becomes of an input at its barrier: it is dropped for good, with this answer, or it counts, and then it is noted, or taken.
 pub enum Fate {
     Dropped(u8),
-    Counts,
+    Counts(bool),
 }
 
 // What an input that counts does, but for the scene table.
@@ -83,16 +84,22 @@ pub fn fate_of(l: Lamp, kind: u8) -> Fate
 {
     let b = barrier_to(l, kind);
     match b {
-        Barrier::Open => Fate::Counts,
+        Barrier::Open => Fate::Counts(false),
+        Barrier::Notes => Fate::Counts(true),
         Barrier::Stopped(why) => Fate::Dropped(stopped_number(why)),
     }
 }
+
+// The answer octets of inputs that change something.
+const TAKEN: u8 = 0;
+
+const NOTED: u8 = 6;
 
 // The answer octet of an input that is taken.
 fn taken_number(same: bool) -> u8
     ensures { λ r. ⌜ r ≡ answer Barrier.Open same ⌝ }
 {
-    if same { 1 } else { 0 }
+    if same { 1 } else { TAKEN }
 }
 
 // Whether the scene table after an order is the one before it. Only a lesson can change it, so no other input pays for it.
@@ -109,7 +116,7 @@ fn same_table(p: Params, k: [Scene; 8], l: Lamp, i: Input) -> bool
 // An order to the light: a phase that stays shows nothing new.
 fn take_light(p: Params, k: [Scene; 8], l: Lamp, i: Input) -> Done
     requires { ⌜ Roomy p (l .clock) (l .phase) × (isLight i ≡ true) ⌝ }
-    ensures { λ r. ⌜ r ≡ doneBy (stateOf p k l) i (order (stateOf p k l) i) ⌝ }
+    ensures { λ r. ⌜ r ≡ doneBy Barrier.Open (stateOf p k l) i (order (stateOf p k l) i) ⌝ }
 {
     let ph = l.phase;
     let next = light_order(p, k, l, i);
@@ -123,18 +130,16 @@ fn take_light(p: Params, k: [Scene; 8], l: Lamp, i: Input) -> Done
         let after = lamp::with_phase(l, next);
         Done {
             lamp: after,
-            answer: 0,
+            answer: TAKEN,
             note: notes::written(kind_of(i), l, after),
         }
     }
 }
 
-// Any other order: a lamp that stays shows nothing new.
-fn take_other(p: Params, l: Lamp, i: Input) -> Done
-    requires { ⌜ Room p (l .clock) × (isLight i ≡ false) ⌝ }
-    ensures { λ r. ⌜ ((k : List Scene) → r ≡ doneBy (stateOf p k l) i (order (stateOf p k l) i)) ⌝ }
+// What an input comes to that leaves this lamp, and the scene table as it is: a lamp that stays shows nothing new.
+fn left_by(l: Lamp, after: Lamp, kind: u8, changed: u8) -> Done
+    ensures { λ r. ⌜ r ≡ leftBy changed kind l after ⌝ }
 {
-    let after = other_order(p, l, i);
     if same_lamp(l, after) {
         Done {
             lamp: l,
@@ -144,26 +149,47 @@ fn take_other(p: Params, l: Lamp, i: Input) -> Done
     } else {
         Done {
             lamp: after,
-            answer: 0,
-            note: notes::written(kind_of(i), l, after),
+            answer: changed,
+            note: notes::written(kind, l, after),
         }
     }
 }
 
-// An input at the moved clock that counts: kinds 1 to 3 are orders to the light.
-pub fn take(p: Params, k: [Scene; 8], l: Lamp, i: Input) -> Done
-    requires { ⌜ Roomy p (l .clock) (l .phase) × (fate (barrier (stateOf p k l) i) ≡ Fate.Counts) ⌝ }
+// Any other order.
+fn take_other(p: Params, l: Lamp, i: Input) -> Done
+    requires { ⌜ Room p (l .clock) × (isLight i ≡ false) ⌝ }
+    ensures { λ r. ⌜ ((k : List Scene) → r ≡ doneBy Barrier.Open (stateOf p k l) i (order (stateOf p k l) i)) ⌝ }
+{
+    left_by(l, other_order(p, l, i), kind_of(i), TAKEN)
+}
+
+// A value that is noted.
+fn note_value(l: Lamp, i: Input) -> Done
+    ensures { λ r. ⌜ ((p : Params) (k : List Scene) → r ≡ doneBy Barrier.Notes (stateOf p k l) i (noted (stateOf p k l) i)) ⌝ }
+{
+    left_by(l, noted_value(l, i), kind_of(i), NOTED)
+}
+
+// An input at the moved clock that counts: kinds 1 to 3 are orders to the light, and none of them is noted.
+pub fn take(p: Params, k: [Scene; 8], l: Lamp, i: Input, noted: bool) -> Done
+    requires { ⌜ Roomy p (l .clock) (l .phase) × (fate (barrier (stateOf p k l) i) ≡ Fate.Counts noted) ⌝ }
     ensures { λ r. ⌜ r ≡ done (act (still (stateOf p k l)) i) ⌝ }
 {
     match kind_of(i) {
         1..=3 => take_light(p, k, l, i),
-        _ => take_other(p, l, i),
+        _ => {
+            if noted {
+                note_value(l, i)
+            } else {
+                take_other(p, l, i)
+            }
+        }
     }
 }
 
 // The scene table after an input at the moved clock that counts. Only a lesson can change it, so no other input pays for it.
 pub fn scenes_after(p: Params, k: [Scene; 8], l: Lamp, i: Input) -> [Scene; 8]
-    requires { ⌜ fate (barrier (stateOf p k l) i) ≡ Fate.Counts ⌝ }
+    requires { ⌜ ((noted : Bool) × (fate (barrier (stateOf p k l) i) ≡ Fate.Counts noted)) ⌝ }
     ensures { λ r. ⌜ r ≡ act (still (stateOf p k l)) i .state .scenes ⌝ }
 {
     if is_lesson(i) {
@@ -188,8 +214,8 @@ pub fn act_input(s: State, i: Input) -> Acting
             answer,
             note: Note::Silent,
         },
-        Fate::Counts => {
-            let d = take(p, k, l, i);
+        Fate::Counts(noted) => {
+            let d = take(p, k, l, i, noted);
             let after = d.lamp;
             let note = d.note;
             Acting {

@@ -1,14 +1,16 @@
-// What an input does, where nothing stops it: to the light, to what outranks the light, and to the scene table. The order is chosen by
-// the number of its kind; what it does to the phase is told by a small function for each order (phases::order).
+// What an input does, where nothing stops it: to the light, to what outranks the light, and to the scene table; and what a value changes that
+// is only noted. The order is chosen by the number of its kind; what it does to the phase is told by a small function for each order
+// (phases::order).
 ghost use mathlib.Core.Path.{_≡_};
 ghost use mathlib.Core.Bool.{true, false};
 ghost use mathlib.Core.List.{List};
 ghost use Rattle.rules.specs.declared.parameters.Scene.{Scene};
-ghost use Rattle.rules.specs.Orders.{order};
+ghost use Rattle.rules.specs.Orders.{order, noted};
 ghost use Rattle.phases.specs.Room.{Room, Roomy};
-ghost use Rattle.lamps.specs.Lamps.{lampOf, stateOf};
+ghost use Rattle.lamps.specs.Lamps.{lampOf, stateOf, alone};
 ghost use Rattle.orders.specs.Lights.{asks, isLight, lightPhase};
 use inputs::value;
+use lamps::lamp;
 use lamps::lamp::Lamp;
 use overrides::force;
 use overrides::link;
@@ -56,6 +58,17 @@ pub fn other_order(p: Params, l: Lamp, i: Input) -> Lamp
         6 => light::night_order(p, l, value::switch_in(i)),
         7 => link::bus_event(p, l, link, value::event_in(i)),
         8 => link::power_event(p, l, link, value::event_in(i)),
+        _ => l,
+    }
+}
+
+// The lamp after a value that is noted. No other kind sets a value.
+pub fn noted_value(l: Lamp, i: Input) -> Lamp
+    ensures { λ r. ⌜ r ≡ lampOf (noted (alone l) i) ⌝ }
+{
+    match value::kind_of(i) {
+        4 => lamp::with_force(l, value::force_in(i)),
+        6 => lamp::with_night(l, value::switch_in(i)),
         _ => l,
     }
 }
