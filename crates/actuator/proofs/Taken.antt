@@ -21,7 +21,7 @@ use Rattle.rules.specs.Answers.{answer, samePhase, sameFlags, sameScenes, sameB
 use Rattle.rules.specs.Steps.{Stepped, clockMove, counted, meet, act, step}
 use Rattle.rules.specs.Lists.{Played, still}
 use Rattle.rules.specs.Said.{scenesAfter}
-use Rattle.base.proofs.Tests.{no, cond-case, eqb-same, beq-same}
+use Rattle.base.proofs.Tests.{no, eqb-same, beq-same}
 use Rattle.rules.proofs.Laws.Orders.{order-leaves, noted-leaves}
 use Rattle.rules.proofs.Laws.Barriers.{NotedWhere, noted-where}
 use Rattle.rules.proofs.Laws.Answers.{same-but-clock-is-exact, scenes-same}
@@ -40,7 +40,7 @@ use Rattle.actuator.specs.declared.step.Fate.the-variants.{Dropped, Coun
 use Rattle.records.specs.declared.notes.Note.the-variants.{Silent}
 use Rattle.records.specs.Notes.{noteOf, added}
 use Rattle.timers.specs.Ticks.{clocked}
-use Rattle.actuator.specs.Acts.{fate, acting, done, doneBy, droppedBy, leftBy, acted}
+use Rattle.actuator.specs.Acts.{fate, meeting, after, acting, done, doneBy, droppedBy, acted}
 use Rattle.timers.proofs.Moves.{joined}
 use Rattle.records.proofs.Written.{first-written, added-first}
 
@@ -95,39 +95,47 @@ module _ (p : Params) (k : List Scene) (l : Lamp) (i : Input) where
     pub light-changes : samePhase (l .phase) next ≡ false → (samePhase (l .phase) next && sameFlags (alone l) (withPhase (alone l) next)) ≡ false
     light-changes e = rw e refl
 
-  -- what leaves the scene table and the clock
-  left : (b : Barrier) (changed : ℕ) → answer b true ≡ 1 → answer b false ≡ changed → (after : Lamp) → after .clock ≡ l .clock → leftBy changed (kind i) l after ≡ doneBy b met i (stateOf p k after)
-  unfolding leftBy
-  left b changed one other after clock =
-      cond-case (λ (d : Done). d ≡ doneBy b met i (stateOf p k after)) (samePhase (l .phase) (after .phase) && sameFlags (alone l) (alone after)) _ _
-      (λ same. rw (← same-lamp l after (sym clock) same) (rw (scenes-same k, one) at (stays b k)))
-      (λ differs. rw other at (changes b k after differs))
+-- ---- what is no order to the light, taken or noted
 
-  -- any other order
-  pub other-leaves : isLight i ≡ false → (after : Lamp) → after ≡ lampOf (order met i) → leftBy 0 (kind i) l after ≡ doneBy Open met i (order met i)
-  other-leaves other after e =
-      let kept : table ≡ k = other-orders-keep-the-table met i other in
-      left Open 0 refl refl after (ap (λ (x : Lamp). x .clock) e ∙ order-leaves met i .clock)
-      ∙ ap (doneBy Open met i) (ap (λ (t : List Scene). stateOf p t after) (sym kept) ∙ order-joined after (sym e))
+-- it leaves the parameters, the scene table and the clock
+other-keeps : (b : Bool) (s : State) (i : Input) → isLight i ≡ false → (after (meeting b) s i .params ≡ s .params) × (after (meeting b) s i .scenes ≡ s .scenes) × (after (meeting b) s i .clock ≡ s .clock)
+unfolding meeting after
+other-keeps false s i other = (order-leaves s i .params, other-orders-keep-the-table s i other, order-leaves s i .clock)
+other-keeps true s i other = let k = noted-leaves s i in (k .params, k .scenes, k .clock)
 
-  -- a value that is noted, whatever the parameters and the table
-  pub note-leaves : leftBy 6 (kind i) l (lampOf (noted (alone l) i)) ≡ doneBy Notes met i (noted met i)
-  note-leaves =
-      let kept = noted-leaves met i in
-      let same : lampOf (noted (alone l) i) ≡ lampOf (noted met i) = noted-alike i in
-      rw same
-      (left Notes 6 refl refl (lampOf (noted met i)) (kept .clock)
-      ∙ ap (doneBy Notes met i) (joined (noted met i) p k (kept .params) (kept .scenes)))
-    where
-      noted-alike : (i : Input) → lampOf (noted (alone l) i) ≡ lampOf (noted met i)
-      noted-alike (SwitchOnOff value) = unfold noted in refl
-      noted-alike (TimedStartStop value) = unfold noted in refl
-      noted-alike (NumberedSceneControl learns number) = unfold noted in refl
-      noted-alike (SwitchOnOffForced force) = unfold noted in refl
-      noted-alike (LockDevice value) = unfold noted in refl
-      noted-alike (NightMode value) = unfold noted in refl
-      noted-alike (Bus event) = unfold noted in refl
-      noted-alike (Power event) = unfold noted in refl
+unchanged-is-1 : (b : Bool) → answer (meeting b) true ≡ 1
+unfolding meeting
+unchanged-is-1 false = refl
+unchanged-is-1 true = refl
+
+module _ (p : Params) (k : List Scene) (l : Lamp) (i : Input) (b : Bool) (other : isLight i ≡ false) (next : Lamp) (leads : next ≡ lampOf (after (meeting b) (stateOf p k l) i)) where
+  abbrev reached : State
+  reached = after (meeting b) (stateOf p k l) i
+
+  parts : stateOf p k next ≡ reached
+  parts = let kept = other-keeps b (stateOf p k l) i other in rw leads (joined reached p k (kept .0) (kept .1))
+
+  pub other-stays : (samePhase (l .phase) (next .phase) && sameFlags (alone l) (alone next)) ≡ true → record { lamp = l; answer = 1; note = Silent } ≡ doneBy (meeting b) (stateOf p k l) i reached
+  other-stays same =
+      let clock : l .clock ≡ next .clock = sym (ap (λ (x : Lamp). x .clock) leads ∙ other-keeps b (stateOf p k l) i other .2) in
+      let here : stateOf p k l ≡ reached = ap (stateOf p k) (same-lamp l next clock same) ∙ parts in
+      rw (scenes-same k, unchanged-is-1 b) at (stays p k l i (meeting b) k) ∙ ap (doneBy (meeting b) (stateOf p k l) i) here
+
+  pub other-changes : (samePhase (l .phase) (next .phase) && sameFlags (alone l) (alone next)) ≡ false →
+      record { lamp = next; answer = answer (meeting b) false; note = noteOf (kind i) (alone l) (alone next) } ≡ doneBy (meeting b) (stateOf p k l) i reached
+  other-changes differs = changes p k l i (meeting b) k next differs ∙ ap (doneBy (meeting b) (stateOf p k l) i) parts
+
+-- a value that is noted, whatever the parameters and the table
+pub noted-alone : (p : Params) (k : List Scene) (l : Lamp) (i : Input) → lampOf (noted (alone l) i) ≡ lampOf (noted (stateOf p k l) i)
+unfolding noted
+noted-alone p k l (SwitchOnOff value) = refl
+noted-alone p k l (TimedStartStop value) = refl
+noted-alone p k l (NumberedSceneControl learns number) = refl
+noted-alone p k l (SwitchOnOffForced force) = refl
+noted-alone p k l (LockDevice value) = refl
+noted-alone p k l (NightMode value) = refl
+noted-alone p k l (Bus event) = refl
+noted-alone p k l (Power event) = refl
 
 -- ---- at the moved clock
 
@@ -140,31 +148,29 @@ dropped-or-counts : {A : Type 0} {answer : ℕ} {noted : Bool} → Dropped answe
 dropped-or-counts e = absurd (let z : _≡_ {A = ℕ} 0 1 = cc in omega arith)
 
 -- an input that counts is taken where it is free, and else noted
-pub counts-when-open : (b : Barrier) → fate b ≡ Counts false → b ≡ Open
+counts-when-open : (b : Barrier) → fate b ≡ Counts false → b ≡ Open
 unfolding fate
 counts-when-open Open e = refl
 counts-when-open Notes e = no cc
 counts-when-open (Stopped why) e = dropped-or-counts e
 
-pub counts-when-noted : (b : Barrier) → fate b ≡ Counts true → b ≡ Notes
+counts-when-noted : (b : Barrier) → fate b ≡ Counts true → b ≡ Notes
 unfolding fate
 counts-when-noted Open e = no cc
 counts-when-noted Notes e = refl
 counts-when-noted (Stopped why) e = dropped-or-counts e
 
 module _ (s : State) (i : Input) where
-  pub open-is-taken : barrier s i ≡ Open → doneBy Open s i (order s i) ≡ done (act (still s) i)
-  unfolding doneBy done act meet counted
-  open-is-taken free = rw (free, first-written (kind i) s (order s i)) refl
-
-  pub held-back-is-noted : barrier s i ≡ Notes → doneBy Notes s i (noted s i) ≡ done (act (still s) i)
-  unfolding doneBy done act meet counted
-  held-back-is-noted way = rw (way, first-written (kind i) s (noted s i)) refl
+  pub counts-is-done : (noted : Bool) → fate (barrier s i) ≡ Counts noted → doneBy (meeting noted) s i (after (meeting noted) s i) ≡ done (act (still s) i)
+  unfolding meeting after doneBy done act meet counted
+  counts-is-done false e = rw (counts-when-open (barrier s i) e, first-written (kind i) s (order s i)) refl
+  counts-is-done true e = rw (counts-when-noted (barrier s i) e, first-written (kind i) s (noted s i)) refl
 
   -- an order to the light is not noted
-  pub light-is-open : (noted : Bool) → isLight i ≡ true → fate (barrier s i) ≡ Counts noted → barrier s i ≡ Open
-  light-is-open false light e = counts-when-open (barrier s i) e
-  light-is-open true light e = absurd (go i light (noted-where s i (counts-when-noted (barrier s i) e)))
+  pub light-is-done : (noted : Bool) → isLight i ≡ true → fate (barrier s i) ≡ Counts noted → doneBy Open s i (order s i) ≡ done (act (still s) i)
+  unfolding meeting after
+  light-is-done false light e = counts-is-done false e
+  light-is-done true light e = absurd (go i light (noted-where s i (counts-when-noted (barrier s i) e)))
     where
       go : (i : Input) → isLight i ≡ true → NotedWhere s i → ⊥
       go (SwitchOnOffForced force) light w = no light

@@ -1,16 +1,16 @@
 -- What an input came to, as the code has it.
 use Prim.Native.Nat.{ℕ}
-use mathlib.Core.Bool.{true, false, cond, _&&_}
+use mathlib.Core.Bool.{Bool, true, false}
 use Rattle.rules.specs.declared.input.Input.{Input}
 use Rattle.rules.specs.declared.state.State.{State}
 use Rattle.rules.specs.declared.barrier.Barrier.{Barrier}
 use Rattle.rules.specs.declared.barrier.Barrier.the-variants.{Open, Notes, Stopped}
 use Rattle.rules.specs.Inputs.{kind}
-use Rattle.rules.specs.Answers.{stoppedNumber, answer, samePhase, sameFlags, sameButClock}
+use Rattle.rules.specs.Orders.{order, noted}
+use Rattle.rules.specs.Answers.{stoppedNumber, answer, sameButClock}
 use Rattle.rules.specs.Steps.{Stepped}
 use Rattle.records.specs.declared.notes.Note.the-variants.{Silent}
-use Rattle.lamps.specs.declared.lamp.Lamp.{Lamp}
-use Rattle.lamps.specs.Lamps.{lampOf, alone}
+use Rattle.lamps.specs.Lamps.{lampOf}
 use Rattle.actuator.specs.declared.step.Acted.{Acted}
 use Rattle.actuator.specs.declared.step.Acting.{Acting}
 use Rattle.actuator.specs.declared.step.Done.{Done}
@@ -23,6 +23,16 @@ unfoldable pub fate : Barrier → Fate
 fate Open = Counts false
 fate Notes = Counts true
 fate (Stopped why) = Dropped (stoppedNumber why)
+
+-- what an input meets that counts, and what it then leaves
+unfoldable pub meeting : Bool → Barrier
+meeting false = Open
+meeting true = Notes
+
+unfoldable pub after : Barrier → State → Input → State
+after Open s i = order s i
+after Notes s i = noted s i
+after (Stopped why) s i = s
 
 -- a whole step
 unfoldable pub acted : Stepped → Acted
@@ -42,10 +52,3 @@ doneBy b s i after = record { lamp = lampOf after; answer = answer b (sameButClo
 
 unfoldable pub droppedBy : State → ℕ → Done
 droppedBy s answer = record { lamp = lampOf s; answer = answer; note = Silent }
-
--- one of this kind that leaves the scene table as it is, and the lamp as it is, or this one with this answer
-unfoldable pub leftBy : ℕ → ℕ → Lamp → Lamp → Done
-leftBy changed kind l after =
-    cond (samePhase (l .phase) (after .phase) && sameFlags (alone l) (alone after))
-    (record { lamp = l; answer = 1; note = Silent })
-    (record { lamp = after; answer = changed; note = noteOf kind (alone l) (alone after) })

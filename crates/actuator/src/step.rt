@@ -6,15 +6,15 @@ ghost use Prim.Native.Nat.{_≤_};
 ghost use Rattle.base.specs.Time.{lastStamp};
 ghost use Rattle.rules.specs.declared.parameters.Scene.{Scene};
 ghost use Rattle.rules.specs.Answers.{stoppedNumber, answer, sameScenes};
-ghost use Rattle.rules.specs.Orders.{order, noted};
+ghost use Rattle.rules.specs.Orders.{order};
 ghost use Rattle.rules.specs.Barriers.{rowOf, firstBarrier, barrier};
 ghost use Rattle.rules.specs.Steps.{act, step};
 ghost use Rattle.rules.specs.Lists.{still};
 ghost use Rattle.rules.specs.Soundness.{sound};
 ghost use Rattle.phases.specs.Room.{Room, Roomy};
-ghost use Rattle.lamps.specs.Lamps.{stateOf};
+ghost use Rattle.lamps.specs.Lamps.{lampOf, stateOf};
 ghost use Rattle.orders.specs.Lights.{isLight};
-ghost use Rattle.actuator.specs.Acts.{fate, done, doneBy, leftBy, acting, acted};
+ghost use Rattle.actuator.specs.Acts.{fate, meeting, after, done, doneBy, acting, acted};
 use barriers::barrier::barrier_to;
 use inputs::value::is_lesson;
 use inputs::value::kind_of;
@@ -90,12 +90,18 @@ pub fn fate_of(l: Lamp, kind: u8) -> Fate
     }
 }
 
-// The answer octets of inputs that change something.
+// The answer octet of an input that is taken and changes something, and of one that is noted and does.
 const TAKEN: u8 = 0;
 
 const NOTED: u8 = 6;
 
-// The answer octet of an input that is taken.
+fn changed_number(noted: bool) -> u8
+    ensures { λ r. ⌜ r ≡ answer (meeting noted) false ⌝ }
+{
+    if noted { NOTED } else { TAKEN }
+}
+
+// The answer octet of an order that is taken.
 fn taken_number(same: bool) -> u8
     ensures { λ r. ⌜ r ≡ answer Barrier.Open same ⌝ }
 {
@@ -136,10 +142,24 @@ fn take_light(p: Params, k: [Scene; 8], l: Lamp, i: Input) -> Done
     }
 }
 
-// What an input comes to that leaves this lamp, and the scene table as it is: a lamp that stays shows nothing new.
-fn left_by(l: Lamp, after: Lamp, kind: u8, changed: u8) -> Done
-    ensures { λ r. ⌜ r ≡ leftBy changed kind l after ⌝ }
+// The lamp after any other input: after its order, or with its value, which is only noted.
+fn other_lamp(p: Params, l: Lamp, i: Input, noted: bool) -> Lamp
+    requires { ⌜ Room p (l .clock) × (isLight i ≡ false) ⌝ }
+    ensures { λ r. ⌜ ((k : List Scene) → r ≡ lampOf (after (meeting noted) (stateOf p k l) i)) ⌝ }
 {
+    if noted {
+        noted_value(l, i)
+    } else {
+        other_order(p, l, i)
+    }
+}
+
+// Any other input, taken or noted: a lamp that stays shows nothing new.
+fn take_other(p: Params, l: Lamp, i: Input, noted: bool) -> Done
+    requires { ⌜ Room p (l .clock) × (isLight i ≡ false) ⌝ }
+    ensures { λ r. ⌜ ((k : List Scene) → r ≡ doneBy (meeting noted) (stateOf p k l) i (after (meeting noted) (stateOf p k l) i)) ⌝ }
+{
+    let after = other_lamp(p, l, i, noted);
     if same_lamp(l, after) {
         Done {
             lamp: l,
@@ -149,25 +169,10 @@ fn left_by(l: Lamp, after: Lamp, kind: u8, changed: u8) -> Done
     } else {
         Done {
             lamp: after,
-            answer: changed,
-            note: notes::written(kind, l, after),
+            answer: changed_number(noted),
+            note: notes::written(kind_of(i), l, after),
         }
     }
-}
-
-// Any other order.
-fn take_other(p: Params, l: Lamp, i: Input) -> Done
-    requires { ⌜ Room p (l .clock) × (isLight i ≡ false) ⌝ }
-    ensures { λ r. ⌜ ((k : List Scene) → r ≡ doneBy Barrier.Open (stateOf p k l) i (order (stateOf p k l) i)) ⌝ }
-{
-    left_by(l, other_order(p, l, i), kind_of(i), TAKEN)
-}
-
-// A value that is noted.
-fn note_value(l: Lamp, i: Input) -> Done
-    ensures { λ r. ⌜ ((p : Params) (k : List Scene) → r ≡ doneBy Barrier.Notes (stateOf p k l) i (noted (stateOf p k l) i)) ⌝ }
-{
-    left_by(l, noted_value(l, i), kind_of(i), NOTED)
 }
 
 // An input at the moved clock that counts: kinds 1 to 3 are orders to the light, and none of them is noted.
@@ -177,13 +182,7 @@ pub fn take(p: Params, k: [Scene; 8], l: Lamp, i: Input, noted: bool) -> Done
 {
     match kind_of(i) {
         1..=3 => take_light(p, k, l, i),
-        _ => {
-            if noted {
-                note_value(l, i)
-            } else {
-                take_other(p, l, i)
-            }
-        }
+        _ => take_other(p, l, i, noted),
     }
 }
 
