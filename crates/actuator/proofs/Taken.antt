@@ -40,7 +40,7 @@ use Rattle.actuator.specs.declared.step.Fate.the-variants.{Dropped, Coun
 use Rattle.records.specs.declared.notes.Note.the-variants.{Silent}
 use Rattle.records.specs.Notes.{noteOf, added}
 use Rattle.timers.specs.Ticks.{clocked}
-use Rattle.actuator.specs.Acts.{fate, meeting, after, acting, done, doneBy, droppedBy, acted}
+use Rattle.actuator.specs.Acts.{fate, isNoted, meeting, after, acting, done, doneBy, droppedBy, acted}
 use Rattle.timers.proofs.Moves.{joined}
 use Rattle.records.proofs.Written.{first-written, added-first}
 
@@ -142,51 +142,52 @@ noted-alone p k l (Power event) = refl
 -- the answer that a dropped input gets
 abbrev answerIn : Fate → ℕ
 answerIn (Dropped answer) = answer
-answerIn (Counts noted) = 0
+answerIn Counts = 0
 
-dropped-or-counts : {A : Type 0} {answer : ℕ} {noted : Bool} → Dropped answer ≡ Counts noted → A
+dropped-or-counts : {A : Type 0} {answer : ℕ} → Dropped answer ≡ Counts → A
 dropped-or-counts e = absurd (let z : _≡_ {A = ℕ} 0 1 = cc in omega arith)
 
--- an input that counts is taken where it is free, and else noted
-counts-when-open : (b : Barrier) → fate b ≡ Counts false → b ≡ Open
-unfolding fate
-counts-when-open Open e = refl
-counts-when-open Notes e = no cc
-counts-when-open (Stopped why) e = dropped-or-counts e
-
-counts-when-noted : (b : Barrier) → fate b ≡ Counts true → b ≡ Notes
-unfolding fate
-counts-when-noted Open e = no cc
-counts-when-noted Notes e = refl
-counts-when-noted (Stopped why) e = dropped-or-counts e
-
 module _ (s : State) (i : Input) where
-  pub counts-is-done : (noted : Bool) → fate (barrier s i) ≡ Counts noted → doneBy (meeting noted) s i (after (meeting noted) s i) ≡ done (act (still s) i)
-  unfolding meeting after doneBy done act meet counted
-  counts-is-done false e = rw (counts-when-open (barrier s i) e, first-written (kind i) s (order s i)) refl
-  counts-is-done true e = rw (counts-when-noted (barrier s i) e, first-written (kind i) s (noted s i)) refl
+  -- an input that counts is taken where it is free, and else noted
+  pub counts-is-done : fate (barrier s i) ≡ Counts → let b : Barrier = meeting (isNoted (barrier s i)) in doneBy b s i (after b s i) ≡ done (act (still s) i)
+  unfolding act
+  counts-is-done = go (barrier s i)
+    where
+      go : (x : Barrier) → fate x ≡ Counts → doneBy (meeting (isNoted x)) s i (after (meeting (isNoted x)) s i) ≡ done (meet x (still s) i)
+      go Open e = unfold isNoted meeting after doneBy done meet counted in rw (first-written (kind i) s (order s i)) refl
+      go Notes e = unfold isNoted meeting after doneBy done meet counted in rw (first-written (kind i) s (noted s i)) refl
+      go (Stopped why) e = unfold fate in dropped-or-counts e
 
-  -- an order to the light is not noted
-  pub light-is-done : (noted : Bool) → isLight i ≡ true → fate (barrier s i) ≡ Counts noted → doneBy Open s i (order s i) ≡ done (act (still s) i)
-  unfolding meeting after
-  light-is-done false light e = counts-is-done false e
-  light-is-done true light e = absurd (go i light (noted-where s i (counts-when-noted (barrier s i) e)))
+  light-is-not-noted : isLight i ≡ true → barrier s i ≡ Notes → ⊥
+  light-is-not-noted light way = go i light (noted-where s i way)
     where
       go : (i : Input) → isLight i ≡ true → NotedWhere s i → ⊥
       go (SwitchOnOffForced force) light w = no light
       go (NightMode value) light w = no light
 
+  -- an order to the light is taken
+  pub light-is-done : isLight i ≡ true → fate (barrier s i) ≡ Counts → doneBy Open s i (order s i) ≡ done (act (still s) i)
+  unfolding act
+  light-is-done light = go (barrier s i) refl
+    where
+      go : (x : Barrier) → barrier s i ≡ x → fate x ≡ Counts → doneBy Open s i (order s i) ≡ done (meet x (still s) i)
+      go Open way e = unfold doneBy done meet counted in rw (first-written (kind i) s (order s i)) refl
+      go Notes way e = absurd (light-is-not-noted light way)
+      go (Stopped why) way e = unfold fate in dropped-or-counts e
+
   -- the scene table is that of the order: what is noted teaches nothing, and neither would its order
-  pub counts-teaches : (noted : Bool) → fate (barrier s i) ≡ Counts noted → order s i .scenes ≡ act (still s) i .state .scenes
-  unfolding act meet counted
-  counts-teaches false e = rw (counts-when-open (barrier s i) e) refl
-  counts-teaches true e =
-      let way = counts-when-noted (barrier s i) e in
-      rw way (order-leaves s i .scenes ∙ untaught i (noted-where s i way) ∙ sym (noted-leaves s i .scenes))
+  pub counts-teaches : fate (barrier s i) ≡ Counts → order s i .scenes ≡ act (still s) i .state .scenes
+  unfolding act
+  counts-teaches = go (barrier s i) refl
     where
       untaught : (i : Input) → NotedWhere s i → scenesAfter s i ≡ s .scenes
       untaught (SwitchOnOffForced force) w = refl
       untaught (NightMode value) w = refl
+
+      go : (x : Barrier) → barrier s i ≡ x → fate x ≡ Counts → order s i .scenes ≡ meet x (still s) i .state .scenes
+      go Open way e = unfold meet counted in refl
+      go Notes way e = unfold meet counted in order-leaves s i .scenes ∙ untaught i (noted-where s i way) ∙ sym (noted-leaves s i .scenes)
+      go (Stopped why) way e = unfold fate in dropped-or-counts e
 
   -- nothing is left of a dropped input but its answer
   pub dropped-leaves : (answer : ℕ) → fate (barrier s i) ≡ Dropped answer → (droppedBy s answer ≡ done (act (still s) i)) × (s .scenes ≡ act (still s) i .state .scenes)

@@ -20,9 +20,15 @@ use Rattle.records.specs.Notes.{notes, noteOf, firstOf}
 
 -- what becomes of an input, by what it meets
 unfoldable pub fate : Barrier → Fate
-fate Open = Counts false
-fate Notes = Counts true
+fate Open = Counts
+fate Notes = Counts
 fate (Stopped why) = Dropped (stoppedNumber why)
+
+-- whether it is only noted
+unfoldable pub isNoted : Barrier → Bool
+isNoted Open = false
+isNoted Notes = true
+isNoted (Stopped why) = false
 
 -- what an input meets that counts, and what it then leaves
 unfoldable pub meeting : Bool → Barrier

@@ -1,20 +1,20 @@
 // One input: the clock moves to its stamp, then it acts, is noted, or is dropped for good.
 ghost use mathlib.Core.Path.{_≡_};
-ghost use mathlib.Core.Bool.{Bool, true, false};
+ghost use mathlib.Core.Bool.{true, false};
 ghost use mathlib.Core.List.{List};
 ghost use Prim.Native.Nat.{_≤_};
 ghost use Rattle.base.specs.Time.{lastStamp};
 ghost use Rattle.rules.specs.declared.parameters.Scene.{Scene};
 ghost use Rattle.rules.specs.Answers.{stoppedNumber, answer, sameScenes};
 ghost use Rattle.rules.specs.Orders.{order};
-ghost use Rattle.rules.specs.Barriers.{rowOf, firstBarrier, barrier};
+ghost use Rattle.rules.specs.Barriers.{barrierTo, barrier};
 ghost use Rattle.rules.specs.Steps.{act, step};
 ghost use Rattle.rules.specs.Lists.{still};
 ghost use Rattle.rules.specs.Soundness.{sound};
 ghost use Rattle.phases.specs.Room.{Room, Roomy};
 ghost use Rattle.lamps.specs.Lamps.{lampOf, stateOf};
 ghost use Rattle.orders.specs.Lights.{isLight};
-ghost use Rattle.actuator.specs.Acts.{fate, meeting, after, done, doneBy, acting, acted};
+ghost use Rattle.actuator.specs.Acts.{fate, isNoted, meeting, after, done, doneBy, acting, acted};
 use barriers::barrier::barrier_to;
 use inputs::value::is_lesson;
 use inputs::value::kind_of;
@@ -38,10 +38,10 @@ use states::same::same_lamp;
 use states::same::same_phase;
 use timers::clock::move_clock;
 
-// What becomes of an input at its barrier: it is dropped for good, with this answer, or it counts, and then it is noted, or taken.
+// What becomes of an input at its barrier: it is dropped for good, with this answer, or it counts, taken or noted.
 pub enum Fate {
     Dropped(u8),
-    Counts(bool),
+    Counts,
 }
 
 // What an input that counts does, but for the scene table.
@@ -80,12 +80,12 @@ fn stopped_number(why: Why) -> u8
 // What becomes of an input of a kind, once the clock has moved: the one place where an input meets its barrier.
 pub fn fate_of(l: Lamp, kind: u8) -> Fate
     requires { ⌜ (1 ≤ kind) × (kind ≤ 8) ⌝ }
-    ensures { λ r. ⌜ r ≡ fate (firstBarrier (rowOf kind) (l .link) (l .lock) (l .force)) ⌝ }
+    ensures { λ r. ⌜ r ≡ fate (barrierTo kind (l .link) (l .lock) (l .force)) ⌝ }
 {
     let b = barrier_to(l, kind);
     match b {
-        Barrier::Open => Fate::Counts(false),
-        Barrier::Notes => Fate::Counts(true),
+        Barrier::Open => Fate::Counts,
+        Barrier::Notes => Fate::Counts,
         Barrier::Stopped(why) => Fate::Dropped(stopped_number(why)),
     }
 }
@@ -175,20 +175,34 @@ fn take_other(p: Params, l: Lamp, i: Input, noted: bool) -> Done
     }
 }
 
+// Whether an input of a kind is only noted. This is asked of inputs that are no orders to the light, and not handed on by `fate_of`: no other
+// input pays for it then.
+fn is_noted(l: Lamp, kind: u8) -> bool
+    requires { ⌜ (1 ≤ kind) × (kind ≤ 8) ⌝ }
+    ensures { λ r. ⌜ r ≡ isNoted (barrierTo kind (l .link) (l .lock) (l .force)) ⌝ }
+{
+    let b = barrier_to(l, kind);
+    match b {
+        Barrier::Open => false,
+        Barrier::Notes => true,
+        Barrier::Stopped(_) => false,
+    }
+}
+
 // An input at the moved clock that counts: kinds 1 to 3 are orders to the light, and none of them is noted.
-pub fn take(p: Params, k: [Scene; 8], l: Lamp, i: Input, noted: bool) -> Done
-    requires { ⌜ Roomy p (l .clock) (l .phase) × (fate (barrier (stateOf p k l) i) ≡ Fate.Counts noted) ⌝ }
+pub fn take(p: Params, k: [Scene; 8], l: Lamp, i: Input) -> Done
+    requires { ⌜ Roomy p (l .clock) (l .phase) × (fate (barrier (stateOf p k l) i) ≡ Fate.Counts) ⌝ }
     ensures { λ r. ⌜ r ≡ done (act (still (stateOf p k l)) i) ⌝ }
 {
     match kind_of(i) {
         1..=3 => take_light(p, k, l, i),
-        _ => take_other(p, l, i, noted),
+        _ => take_other(p, l, i, is_noted(l, kind_of(i))),
     }
 }
 
 // The scene table after an input at the moved clock that counts. Only a lesson can change it, so no other input pays for it.
 pub fn scenes_after(p: Params, k: [Scene; 8], l: Lamp, i: Input) -> [Scene; 8]
-    requires { ⌜ ((noted : Bool) × (fate (barrier (stateOf p k l) i) ≡ Fate.Counts noted)) ⌝ }
+    requires { ⌜ fate (barrier (stateOf p k l) i) ≡ Fate.Counts ⌝ }
     ensures { λ r. ⌜ r ≡ act (still (stateOf p k l)) i .state .scenes ⌝ }
 {
     if is_lesson(i) {
@@ -213,8 +227,8 @@ pub fn act_input(s: State, i: Input) -> Acting
             answer,
             note: Note::Silent,
         },
-        Fate::Counts(noted) => {
-            let d = take(p, k, l, i, noted);
+        Fate::Counts => {
+            let d = take(p, k, l, i);
             let after = d.lamp;
             let note = d.note;
             Acting {

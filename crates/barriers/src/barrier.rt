@@ -1,7 +1,7 @@
 // Which input counts: the barriers of each kind as one table, and the first that an input meets.
 ghost use mathlib.Core.Path.{_≡_};
 ghost use Prim.Native.Nat.{_≤_};
-ghost use Rattle.rules.specs.Barriers.{rowOf, outranked, firstBarrier};
+ghost use Rattle.rules.specs.Barriers.{rowOf, setsValue, firstBarrier, outranked, barrierTo};
 use base::logic::both;
 use lamps::flags::bus_is_down;
 use lamps::flags::power_is_down;
@@ -13,30 +13,20 @@ use rules::barrier::Why;
 use rules::input::Force;
 use rules::state::Link;
 
-// What stops "the low inputs: switch, timed, scene, night". Of these night sets a value.
+// What stops "the low inputs: switch, timed, scene, night".
 const LOW: Row = Row {
     power: true,
     bus: true,
     lock: true,
     force: true,
-    value: false,
 };
 
-const NIGHT: Row = Row {
-    power: true,
-    bus: true,
-    lock: true,
-    force: true,
-    value: true,
-};
-
-// What stops a forced input, which sets a value too, a lock, and the events of the bus and of the power.
+// What stops a forced input, a lock, and the events of the bus and of the power.
 const FORCED: Row = Row {
     power: true,
     bus: true,
     lock: true,
     force: false,
-    value: true,
 };
 
 const LOCK: Row = Row {
@@ -44,7 +34,6 @@ const LOCK: Row = Row {
     bus: true,
     lock: false,
     force: false,
-    value: false,
 };
 
 const BUS: Row = Row {
@@ -52,7 +41,6 @@ const BUS: Row = Row {
     bus: false,
     lock: false,
     force: false,
-    value: false,
 };
 
 const POWER: Row = Row {
@@ -60,7 +48,6 @@ const POWER: Row = Row {
     bus: false,
     lock: false,
     force: false,
-    value: false,
 };
 
 // The table: a row for each kind, from 1 SwitchOnOff to 8 power. It is read by a match, so that it is not built anew for every input.
@@ -74,20 +61,20 @@ fn row_of(kind: u8) -> Row
         3 => LOW,
         4 => FORCED,
         5 => LOCK,
-        6 => NIGHT,
+        6 => LOW,
         7 => BUS,
         _ => POWER,
     }
 }
 
-// What lock or force does to an input that it outranks: a value is noted.
-fn outranked(value: bool, why: Why) -> Barrier
-    ensures { λ r. ⌜ r ≡ outranked value why ⌝ }
+// Beside the table, the kinds that set a value: force and night.
+fn sets_value(kind: u8) -> bool
+    ensures { λ r. ⌜ r ≡ setsValue kind ⌝ }
 {
-    if value {
-        Barrier::Notes
-    } else {
-        Barrier::Stopped(why)
+    match kind {
+        4 => true,
+        6 => true,
+        _ => false,
     }
 }
 
@@ -102,20 +89,49 @@ fn first_barrier(row: Row, link: Link, lock: bool, force: Force) -> Barrier
         return Barrier::Stopped(Why::NoBus);
     }
     if both(row.lock, lock) {
-        return outranked(row.value, Why::Locked);
+        return Barrier::Stopped(Why::Locked);
     }
     if both(row.force, stands(force)) {
-        return outranked(row.value, Why::Forced);
+        return Barrier::Stopped(Why::Forced);
     }
     Barrier::Open
 }
 
-// The first barrier that an input of a kind meets.
+// What a barrier does to an input that it stops: lock and force note a value.
+fn outranked(kind: u8, why: Why) -> Barrier
+    ensures { λ r. ⌜ r ≡ outranked (setsValue kind) why ⌝ }
+{
+    match why {
+        Why::NoPower => Barrier::Stopped(Why::NoPower),
+        Why::NoBus => Barrier::Stopped(Why::NoBus),
+        Why::Locked => {
+            if sets_value(kind) {
+                Barrier::Notes
+            } else {
+                Barrier::Stopped(Why::Locked)
+            }
+        }
+        Why::Forced => {
+            if sets_value(kind) {
+                Barrier::Notes
+            } else {
+                Barrier::Stopped(Why::Forced)
+            }
+        }
+    }
+}
+
+// What an input of a kind meets. Whether it sets a value is asked last, so that an input that nothing stops does not pay for it.
 pub fn barrier_to(l: Lamp, kind: u8) -> Barrier
     requires { ⌜ (1 ≤ kind) × (kind ≤ 8) ⌝ }
-    ensures { λ r. ⌜ r ≡ firstBarrier (rowOf kind) (l .link) (l .lock) (l .force) ⌝ }
+    ensures { λ r. ⌜ r ≡ barrierTo kind (l .link) (l .lock) (l .force) ⌝ }
 {
     let link = l.link;
     let force = l.force;
-    first_barrier(row_of(kind), link, l.lock, force)
+    let first = first_barrier(row_of(kind), link, l.lock, force);
+    match first {
+        Barrier::Open => Barrier::Open,
+        Barrier::Notes => Barrier::Notes,
+        Barrier::Stopped(why) => outranked(kind, why),
+    }
 }

@@ -24,7 +24,7 @@ use Rattle.rules.specs.declared.state.State.{State}
 use Rattle.rules.specs.Inputs.{kind}
 use Rattle.rules.specs.Phases.{output, deadline, litAt, setOn}
 use Rattle.rules.specs.Orders.{withPhase, withLink, standing, held, settle, plain, byMode, forced, locked, unlocked, lockDevice, busMode, bus, powerFails, powerReturns, power, order, noted}
-use Rattle.rules.specs.Barriers.{rows, rowOf, firstBarrier, barrier}
+use Rattle.rules.specs.Barriers.{rows, rowOf, firstBarrier, barrierTo, barrier}
 use Rattle.rules.specs.Soundness.{sound}
 use Rattle.rules.specs.Steps.{Moved, Stepped, fresh, atMoment, clockMove, act, step, Quiet}
 use Rattle.rules.specs.Lists.{Cue, cue, andThen, moved, stepped, plays, playsTo}
@@ -183,8 +183,8 @@ module _ (s : State) (clock : ℕ) (night : Bool) (force : Force) (holds : held 
       by (inr e) = rw e holds
 
 -- lock stops whatever force would stop
-locked-alike : (i : Input) (link : Link) (f g : Force) → firstBarrier (rowOf (kind i)) link true f ≡ firstBarrier (rowOf (kind i)) link true g
-unfolding firstBarrier rowOf rows
+locked-alike : (i : Input) (link : Link) (f g : Force) → barrierTo (kind i) link true f ≡ barrierTo (kind i) link true g
+unfolding barrierTo firstBarrier rowOf rows
 locked-alike (SwitchOnOff value) link f g = refl
 locked-alike (TimedStartStop value) link f g = refl
 locked-alike (NumberedSceneControl learns number) link f g = refl
@@ -209,9 +209,9 @@ module _ (s : State) (night : Bool) (force : Force) (holds : held s ≡ true) (a
   unfolding barrier
   barred-alike i = by agree
     where
-      by : (s .lock ≡ true) ⊎ (force ≡ s .force) → firstBarrier (rowOf (kind i)) (s .link) (s .lock) force ≡ firstBarrier (rowOf (kind i)) (s .link) (s .lock) (s .force)
-      by (inl lock) = subst (λ (x : Bool). firstBarrier (rowOf (kind i)) (s .link) x force ≡ firstBarrier (rowOf (kind i)) (s .link) x (s .force)) (sym lock) (locked-alike i (s .link) force (s .force))
-      by (inr e) = ap (firstBarrier (rowOf (kind i)) (s .link) (s .lock)) e
+      by : (s .lock ≡ true) ⊎ (force ≡ s .force) → barrierTo (kind i) (s .link) (s .lock) force ≡ barrierTo (kind i) (s .link) (s .lock) (s .force)
+      by (inl lock) = subst (λ (x : Bool). barrierTo (kind i) (s .link) x force ≡ barrierTo (kind i) (s .link) x (s .force)) (sym lock) (locked-alike i (s .link) force (s .force))
+      by (inr e) = ap (barrierTo (kind i) (s .link) (s .lock)) e
 
   -- what lock and force would have stopped does not come here
   not-low : {A : Type 0} → (s .lock ≡ false) × (standing (s .force) ≡ false) → A

@@ -103,9 +103,9 @@ pub fn play_items(
             Asked::Order(kind, value) => {
                 let f = fate_of(moved, kind);
                 match f {
-                    Fate::Counts(noted) => {
+                    Fate::Counts => {
                         let x = known_input(kind, value);
-                        let d = take(p, k, moved, x, noted);
+                        let d = take(p, k, moved, x);
                         let note = d.note;
                         count = put_note(records, m.count, note);
                         answers[i as usize] = d.answer;

@@ -3,6 +3,7 @@ use Prim.Native.Nat.{ℕ, _-_}
 use mathlib.Core.Bool.{Bool, true, false, cond, not, _&&_, _||_}
 use mathlib.Core.List.{List, [], _∷_}
 use lib.ListN.{getD}
+use lib.Dec.{eqb}
 use Rattle.rules.specs.declared.input.Force.{Force}
 use Rattle.rules.specs.declared.input.Input.{Input}
 use Rattle.rules.specs.declared.state.Link.{Link}
@@ -16,29 +17,32 @@ use Rattle.rules.specs.declared.barrier.Barrier.the-variants.{Open, Note
 use Rattle.rules.specs.Inputs.{kind}
 use Rattle.rules.specs.Orders.{standing}
 
--- its barriers: power down, bus down, lock, force; then whether it sets a value
-abbrev pub row : Bool → Bool → Bool → Bool → Bool → Row
-row power bus lock force value = record { power = power; bus = bus; lock = lock; force = force; value = value }
+-- its barriers: power down, bus down, lock, force
+abbrev pub row : Bool → Bool → Bool → Bool → Row
+row power bus lock force = record { power = power; bus = bus; lock = lock; force = force }
 
 -- "Document 004 lets SwitchOnOffForced override the low inputs: switch, timed, scene, night. Lock stands above force (our
 -- reading). What stops each kind is kept as one table of eight rows that names the barriers of that kind: power down stops 1 to 7;
 -- bus down stops 1 to 6; lock stops 1 to 4 and 6; force stops 1 to 3 and 6."
--- 02, [4]: "Night and force are values, not events.": kinds 4 and 6, which lock and force note where they stop the others.
 unfoldable pub rows : List Row
 rows =
-    row true true true true false ∷
-    row true true true true false ∷
-    row true true true true false ∷
-    row true true true false true ∷
-    row true true false false false ∷
-    row true true true true true ∷
-    row true false false false false ∷
-    row false false false false false ∷
+    row true true true true ∷
+    row true true true true ∷
+    row true true true true ∷
+    row true true true false ∷
+    row true true false false ∷
+    row true true true true ∷
+    row true false false false ∷
+    row false false false false ∷
     []
+
+-- Beside the table, 02, [4]: "Night and force are values, not events.": lock and force note kinds 4 and 6, and drop the others that they stop.
+unfoldable pub setsValue : ℕ → Bool
+setsValue kind = eqb kind 4 || eqb kind 6
 
 -- the row of a kind, 1 to 8 (there is no other kind, so nothing is read past the table)
 unfoldable pub rowOf : ℕ → Row
-rowOf kind = getD rows (kind - 1) (row false false false false false)
+rowOf kind = getD rows (kind - 1) (row false false false false)
 
 -- "link (up, bus down, power down)"
 abbrev pub powerDown : Link → Bool
@@ -51,22 +55,33 @@ busDown Up = false
 busDown BusDown = true
 busDown PowerDown = false
 
--- 02, [4]: "From now on a night value under lock or force, and a force value under lock, is noted"
-unfoldable pub outranked : Bool → Why → Barrier
-outranked value why = cond value Notes (Stopped why)
-
--- the first of these barriers that stands: "Answer octet, first that fits: 5 power down, 4 bus down, 3 lock, 2 force".
--- 02, [4]: "Bus and power down still drop."
+-- the first of these barriers that stands: "Answer octet, first that fits: 5 power down, 4 bus down, 3 lock, 2 force"
 unfoldable pub firstBarrier : Row → Link → Bool → Force → Barrier
 firstBarrier r link lock force =
     cond (r .power && powerDown link) (Stopped NoPower)
     (cond (r .bus && busDown link) (Stopped NoBus)
-    (cond (r .lock && lock) (outranked (r .value) Locked)
-    (cond (r .force && standing force) (outranked (r .value) Forced) Open)))
+    (cond (r .lock && lock) (Stopped Locked)
+    (cond (r .force && standing force) (Stopped Forced) Open)))
 
--- the first barrier that an input meets in a state
+-- 02, [4]: "From now on a night value under lock or force, and a force value under lock, is noted"; "Bus and power down still drop."
+unfoldable pub outranked : Bool → Why → Barrier
+outranked value NoPower = Stopped NoPower
+outranked value NoBus = Stopped NoBus
+outranked value Locked = cond value Notes (Stopped Locked)
+outranked value Forced = cond value Notes (Stopped Forced)
+
+unfoldable pub orNoted : Bool → Barrier → Barrier
+orNoted value Open = Open
+orNoted value Notes = Notes
+orNoted value (Stopped why) = outranked value why
+
+-- what an input of a kind meets
+unfoldable pub barrierTo : ℕ → Link → Bool → Force → Barrier
+barrierTo kind link lock force = orNoted (setsValue kind) (firstBarrier (rowOf kind) link lock force)
+
+-- what an input meets in a state
 unfoldable pub barrier : State → Input → Barrier
-barrier s i = firstBarrier (rowOf (kind i)) (s .link) (s .lock) (s .force)
+barrier s i = barrierTo (kind i) (s .link) (s .lock) (s .force)
 
 -- ---- the first barrier, said of each of the four (proofs/Laws/Barriers.antt, `first-that-fits`)
 
@@ -85,7 +100,7 @@ forceStops s i = rowOf (kind i) .force && standing (s .force)
 
 -- the input sets a value
 abbrev pub isValue : Input → Bool
-isValue i = rowOf (kind i) .value
+isValue i = setsValue (kind i)
 
 -- a barrier fits where it stops the input and none before it does; an input is noted where lock or force would stop it and it sets a value;
 -- it is free where none does

@@ -1,13 +1,11 @@
 // What may stop an input.
 
-// The barriers of one kind of input: power down, bus down, lock, force; and whether it sets a value, which lock and force note where they
-// stop any other.
+// The barriers of one kind of input: power down, bus down, lock, force.
 pub struct Row {
     pub power: bool,
     pub bus: bool,
     pub lock: bool,
     pub force: bool,
-    pub value: bool,
 }
 
 // Why an input is stopped.

@@ -14,15 +14,15 @@ use Rattle.rules.specs.declared.barrier.Barrier.{Barrier}
 use Rattle.rules.specs.declared.barrier.Barrier.the-variants.{Open, Notes, Stopped}
 use Rattle.rules.specs.Inputs.{kind}
 use Rattle.rules.specs.Orders.{held, noted}
-use Rattle.rules.specs.Barriers.{row, rows, rowOf, powerDown, busDown, outranked, firstBarrier, barrier, powerStops, busStops, lockStops, forceStops, isValue, fits}
+use Rattle.rules.specs.Barriers.{row, rows, rowOf, setsValue, powerDown, busDown, firstBarrier, outranked, orNoted, barrierTo, barrier, powerStops, busStops, lockStops, forceStops, isValue, fits}
 use Rattle.rules.specs.Answers.{answer}
 use Rattle.base.proofs.Tests.{no}
 
 -- ---- the table
 
--- "power down stops 1 to 7; bus down stops 1 to 6; lock stops 1 to 4 and 6; force stops 1 to 3 and 6"; "Night and force are values"
+-- "power down stops 1 to 7; bus down stops 1 to 6; lock stops 1 to 4 and 6; force stops 1 to 3 and 6"
 pub rows-say-exactly : (i : Input) →
-    rowOf (kind i) ≡ row (leb (kind i) 7) (leb (kind i) 6) (leb (kind i) 4 || eqb (kind i) 6) (leb (kind i) 3 || eqb (kind i) 6) (eqb (kind i) 4 || eqb (kind i) 6)
+    rowOf (kind i) ≡ row (leb (kind i) 7) (leb (kind i) 6) (leb (kind i) 4 || eqb (kind i) 6) (leb (kind i) 3 || eqb (kind i) 6)
 unfolding rowOf rows
 rows-say-exactly (SwitchOnOff value) = refl
 rows-say-exactly (TimedStartStop value) = refl
@@ -47,10 +47,10 @@ answer-numbers same = (refl, refl, refl, refl, refl, refl, refl, refl)
 
 -- the first of the four, as `firstBarrier` chooses it; the last two note a value
 abbrev first : Bool → Bool → Bool → Bool → Bool → Barrier
-first power bus lock force value =
-    cond power (Stopped NoPower) (cond bus (Stopped NoBus) (cond lock (cond value Notes (Stopped Locked)) (cond force (cond value Notes (Stopped Forced)) Open)))
+first power bus lock force value = orNoted value (cond power (Stopped NoPower) (cond bus (Stopped NoBus) (cond lock (Stopped Locked) (cond force (Stopped Forced) Open))))
 
 first-fits : (power bus lock force value : Bool) → T (fits (first power bus lock force value) power bus lock force value)
+unfolding orNoted outranked
 first-fits true bus lock force value = tt
 first-fits false true lock force value = tt
 first-fits false false true force true = tt
@@ -60,6 +60,7 @@ first-fits false false false true false = tt
 first-fits false false false false value = tt
 
 what-fits-is-first : (b : Barrier) (power bus lock force value : Bool) → T (fits b power bus lock force value) → first power bus lock force value ≡ b
+unfolding orNoted outranked
 what-fits-is-first (Stopped NoPower) true bus lock force value h = refl
 what-fits-is-first (Stopped NoBus) false true lock force value h = refl
 what-fits-is-first (Stopped Locked) false false true force false h = refl
@@ -74,7 +75,7 @@ exactly-one-fits b power bus lock force value =
 
 pub first-that-fits : (s : State) (i : Input) (b : Barrier) →
     (barrier s i ≡ b) ↔ T (fits b (powerStops s i) (busStops s i) (lockStops s i) (forceStops s i) (isValue i))
-unfolding barrier firstBarrier outranked
+unfolding barrier barrierTo firstBarrier
 first-that-fits s i b = exactly-one-fits b (powerStops s i) (busStops s i) (lockStops s i) (forceStops s i) (isValue i)
 
 -- an input is taken exactly when none of the barriers that its row names stands
@@ -141,7 +142,7 @@ neither-down BusDown power bus = cc
 neither-down PowerDown power bus = cc
 
 pub noted-where : (s : State) (i : Input) → barrier s i ≡ Notes → NotedWhere s i
-unfolding rowOf rows held
+unfolding rowOf rows setsValue held
 noted-where s (SwitchOnOff value) way = no (noted-is-held-back s (SwitchOnOff value) way .valued)
 noted-where s (TimedStartStop value) way = no (noted-is-held-back s (TimedStartStop value) way .valued)
 noted-where s (NumberedSceneControl learns number) way = no (noted-is-held-back s (NumberedSceneControl learns number) way .valued)

@@ -27,7 +27,7 @@ use Rattle.base.specs.Time.{earlier}
 use Rattle.rules.specs.Scenes.{recalled, learnt}
 use Rattle.rules.specs.Phases.{output, deadline, atDeadline}
 use Rattle.rules.specs.Orders.{offAfterDelay, off, timedStop, nightFalls, withPhase, withNight, withScenes, standing, held, switch, timed, recall, learn, scene, nightMode, forced, lockDevice, bus, power, order}
-use Rattle.rules.specs.Barriers.{row, rows, rowOf, outranked, firstBarrier, barrier}
+use Rattle.rules.specs.Barriers.{row, rows, rowOf, setsValue, firstBarrier, outranked, orNoted, barrierTo, barrier}
 use Rattle.rules.specs.Steps.{fresh, atMoment, tickAt, tick, ticked, clockMove, step, Quiet}
 use Rattle.rules.specs.Lists.{Cue, cue, Played, plays}
 use Rattle.rules.specs.Promises.{Rises, turn, turns, Each, stateAt, Taken, recallsOn}
@@ -239,8 +239,8 @@ asking-is-not-noted s i value asks way = go i asks (noted-where s i way)
     go (NightMode night) asks w = no cc
 
 -- where one is taken no lock and no force stands, and the link is up
-nothing-stands : (link : Link) (lock : Bool) (force : Force) → firstBarrier (row true true true true false) link lock force ≡ Open → (lock ≡ false) × (force ≡ Free) × (link ≡ Up)
-unfolding firstBarrier outranked
+nothing-stands : (link : Link) (lock : Bool) (force : Force) → orNoted false (firstBarrier (row true true true true) link lock force) ≡ Open → (lock ≡ false) × (force ≡ Free) × (link ≡ Up)
+unfolding firstBarrier outranked orNoted
 nothing-stands Up false Free way = (refl, refl, refl)
 nothing-stands Up false Off way = (cc, cc, cc)
 nothing-stands Up false On way = (cc, cc, cc)
@@ -249,7 +249,7 @@ nothing-stands BusDown lock force way = (cc, cc, cc)
 nothing-stands PowerDown lock force way = (cc, cc, cc)
 
 taken-finds-nothing : (s : State) (i : Input) → asksFor s i ≡ Output false → barrier s i ≡ Open → (s .lock ≡ false) × (s .force ≡ Free) × (s .link ≡ Up)
-unfolding barrier rowOf rows
+unfolding barrier barrierTo rowOf rows setsValue
 taken-finds-nothing s (SwitchOnOff value) off way = nothing-stands (s .link) (s .lock) (s .force) way
 taken-finds-nothing s (TimedStartStop value) off way = (cc, cc, cc)
 taken-finds-nothing s (NumberedSceneControl learns number) off way = nothing-stands (s .link) (s .lock) (s .force) way

@@ -13,11 +13,11 @@ fate-of-requires c κs = rw (c .kind-of .ensures) (kind-range (c .before .before
 take-requires : tie.Need-take-requires
 unfolding barrier
 take-requires c κs =
-    (rw (c .before .before .before .before .before .lamp-of .ensures) (c .before .before .before .before .before .before .before .before .pre), rw (← c .before .before .before .before .kind-of .ensures) (sym (c .before .before .before .fate-of .ensures) ∙ c .before .f2 .given .1))
+    (rw (c .before .before .before .before .lamp-of .ensures) (c .before .before .before .before .before .before .before .pre), rw (← c .before .before .before .kind-of .ensures) (sym (c .before .before .fate-of .ensures) ∙ c .enum-told .given .1))
 
 scenes-after-requires : tie.Need-scenes-after-requires
 unfolding barrier
-scenes-after-requires c κs = (c .before .before .before .f2 .given .0 .0, rw (← c .before .before .before .before .before .before .kind-of .ensures) (sym (c .before .before .before .before .before .fate-of .ensures) ∙ c .before .before .before .f2 .given .1))
+scenes-after-requires c κs = rw (← c .before .before .before .before .before .kind-of .ensures) (sym (c .before .before .before .before .fate-of .ensures) ∙ c .before .before .enum-told .given .1)
 
 returns : tie.Need-returns
 unfolding barrier droppedBy
@@ -29,8 +29,8 @@ returns c =
 
 returns-2 : tie.Need-returns-2
 returns-2 c =
-    let a = c .before .before .before .before .before .before .before .before .before .before .before .before .args in
-    let l = c .before .before .before .before .before .before .before .before .before .lamp-of .ensures in
+    let a = c .before .before .before .before .before .before .before .before .before .before .before .args in
+    let l = c .before .before .before .before .before .before .before .before .lamp-of .ensures in
     rw (c .state-of .ensures)
     (acting-by-parts (a .s) (a .i) _ _ (rw l at (c .before .before .before .take .ensures)) (rw l at (c .before .scenes-after .ensures)))
 

@@ -13,11 +13,11 @@ returns-2 c = simp (c .if2 .taken, ← c .before .both2 .ensures, ← c .before 
 
 returns-3 : tie.Need-returns-3
 unfolding firstBarrier
-returns-3 c = simp (c .outranked .ensures, c .before .if3 .taken, ← c .before .before .both3 .ensures, c .before .before .before .if2 .left, ← c .before .before .before .before .both2 .ensures, ← c .before .before .before .before .before .bus-is-down .ensures, c .before .before .before .before .before .before .if1 .left, ← c .before .before .before .before .before .before .before .both .ensures, ← c .before .before .before .before .before .before .before .before .power-is-down .ensures)
+returns-3 c = simp (c .if3 .taken, ← c .before .both3 .ensures, c .before .before .if2 .left, ← c .before .before .before .both2 .ensures, ← c .before .before .before .before .bus-is-down .ensures, c .before .before .before .before .before .if1 .left, ← c .before .before .before .before .before .before .both .ensures, ← c .before .before .before .before .before .before .before .power-is-down .ensures)
 
 returns-4 : tie.Need-returns-4
 unfolding firstBarrier
-returns-4 c = simp (c .outranked2 .ensures, c .before .if4 .taken, ← c .before .before .both4 .ensures, ← c .before .before .before .stands .ensures, c .before .before .before .before .if3 .left, ← c .before .before .before .before .before .both3 .ensures, c .before .before .before .before .before .before .if2 .left, ← c .before .before .before .before .before .before .before .both2 .ensures, ← c .before .before .before .before .before .before .before .before .bus-is-down .ensures, c .before .before .before .before .before .before .before .before .before .if1 .left, ← c .before .before .before .before .before .before .before .before .before .before .both .ensures, ← c .before .before .before .before .before .before .before .before .before .before .before .power-is-down .ensures)
+returns-4 c = simp (c .if4 .taken, ← c .before .both4 .ensures, ← c .before .before .stands .ensures, c .before .before .before .if3 .left, ← c .before .before .before .before .both3 .ensures, c .before .before .before .before .before .if2 .left, ← c .before .before .before .before .before .before .both2 .ensures, ← c .before .before .before .before .before .before .before .bus-is-down .ensures, c .before .before .before .before .before .before .before .before .if1 .left, ← c .before .before .before .before .before .before .before .before .before .both .ensures, ← c .before .before .before .before .before .before .before .before .before .before .power-is-down .ensures)
 
 returns-5 : tie.Need-returns-5
 unfolding firstBarrier
@@ -34,9 +34,7 @@ first-barrier-spec =
     (λ c κs. search needs)
     returns-2
     (λ c κs. search needs)
-    (λ c κs. search needs)
     returns-3
-    (λ c κs. search needs)
     (λ c κs. search needs)
     (λ c κs. search needs)
     returns-4
