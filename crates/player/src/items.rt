@@ -9,6 +9,7 @@ ghost use Rattle.turns.specs.Turns.{listened};
 ghost use Rattle.player.specs.Playing.{Ready, ItemsPlayed, Advanced};
 use actuator::step::Fate;
 use actuator::step::fate_of;
+use actuator::step::note_value;
 use actuator::step::scenes_after;
 use actuator::step::take;
 use buffers::put::put_note;
@@ -103,7 +104,7 @@ pub fn play_items(
             Asked::Order(kind, value) => {
                 let f = fate_of(moved, kind);
                 match f {
-                    Fate::Counts => {
+                    Fate::Taken => {
                         let x = known_input(kind, value);
                         let d = take(p, k, moved, x);
                         let note = d.note;
@@ -111,6 +112,16 @@ pub fn play_items(
                         answers[i as usize] = d.answer;
                         let table = scenes_after(p, k, moved, x);
                         k = table;
+                        z = sensor;
+                        heard = turn.heard;
+                        l = d.lamp;
+                        i += 1;
+                    }
+                    Fate::Noted => {
+                        let d = note_value(moved, known_input(kind, value));
+                        let note = d.note;
+                        count = put_note(records, m.count, note);
+                        answers[i as usize] = d.answer;
                         z = sensor;
                         heard = turn.heard;
                         l = d.lamp;

@@ -1,56 +1,32 @@
 use Prim.Native.Nat.{_≤_, _<_}
-use mathlib.Core.Bool.{true}
 use mathlib.Core.Logic.{⊎-elim}
-use mathlib.Core.Path.{_≡_, _∙_}
+use mathlib.Core.Path.{_∙_}
 use native.Mathlib.Omega.{arith}
 use borrow.Author.Tests.{le-leb, lt-leb}
 use Rattle.rules.specs.Inputs.{kind}
-use Rattle.rules.specs.Barriers.{barrier}
 use Rattle.rules.proofs.Laws.Inputs.{kind-range}
-use Rattle.lamps.specs.Lamps.{stateOf}
-use Rattle.orders.specs.Lights.{isLight}
-use Rattle.actuator.proofs.Taken.{light-is-done, counts-is-done}
+use Rattle.actuator.proofs.Taken.{taken-when-open, open-is-taken}
 use borrow.Author.Needs.{needs}
 use Rattle.actuator.proofs.step.take.Statement.{statement}
 use Rattle.actuator.proofs.step.take.Tie as tie
 
--- kinds 1 to 3
-is-light : (c : tie.Then2) → isLight (c .before .before .before .args .i) ≡ true
-is-light c =
-    let few : kind (c .before .before .before .args .i) ≤ 3 = omega (arith, c .if2 .taken, c .before .before .kind-of .ensures) in
-    le-leb _ 3 few
-
 take-light-requires : tie.Need-take-light-requires
-take-light-requires c κs = (c .before .before .before .pre .0, is-light c)
-
-is-noted-requires : tie.Need-is-noted-requires
-is-noted-requires c κs = rw (c .kind-of2 .ensures) (kind-range (c .before .before .before .args .i))
+take-light-requires c κs =
+    let few : kind (c .before .before .before .args .i) ≤ 3 = omega (arith, c .if2 .taken, c .before .before .kind-of .ensures) in
+    (c .before .before .before .pre .0, le-leb _ 3 few)
 
 take-other-requires : tie.Need-take-other-requires
 take-other-requires c κs =
-    let i = c .before .before .before .before .args .i in
-    let same = c .before .before .before .kind-of .ensures in
-    let late : 3 < kind i = rw (← same) (⊎-elim (λ none. absurd (omega (arith, none .taken, same, kind-range i .0))) (λ more. more .1 .left) (c .before .before .if1 .came)) in
-    (c .before .before .before .before .pre .0 .room, lt-leb (kind i) 3 late)
+    let i = c .before .before .args .i in
+    let late : 3 < kind i = rw (← c .before .kind-of .ensures) (⊎-elim (λ none. absurd (omega (arith, none .taken, c .before .kind-of .ensures, kind-range i .0))) (λ more. more .1 .left) (c .if1 .came)) in
+    (c .before .before .pre .0 .room, lt-leb (kind i) 3 late)
 
 returns : tie.Need-returns
-returns c = c .take-light .ensures ∙ light-is-done _ _ (is-light (c .before)) (c .before .before .before .before .pre .1)
+returns c = c .take-light .ensures ∙ open-is-taken _ _ (taken-when-open _ (c .before .before .before .before .pre .1))
 
 returns-2 : tie.Need-returns-2
-unfolding barrier
-returns-2 c =
-    let a = c .before .before .before .before .before in
-    let noted = rw (c .before .before .kind-of2 .ensures) at (c .before .is-noted .ensures) in
-    rw noted at (c .take-other .ensures (a .args .k)) ∙ counts-is-done (stateOf (a .args .p) (a .args .k) (a .args .l)) (a .args .i) (a .pre .1)
+returns-2 c = c .take-other .ensures _ ∙ open-is-taken _ _ (taken-when-open _ (c .before .before .before .pre .1))
 
 pub take-spec : {M : Type 1} → statement M
 take-spec =
-    tie.close
-    (tie.spec
-    (λ c κs. search needs)
-    take-light-requires
-    (λ c κs. search needs)
-    is-noted-requires
-    take-other-requires
-    returns
-    returns-2)
+    tie.close (tie.spec (λ c κs. search needs) take-light-requires take-other-requires returns returns-2)

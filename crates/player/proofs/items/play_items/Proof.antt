@@ -22,6 +22,7 @@ use Rattle.pairs.specs.Pairs.{pairOf}
 use Rattle.pairs.proofs.Soundness.{sound-pair-exactly-when}
 use Rattle.turns.specs.Turns.{listened, Turned}
 use Rattle.turns.proofs.Turning.{turned}
+use Rattle.actuator.proofs.Taken.{noted-is-done}
 use Rattle.player.specs.Playing.{Ready}
 use Rattle.player.proofs.Turns.{Going, going-first, next-item, going-rests, going-asks, going-acts, going-dropped, going-last}
 use Rattle.player.proofs.items.play_items.Statement.{statement}
@@ -185,21 +186,69 @@ loop-again-2 c =
     let goes = going-acts _ _ _ _ _ _ ready (a .args .start .params) (loop .k) (loop .l) (loop .z) (loop .heard) _ _ _ _ g (loop .inv .1) within (omega (arith, a .pre .2)) (a .pre .3) (omega (arith, within, g .stands .few, g .stands .room, a .pre .2)) _ _ (rw stamp at (moves .ensures)) (moves .kept .0) (omega (arith, within, two, moves .ensures (loop .k) .count, moves .kept .0, g .stands .few, g .stands .room, a .pre .2)) _ (took (c .before .before .before .before .before .before .before .before .before .before .before .before .before .before .before)) _ _ (c .before .before .before .before .before .before .before .before .before .before .before .before .asked .given .1) _ means _ (c .before .before .before .before .before .before .take .ensures) _ (put .ensures .0) _ (put .ensures .1) (put .kept .0 ∙ moves .kept .0) _ (c .before .scenes-after .ensures) in
     (goes, omega (arith, behind-still (c .before .before .before .before .before .before .before .before .before .before .before .before .before .before .before), put .ensures .0))
 
+-- a value that is noted
+known-input-requires-2 : tie.Need-known-input-requires-2 Inv-loop μ-loop
+known-input-requires-2 c κs = rw (asked (c .before .before .before .before) .1) refl
+
+put-note-requires-2 : tie.Need-put-note-requires-2 Inv-loop μ-loop
+put-note-requires-2 c κs =
+    let ready = ready-to (c .before .before .before .before .before .before .before .before .before .before .before .before .before .before .before .before .before .before .before .before .before) in
+    let a = c .before .before .before .before .before .before .before .before .before .before .before .before .before .before .before .before .before .before .before .before .before .before .before .before .before .before .before in
+    let loop = c .before .before .before .before .before .before .before .before .before .before .before .before .before .before .before .before .before .before .before .before .loop in
+    let g = loop .inv .0 in
+    let within = c .before .before .before .before .before .before .before .before .before .before .before .before .before .before .before .before .before .before .before .loop-test .taken in
+    let place = (c .before .before .before .before .before .before .before .before .before .before .before .before .before .before .before .before .before .before .input-place .ensures) in
+    let stamp = rw place at (c .before .before .before .before .before .before .before .before .before .before .before .before .before .before .before .before .before .stamp-at .ensures) in
+    let moves = c .before .before .before .before .before .before .before .before .before .before .before .before .before .before .before .advance in
+    let two = a-move-writes-at-most-two (stateOf (a .args .start .params) (loop .k) (loop .l)) (c .before .before .before .before .before .before .before .before .before .before .before .before .before .before .before .before .before .stamp-at .result) in
+    let own = listed-few (c .before .note-value .result .note) in
+    (omega (arith, within, two, moves .ensures (loop .k) .count, g .stands .few, ready .few), omega (arith, within, two, own, moves .ensures (loop .k) .count, moves .kept .0, g .stands .few, g .stands .room, a .pre .2))
+
 cast-answers-3 : tie.Need-cast-answers-3 Inv-loop μ-loop
-cast-answers-3 c = omega (arith, c .before .before .before .before .before .before .before .before .before .before .before .before .before .before .before .before .before .loop-test .taken, ready-to (c .before .before .before .before .before .before .before .before .before .before .before .before .before .before .before .before .before .before .before) .few)
+cast-answers-3 c = omega (arith, c .before .before .before .before .before .before .before .before .before .before .before .before .before .before .before .before .before .before .before .before .before .before .loop-test .taken, ready-to (c .before .before .before .before .before .before .before .before .before .before .before .before .before .before .before .before .before .before .before .before .before .before .before .before) .few)
 
 slice-write-answers-3 : tie.Need-slice-write-answers-3 Inv-loop μ-loop
-slice-write-answers-3 c = omega (arith, c .before .before .before .before .before .before .before .before .before .before .before .before .before .before .before .before .before .loop-test .taken, c .before .before .before .before .before .before .before .before .before .before .before .before .before .before .before .before .before .before .loop .inv .0 .stands .places, c .before .before .before .before .before .before .before .before .before .before .before .before .before .before .before .before .before .before .before .before .before .before .before .before .before .pre .3)
+slice-write-answers-3 c = omega (arith, c .before .before .before .before .before .before .before .before .before .before .before .before .before .before .before .before .before .before .before .before .before .before .loop-test .taken, c .before .before .before .before .before .before .before .before .before .before .before .before .before .before .before .before .before .before .before .before .before .before .before .loop .inv .0 .stands .places, c .before .before .before .before .before .before .before .before .before .before .before .before .before .before .before .before .before .before .before .before .before .before .before .before .before .before .before .before .before .before .pre .3)
 
 add-i-3 : tie.Need-add-i-3 Inv-loop μ-loop
-add-i-3 c = omega (arith, c .before .before .before .before .before .before .before .before .before .before .before .before .before .before .before .before .before .loop-test .taken, ready-to (c .before .before .before .before .before .before .before .before .before .before .before .before .before .before .before .before .before .before .before) .few)
+add-i-3 c = omega (arith, c .before .before .before .before .before .before .before .before .before .before .before .before .before .before .before .before .before .before .before .before .before .before .before .loop-test .taken, ready-to (c .before .before .before .before .before .before .before .before .before .before .before .before .before .before .before .before .before .before .before .before .before .before .before .before .before) .few)
 
 loop-less-3 : tie.Need-loop-less-3 Inv-loop μ-loop
-loop-less-3 c = omega (arith, c .before .before .before .before .before .before .before .before .before .before .before .before .before .before .before .before .before .loop-test .taken)
+loop-less-3 c = omega (arith, c .before .before .before .before .before .before .before .before .before .before .before .before .before .before .before .before .before .before .before .before .before .before .before .loop-test .taken)
 
 loop-again-3 : tie.Need-loop-again-3 Inv-loop μ-loop
 unfolding barrier
 loop-again-3 c =
+    let ready = ready-to (c .before .before .before .before .before .before .before .before .before .before .before .before .before .before .before .before .before .before .before .before .before .before .before .before .before) in
+    let a = c .before .before .before .before .before .before .before .before .before .before .before .before .before .before .before .before .before .before .before .before .before .before .before .before .before .before .before .before .before .before .before in
+    let loop = c .before .before .before .before .before .before .before .before .before .before .before .before .before .before .before .before .before .before .before .before .before .before .before .before .loop in
+    let g = loop .inv .0 in
+    let within = c .before .before .before .before .before .before .before .before .before .before .before .before .before .before .before .before .before .before .before .before .before .before .before .loop-test .taken in
+    let place = (c .before .before .before .before .before .before .before .before .before .before .before .before .before .before .before .before .before .before .before .before .before .before .input-place .ensures) in
+    let stamp = rw place at (c .before .before .before .before .before .before .before .before .before .before .before .before .before .before .before .before .before .before .before .before .before .stamp-at .ensures) in
+    let moves = c .before .before .before .before .before .before .before .before .before .before .before .before .before .before .before .before .before .before .before .advance in
+    let two = a-move-writes-at-most-two (stateOf (a .args .start .params) (loop .k) (loop .l)) (c .before .before .before .before .before .before .before .before .before .before .before .before .before .before .before .before .before .before .before .before .before .stamp-at .result) in
+    let put = c .before .before .before .put-note2 in
+    let means = c .before .before .before .before .before .before .known-input2 .ensures in
+    let fate = rw (← meant-kind _ _ _ means) at (sym (c .before .before .before .before .before .before .before .before .before .fate-of .ensures) ∙ c .before .before .before .before .before .before .before .enum-told3 .given .1) in
+    let goes = going-acts _ _ _ _ _ _ ready (a .args .start .params) (loop .k) (loop .l) (loop .z) (loop .heard) _ _ _ _ g (loop .inv .1) within (omega (arith, a .pre .2)) (a .pre .3) (omega (arith, within, g .stands .few, g .stands .room, a .pre .2)) _ _ (rw stamp at (moves .ensures)) (moves .kept .0) (omega (arith, within, two, moves .ensures (loop .k) .count, moves .kept .0, g .stands .few, g .stands .room, a .pre .2)) _ (took (c .before .before .before .before .before .before .before .before .before .before .before .before .before .before)) _ _ (c .before .before .before .before .before .before .before .before .before .before .before .asked .given .1) _ means _ (c .before .before .before .before .before .note-value .ensures (a .args .start .params) (loop .k) fate) _ (put .ensures .0) _ (put .ensures .1) (put .kept .0 ∙ moves .kept .0) _ (noted-is-done _ _ fate .1) in
+    (goes, omega (arith, behind-still (c .before .before .before .before .before .before .before .before .before .before .before .before .before .before), put .ensures .0))
+
+cast-answers-4 : tie.Need-cast-answers-4 Inv-loop μ-loop
+cast-answers-4 c = omega (arith, c .before .before .before .before .before .before .before .before .before .before .before .before .before .before .before .before .before .loop-test .taken, ready-to (c .before .before .before .before .before .before .before .before .before .before .before .before .before .before .before .before .before .before .before) .few)
+
+slice-write-answers-4 : tie.Need-slice-write-answers-4 Inv-loop μ-loop
+slice-write-answers-4 c = omega (arith, c .before .before .before .before .before .before .before .before .before .before .before .before .before .before .before .before .before .loop-test .taken, c .before .before .before .before .before .before .before .before .before .before .before .before .before .before .before .before .before .before .loop .inv .0 .stands .places, c .before .before .before .before .before .before .before .before .before .before .before .before .before .before .before .before .before .before .before .before .before .before .before .before .before .pre .3)
+
+add-i-4 : tie.Need-add-i-4 Inv-loop μ-loop
+add-i-4 c = omega (arith, c .before .before .before .before .before .before .before .before .before .before .before .before .before .before .before .before .before .loop-test .taken, ready-to (c .before .before .before .before .before .before .before .before .before .before .before .before .before .before .before .before .before .before .before) .few)
+
+loop-less-4 : tie.Need-loop-less-4 Inv-loop μ-loop
+loop-less-4 c = omega (arith, c .before .before .before .before .before .before .before .before .before .before .before .before .before .before .before .before .before .loop-test .taken)
+
+loop-again-4 : tie.Need-loop-again-4 Inv-loop μ-loop
+unfolding barrier
+loop-again-4 c =
     let ready = ready-to (c .before .before .before .before .before .before .before .before .before .before .before .before .before .before .before .before .before .before .before) in
     let a = c .before .before .before .before .before .before .before .before .before .before .before .before .before .before .before .before .before .before .before .before .before .before .before .before .before in
     let loop = c .before .before .before .before .before .before .before .before .before .before .before .before .before .before .before .before .before .before .loop in
@@ -258,11 +307,20 @@ play-items-spec =
     loop-less-2
     loop-again-2
     (λ c. search needs)
+    known-input-requires-2
+    (λ c κs. search needs)
+    put-note-requires-2
     cast-answers-3
     slice-write-answers-3
     add-i-3
     loop-less-3
     loop-again-3
+    (λ c. search needs)
+    cast-answers-4
+    slice-write-answers-4
+    add-i-4
+    loop-less-4
+    loop-again-4
     (λ c κs. search needs)
     same-length
     same-length-2
