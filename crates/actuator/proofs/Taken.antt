@@ -1,6 +1,6 @@
--- An input at the moved clock does what the rules say: it is dropped, noted or taken. A step is the clock move, and then that.
+-- An input at the moved clock does what the rules say: it is dropped, or counts, taken or noted. A step is the clock move, and then that.
 use Prim.Native.Nat.{ℕ, _≤_}
-use mathlib.Core.Bool.{Bool, true, false, _&&_, and-true}
+use mathlib.Core.Bool.{Bool, true, false, _&&_}
 use mathlib.Core.List.{List, [], _∷_, _++_}
 use mathlib.Core.Path.{_≡_, refl, sym, ap, _∙_}
 use lib.ListN.{length}
@@ -17,11 +17,13 @@ use Rattle.rules.specs.Inputs.{kind}
 use Rattle.rules.specs.Orders.{withPhase, order, noted}
 use Rattle.rules.specs.Barriers.{barrier}
 use Rattle.rules.specs.Status.{value, attributes, sameStatus, recordOf}
-use Rattle.rules.specs.Answers.{stoppedNumber, answer, samePhase, sameFlags, sameScenes, sameButClock}
+use Rattle.rules.specs.Answers.{answer, samePhase, sameFlags, sameScenes, sameButClock}
 use Rattle.rules.specs.Steps.{Stepped, clockMove, counted, meet, act, step}
 use Rattle.rules.specs.Lists.{Played, still}
-use Rattle.base.proofs.Tests.{eqb-same, beq-same}
+use Rattle.rules.specs.Said.{scenesAfter}
+use Rattle.base.proofs.Tests.{no, eqb-same, beq-same}
 use Rattle.rules.proofs.Laws.Orders.{order-leaves, noted-leaves}
+use Rattle.rules.proofs.Laws.Barriers.{NotedWhere, noted-where}
 use Rattle.rules.proofs.Laws.Answers.{same-but-clock-is-exact, scenes-same}
 use Rattle.rules.proofs.Laws.Soundness.{move-keeps}
 use Rattle.rules.proofs.Laws.Records.{a-move-writes-at-most-two, one-record-at-most}
@@ -34,11 +36,11 @@ use Rattle.timers.specs.declared.clock.Clocked.{Clocked}
 use Rattle.actuator.specs.declared.step.Acting.{Acting}
 use Rattle.actuator.specs.declared.step.Done.{Done}
 use Rattle.actuator.specs.declared.step.Fate.{Fate}
-use Rattle.actuator.specs.declared.step.Fate.the-variants.{Dropped, Noted, Taken}
+use Rattle.actuator.specs.declared.step.Fate.the-variants.{Dropped, Counts}
 use Rattle.records.specs.declared.notes.Note.the-variants.{Silent}
 use Rattle.records.specs.Notes.{noteOf, added}
 use Rattle.timers.specs.Ticks.{clocked}
-use Rattle.actuator.specs.Acts.{fate, acting, done, doneBy, droppedBy, acted}
+use Rattle.actuator.specs.Acts.{fate, meeting, after, acting, done, doneBy, droppedBy, acted}
 use Rattle.timers.proofs.Moves.{joined}
 use Rattle.records.proofs.Written.{first-written, added-first}
 
@@ -61,22 +63,22 @@ module _ (p : Params) (k : List Scene) (l : Lamp) (i : Input) where
   order-joined after e = rw (← e) (joined (order met i) p table (order-leaves met i .params) refl)
 
   -- a lamp that stays: only the table can have changed, and nothing is shown
-  stays : (k₁ : List Scene) → record { lamp = l; answer = answer Open (sameScenes k k₁); note = Silent } ≡ doneBy Open met i (stateOf p k₁ l)
+  stays : (b : Barrier) (k₁ : List Scene) → record { lamp = l; answer = answer b (sameScenes k k₁); note = Silent } ≡ doneBy b met i (stateOf p k₁ l)
   unfolding doneBy sameButClock samePhase sameFlags noteOf sameStatus value attributes
-  stays k₁ = simp (eqb-same, beq-same)
+  stays b k₁ = simp (eqb-same, beq-same)
 
   pub lamp-stays : lampOf (order met i) ≡ l → record { lamp = l; answer = answer Open (sameScenes k table); note = Silent } ≡ doneBy Open met i (order met i)
-  lamp-stays e = stays table ∙ ap (doneBy Open met i) (order-joined l e)
+  lamp-stays e = stays Open table ∙ ap (doneBy Open met i) (order-joined l e)
 
   -- a lamp that does not
-  changes : (k₁ : List Scene) (after : Lamp) → (samePhase (l .phase) (after .phase) && sameFlags (alone l) (alone after)) ≡ false
-      → record { lamp = after; answer = 0; note = noteOf (kind i) (alone l) (alone after) } ≡ doneBy Open met i (stateOf p k₁ after)
+  changes : (b : Barrier) (k₁ : List Scene) (after : Lamp) → (samePhase (l .phase) (after .phase) && sameFlags (alone l) (alone after)) ≡ false
+      → record { lamp = after; answer = answer b false; note = noteOf (kind i) (alone l) (alone after) } ≡ doneBy b met i (stateOf p k₁ after)
   unfolding doneBy sameButClock sameFlags noteOf sameStatus value attributes recordOf
-  changes k₁ after e = simp e
+  changes b k₁ after e = simp e
 
   pub lamp-changes : (after : Lamp) → lampOf (order met i) ≡ after → (samePhase (l .phase) (after .phase) && sameFlags (alone l) (alone after)) ≡ false
       → record { lamp = after; answer = 0; note = noteOf (kind i) (alone l) (alone after) } ≡ doneBy Open met i (order met i)
-  lamp-changes after e differs = changes table after differs ∙ ap (doneBy Open met i) (order-joined after e)
+  lamp-changes after e differs = changes Open table after differs ∙ ap (doneBy Open met i) (order-joined after e)
 
   -- an order to the light leaves all but the phase
   module _ (light : isLight i ≡ true) (next : Phase) (grants : next ≡ lightPhase p k l i) where
@@ -93,17 +95,38 @@ module _ (p : Params) (k : List Scene) (l : Lamp) (i : Input) where
     pub light-changes : samePhase (l .phase) next ≡ false → (samePhase (l .phase) next && sameFlags (alone l) (withPhase (alone l) next)) ≡ false
     light-changes e = rw e refl
 
-  -- any other order leaves the scene table, and the clock
-  pub other-keeps : isLight i ≡ false → sameScenes k table ≡ true
-  other-keeps other = rw (other-orders-keep-the-table met i other) (scenes-same k)
+-- ---- what is no order to the light, taken or noted
 
-  pub other-stays : (after : Lamp) → after ≡ lampOf (order met i) → (samePhase (l .phase) (after .phase) && sameFlags (alone l) (alone after)) ≡ true → lampOf (order met i) ≡ l
-  other-stays after e same = sym e ∙ sym (same-lamp l after (rw e (sym (order-leaves met i .clock))) same)
+-- it leaves the parameters, the scene table and the clock
+other-keeps : (b : Bool) (s : State) (i : Input) → isLight i ≡ false → (after (meeting b) s i .params ≡ s .params) × (after (meeting b) s i .scenes ≡ s .scenes) × (after (meeting b) s i .clock ≡ s .clock)
+unfolding meeting after
+other-keeps false s i other = (order-leaves s i .params, other-orders-keep-the-table s i other, order-leaves s i .clock)
+other-keeps true s i other = let k = noted-leaves s i in (k .params, k .scenes, k .clock)
 
--- ---- noted
+unchanged-is-1 : (b : Bool) → answer (meeting b) true ≡ 1
+unfolding meeting
+unchanged-is-1 false = refl
+unchanged-is-1 true = refl
 
--- whatever the parameters and the table: the lamp alone decides
-noted-alone : (p : Params) (k : List Scene) (l : Lamp) (i : Input) → lampOf (noted (alone l) i) ≡ lampOf (noted (stateOf p k l) i)
+module _ (p : Params) (k : List Scene) (l : Lamp) (i : Input) (b : Bool) (other : isLight i ≡ false) (next : Lamp) (leads : next ≡ lampOf (after (meeting b) (stateOf p k l) i)) where
+  abbrev reached : State
+  reached = after (meeting b) (stateOf p k l) i
+
+  parts : stateOf p k next ≡ reached
+  parts = let kept = other-keeps b (stateOf p k l) i other in rw leads (joined reached p k (kept .0) (kept .1))
+
+  pub other-stays : (samePhase (l .phase) (next .phase) && sameFlags (alone l) (alone next)) ≡ true → record { lamp = l; answer = 1; note = Silent } ≡ doneBy (meeting b) (stateOf p k l) i reached
+  other-stays same =
+      let clock : l .clock ≡ next .clock = sym (ap (λ (x : Lamp). x .clock) leads ∙ other-keeps b (stateOf p k l) i other .2) in
+      let here : stateOf p k l ≡ reached = ap (stateOf p k) (same-lamp l next clock same) ∙ parts in
+      rw (scenes-same k, unchanged-is-1 b) at (stays p k l i (meeting b) k) ∙ ap (doneBy (meeting b) (stateOf p k l) i) here
+
+  pub other-changes : (samePhase (l .phase) (next .phase) && sameFlags (alone l) (alone next)) ≡ false →
+      record { lamp = next; answer = answer (meeting b) false; note = noteOf (kind i) (alone l) (alone next) } ≡ doneBy (meeting b) (stateOf p k l) i reached
+  other-changes differs = changes p k l i (meeting b) k next differs ∙ ap (doneBy (meeting b) (stateOf p k l) i) parts
+
+-- a value that is noted, whatever the parameters and the table
+pub noted-alone : (p : Params) (k : List Scene) (l : Lamp) (i : Input) → lampOf (noted (alone l) i) ≡ lampOf (noted (stateOf p k l) i)
 unfolding noted
 noted-alone p k l (SwitchOnOff value) = refl
 noted-alone p k l (TimedStartStop value) = refl
@@ -114,62 +137,56 @@ noted-alone p k l (NightMode value) = refl
 noted-alone p k l (Bus event) = refl
 noted-alone p k l (Power event) = refl
 
--- with the same scene table, sameness is that of the lamps
-same-but-table : (p : Params) (k : List Scene) (l : Lamp) (u : State) → u .scenes ≡ k → sameButClock (stateOf p k l) u ≡ (samePhase (l .phase) (u .phase) && sameFlags (alone l) u)
-unfolding sameButClock sameFlags
-same-but-table p k l u e = ap (λ (b : Bool). (samePhase (l .phase) (u .phase) && sameFlags (alone l) u) && b) (ap (sameScenes k) e ∙ scenes-same k) ∙ and-true (samePhase (l .phase) (u .phase) && sameFlags (alone l) u)
-
-pub note-is-done : (p : Params) (k : List Scene) (l : Lamp) (i : Input) (after : Lamp) → after ≡ lampOf (noted (alone l) i) →
-    record { lamp = after; answer = answer Notes (samePhase (l .phase) (after .phase) && sameFlags (alone l) (alone after)); note = noteOf (kind i) (alone l) (alone after) } ≡ doneBy Notes (stateOf p k l) i (noted (stateOf p k l) i)
-unfolding doneBy sameFlags noteOf sameStatus value attributes recordOf
-note-is-done p k l i after e =
-    let here : after ≡ lampOf (noted (stateOf p k l) i) = e ∙ noted-alone p k l i in
-    rw (here, same-but-table p k l (noted (stateOf p k l) i) (noted-leaves (stateOf p k l) i .scenes)) refl
-
 -- ---- at the moved clock
 
 -- the answer that a dropped input gets
 abbrev answerIn : Fate → ℕ
 answerIn (Dropped answer) = answer
-answerIn Noted = 0
-answerIn Taken = 0
+answerIn (Counts noted) = 0
 
--- which of the three it is
-abbrev case : Fate → ℕ
-case (Dropped answer) = 0
-case Noted = 1
-case Taken = 2
+dropped-or-counts : {A : Type 0} {answer : ℕ} {noted : Bool} → Dropped answer ≡ Counts noted → A
+dropped-or-counts e = absurd (let z : _≡_ {A = ℕ} 0 1 = cc in omega arith)
 
-no-two : {A : Type 0} (f g : Fate) → f ≡ g → (case f ≡ case g → ⊥) → A
-no-two f g e differ = absurd (differ (ap case e))
-
--- an input that is taken is free, and one that is noted is held back
-pub taken-when-open : (b : Barrier) → fate b ≡ Taken → b ≡ Open
+-- an input that counts is taken where it is free, and else noted
+counts-when-open : (b : Barrier) → fate b ≡ Counts false → b ≡ Open
 unfolding fate
-taken-when-open Open e = refl
-taken-when-open Notes e = no-two Noted Taken e (λ z. omega arith)
-taken-when-open (Stopped why) e = no-two (Dropped (stoppedNumber why)) Taken e (λ z. omega arith)
+counts-when-open Open e = refl
+counts-when-open Notes e = no cc
+counts-when-open (Stopped why) e = dropped-or-counts e
 
-noted-when-held-back : (b : Barrier) → fate b ≡ Noted → b ≡ Notes
+counts-when-noted : (b : Barrier) → fate b ≡ Counts true → b ≡ Notes
 unfolding fate
-noted-when-held-back Open e = no-two Taken Noted e (λ z. omega arith)
-noted-when-held-back Notes e = refl
-noted-when-held-back (Stopped why) e = no-two (Dropped (stoppedNumber why)) Noted e (λ z. omega arith)
+counts-when-noted Open e = no cc
+counts-when-noted Notes e = refl
+counts-when-noted (Stopped why) e = dropped-or-counts e
 
 module _ (s : State) (i : Input) where
-  pub open-is-taken : barrier s i ≡ Open → doneBy Open s i (order s i) ≡ done (act (still s) i)
-  unfolding doneBy done act meet counted
-  open-is-taken free = rw (free, first-written (kind i) s (order s i)) refl
+  pub counts-is-done : (noted : Bool) → fate (barrier s i) ≡ Counts noted → doneBy (meeting noted) s i (after (meeting noted) s i) ≡ done (act (still s) i)
+  unfolding meeting after doneBy done act meet counted
+  counts-is-done false e = rw (counts-when-open (barrier s i) e, first-written (kind i) s (order s i)) refl
+  counts-is-done true e = rw (counts-when-noted (barrier s i) e, first-written (kind i) s (noted s i)) refl
 
-  -- the scene table is that of the order
-  pub open-teaches : barrier s i ≡ Open → order s i .scenes ≡ act (still s) i .state .scenes
+  -- an order to the light is not noted
+  pub light-is-done : (noted : Bool) → isLight i ≡ true → fate (barrier s i) ≡ Counts noted → doneBy Open s i (order s i) ≡ done (act (still s) i)
+  unfolding meeting after
+  light-is-done false light e = counts-is-done false e
+  light-is-done true light e = absurd (go i light (noted-where s i (counts-when-noted (barrier s i) e)))
+    where
+      go : (i : Input) → isLight i ≡ true → NotedWhere s i → ⊥
+      go (SwitchOnOffForced force) light w = no light
+      go (NightMode value) light w = no light
+
+  -- the scene table is that of the order: what is noted teaches nothing, and neither would its order
+  pub counts-teaches : (noted : Bool) → fate (barrier s i) ≡ Counts noted → order s i .scenes ≡ act (still s) i .state .scenes
   unfolding act meet counted
-  open-teaches free = rw free refl
-
-  -- a value that is noted leaves the scene table
-  pub noted-is-done : fate (barrier s i) ≡ Noted → (doneBy Notes s i (noted s i) ≡ done (act (still s) i)) × (s .scenes ≡ act (still s) i .state .scenes)
-  unfolding doneBy done act meet counted
-  noted-is-done e = rw (noted-when-held-back (barrier s i) e) (rw (first-written (kind i) s (noted s i)) refl, sym (noted-leaves s i .scenes))
+  counts-teaches false e = rw (counts-when-open (barrier s i) e) refl
+  counts-teaches true e =
+      let way = counts-when-noted (barrier s i) e in
+      rw way (order-leaves s i .scenes ∙ untaught i (noted-where s i way) ∙ sym (noted-leaves s i .scenes))
+    where
+      untaught : (i : Input) → NotedWhere s i → scenesAfter s i ≡ s .scenes
+      untaught (SwitchOnOffForced force) w = refl
+      untaught (NightMode value) w = refl
 
   -- nothing is left of a dropped input but its answer
   pub dropped-leaves : (answer : ℕ) → fate (barrier s i) ≡ Dropped answer → (droppedBy s answer ≡ done (act (still s) i)) × (s .scenes ≡ act (still s) i .state .scenes)
@@ -177,8 +194,8 @@ module _ (s : State) (i : Input) where
   dropped-leaves answer = go (barrier s i)
     where
       go : (b : Barrier) → fate b ≡ Dropped answer → (droppedBy s answer ≡ done (meet b (still s) i)) × (s .scenes ≡ meet b (still s) i .state .scenes)
-      go Open e = unfold fate in no-two Taken (Dropped answer) e (λ z. omega arith)
-      go Notes e = unfold fate in no-two Noted (Dropped answer) e (λ z. omega arith)
+      go Open e = unfold fate in dropped-or-counts (sym e)
+      go Notes e = unfold fate in dropped-or-counts (sym e)
       go (Stopped why) e = unfold fate droppedBy done meet in (rw (sym (ap answerIn e)) refl, refl)
 
   -- the parameters stay in any case, and one record is written at most

@@ -1,10 +1,12 @@
 -- What an input came to, as the code has it.
 use Prim.Native.Nat.{ℕ}
+use mathlib.Core.Bool.{Bool, true, false}
 use Rattle.rules.specs.declared.input.Input.{Input}
 use Rattle.rules.specs.declared.state.State.{State}
 use Rattle.rules.specs.declared.barrier.Barrier.{Barrier}
 use Rattle.rules.specs.declared.barrier.Barrier.the-variants.{Open, Notes, Stopped}
 use Rattle.rules.specs.Inputs.{kind}
+use Rattle.rules.specs.Orders.{order, noted}
 use Rattle.rules.specs.Answers.{stoppedNumber, answer, sameButClock}
 use Rattle.rules.specs.Steps.{Stepped}
 use Rattle.records.specs.declared.notes.Note.the-variants.{Silent}
@@ -13,14 +15,24 @@ use Rattle.actuator.specs.declared.step.Acted.{Acted}
 use Rattle.actuator.specs.declared.step.Acting.{Acting}
 use Rattle.actuator.specs.declared.step.Done.{Done}
 use Rattle.actuator.specs.declared.step.Fate.{Fate}
-use Rattle.actuator.specs.declared.step.Fate.the-variants.{Dropped, Noted, Taken}
+use Rattle.actuator.specs.declared.step.Fate.the-variants.{Dropped, Counts}
 use Rattle.records.specs.Notes.{notes, noteOf, firstOf}
 
 -- what becomes of an input, by what it meets
 unfoldable pub fate : Barrier → Fate
-fate Open = Taken
-fate Notes = Noted
+fate Open = Counts false
+fate Notes = Counts true
 fate (Stopped why) = Dropped (stoppedNumber why)
+
+-- what an input meets that counts, and what it then leaves
+unfoldable pub meeting : Bool → Barrier
+meeting false = Open
+meeting true = Notes
+
+unfoldable pub after : Barrier → State → Input → State
+after Open s i = order s i
+after Notes s i = noted s i
+after (Stopped why) s i = s
 
 -- a whole step
 unfoldable pub acted : Stepped → Acted

@@ -1,6 +1,6 @@
 // One input: the clock moves to its stamp, then it acts, is noted, or is dropped for good.
 ghost use mathlib.Core.Path.{_≡_};
-ghost use mathlib.Core.Bool.{true, false};
+ghost use mathlib.Core.Bool.{Bool, true, false};
 ghost use mathlib.Core.List.{List};
 ghost use Prim.Native.Nat.{_≤_};
 ghost use Rattle.base.specs.Time.{lastStamp};
@@ -12,9 +12,9 @@ ghost use Rattle.rules.specs.Steps.{act, step};
 ghost use Rattle.rules.specs.Lists.{still};
 ghost use Rattle.rules.specs.Soundness.{sound};
 ghost use Rattle.phases.specs.Room.{Room, Roomy};
-ghost use Rattle.lamps.specs.Lamps.{stateOf};
+ghost use Rattle.lamps.specs.Lamps.{lampOf, stateOf};
 ghost use Rattle.orders.specs.Lights.{isLight};
-ghost use Rattle.actuator.specs.Acts.{fate, done, doneBy, acting, acted};
+ghost use Rattle.actuator.specs.Acts.{fate, meeting, after, done, doneBy, acting, acted};
 use barriers::barrier::barrier_to;
 use inputs::value::is_lesson;
 use inputs::value::kind_of;
@@ -38,11 +38,10 @@ use states::same::same_lamp;
 use states::same::same_phase;
 use timers::clock::move_clock;
 
-// What becomes of an input at its barrier: it is dropped for good, with this answer, or it counts: its value is noted, or it is taken.
+// What becomes of an input at its barrier: it is dropped for good, with this answer, or it counts, and then it is noted, or taken.
 pub enum Fate {
     Dropped(u8),
-    Noted,
-    Taken,
+    Counts(bool),
 }
 
 // What an input that counts does, but for the scene table.
@@ -85,17 +84,28 @@ pub fn fate_of(l: Lamp, kind: u8) -> Fate
 {
     let b = barrier_to(l, kind);
     match b {
-        Barrier::Open => Fate::Taken,
-        Barrier::Notes => Fate::Noted,
+        Barrier::Open => Fate::Counts(false),
+        Barrier::Notes => Fate::Counts(true),
         Barrier::Stopped(why) => Fate::Dropped(stopped_number(why)),
     }
 }
 
-// The answer octet of an input that is taken.
+// The answer octet of an input that is taken and changes something, and of one that is noted and does.
+const TAKEN: u8 = 0;
+
+const NOTED: u8 = 6;
+
+fn changed_number(noted: bool) -> u8
+    ensures { λ r. ⌜ r ≡ answer (meeting noted) false ⌝ }
+{
+    if noted { NOTED } else { TAKEN }
+}
+
+// The answer octet of an order that is taken.
 fn taken_number(same: bool) -> u8
     ensures { λ r. ⌜ r ≡ answer Barrier.Open same ⌝ }
 {
-    if same { 1 } else { 0 }
+    if same { 1 } else { TAKEN }
 }
 
 // Whether the scene table after an order is the one before it. Only a lesson can change it, so no other input pays for it.
@@ -126,18 +136,30 @@ fn take_light(p: Params, k: [Scene; 8], l: Lamp, i: Input) -> Done
         let after = lamp::with_phase(l, next);
         Done {
             lamp: after,
-            answer: 0,
+            answer: TAKEN,
             note: notes::written(kind_of(i), l, after),
         }
     }
 }
 
-// Any other order: a lamp that stays shows nothing new.
-fn take_other(p: Params, l: Lamp, i: Input) -> Done
+// The lamp after any other input: after its order, or with its value, which is only noted.
+fn other_lamp(p: Params, l: Lamp, i: Input, noted: bool) -> Lamp
     requires { ⌜ Room p (l .clock) × (isLight i ≡ false) ⌝ }
-    ensures { λ r. ⌜ ((k : List Scene) → r ≡ doneBy Barrier.Open (stateOf p k l) i (order (stateOf p k l) i)) ⌝ }
+    ensures { λ r. ⌜ ((k : List Scene) → r ≡ lampOf (after (meeting noted) (stateOf p k l) i)) ⌝ }
 {
-    let after = other_order(p, l, i);
+    if noted {
+        noted_value(l, i)
+    } else {
+        other_order(p, l, i)
+    }
+}
+
+// Any other input, taken or noted: a lamp that stays shows nothing new.
+fn take_other(p: Params, l: Lamp, i: Input, noted: bool) -> Done
+    requires { ⌜ Room p (l .clock) × (isLight i ≡ false) ⌝ }
+    ensures { λ r. ⌜ ((k : List Scene) → r ≡ doneBy (meeting noted) (stateOf p k l) i (after (meeting noted) (stateOf p k l) i)) ⌝ }
+{
+    let after = other_lamp(p, l, i, noted);
     if same_lamp(l, after) {
         Done {
             lamp: l,
@@ -147,45 +169,26 @@ fn take_other(p: Params, l: Lamp, i: Input) -> Done
     } else {
         Done {
             lamp: after,
-            answer: 0,
+            answer: changed_number(noted),
             note: notes::written(kind_of(i), l, after),
         }
     }
 }
 
-// An input at the moved clock that is taken: kinds 1 to 3 are orders to the light.
-pub fn take(p: Params, k: [Scene; 8], l: Lamp, i: Input) -> Done
-    requires { ⌜ Roomy p (l .clock) (l .phase) × (fate (barrier (stateOf p k l) i) ≡ Fate.Taken) ⌝ }
+// An input at the moved clock that counts: kinds 1 to 3 are orders to the light, and none of them is noted.
+pub fn take(p: Params, k: [Scene; 8], l: Lamp, i: Input, noted: bool) -> Done
+    requires { ⌜ Roomy p (l .clock) (l .phase) × (fate (barrier (stateOf p k l) i) ≡ Fate.Counts noted) ⌝ }
     ensures { λ r. ⌜ r ≡ done (act (still (stateOf p k l)) i) ⌝ }
 {
     match kind_of(i) {
         1..=3 => take_light(p, k, l, i),
-        _ => take_other(p, l, i),
+        _ => take_other(p, l, i, noted),
     }
 }
 
-// The answer octet of an input that is noted.
-fn noted_number(same: bool) -> u8
-    ensures { λ r. ⌜ r ≡ answer Barrier.Notes same ⌝ }
-{
-    if same { 1 } else { 6 }
-}
-
-// An input at the moved clock that is noted: its value changes, and the scene table does not.
-pub fn note_value(l: Lamp, i: Input) -> Done
-    ensures { λ r. ⌜ ((p : Params) (k : List Scene) → fate (barrier (stateOf p k l) i) ≡ Fate.Noted → r ≡ done (act (still (stateOf p k l)) i)) ⌝ }
-{
-    let after = noted_value(l, i);
-    Done {
-        lamp: after,
-        answer: noted_number(same_lamp(l, after)),
-        note: notes::written(kind_of(i), l, after),
-    }
-}
-
-// The scene table after an input at the moved clock that is taken. Only a lesson can change it, so no other input pays for it.
+// The scene table after an input at the moved clock that counts. Only a lesson can change it, so no other input pays for it.
 pub fn scenes_after(p: Params, k: [Scene; 8], l: Lamp, i: Input) -> [Scene; 8]
-    requires { ⌜ fate (barrier (stateOf p k l) i) ≡ Fate.Taken ⌝ }
+    requires { ⌜ ((noted : Bool) × (fate (barrier (stateOf p k l) i) ≡ Fate.Counts noted)) ⌝ }
     ensures { λ r. ⌜ r ≡ act (still (stateOf p k l)) i .state .scenes ⌝ }
 {
     if is_lesson(i) {
@@ -210,18 +213,8 @@ pub fn act_input(s: State, i: Input) -> Acting
             answer,
             note: Note::Silent,
         },
-        Fate::Noted => {
-            let d = note_value(l, i);
-            let after = d.lamp;
-            let note = d.note;
-            Acting {
-                state: lamp::state_of(p, k, after),
-                answer: d.answer,
-                note,
-            }
-        }
-        Fate::Taken => {
-            let d = take(p, k, l, i);
+        Fate::Counts(noted) => {
+            let d = take(p, k, l, i, noted);
             let after = d.lamp;
             let note = d.note;
             Acting {

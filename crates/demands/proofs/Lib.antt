@@ -3,6 +3,7 @@ pub mod EveryFile
 pub mod Shown
 pub mod ThreeMistakes
 pub mod Noting
+pub mod Held
 pub mod Newest
 pub mod Used
 pub mod Joined

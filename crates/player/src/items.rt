@@ -9,7 +9,6 @@ ghost use Rattle.turns.specs.Turns.{listened};
 ghost use Rattle.player.specs.Playing.{Ready, ItemsPlayed, Advanced};
 use actuator::step::Fate;
 use actuator::step::fate_of;
-use actuator::step::note_value;
 use actuator::step::scenes_after;
 use actuator::step::take;
 use buffers::put::put_note;
@@ -104,24 +103,14 @@ pub fn play_items(
             Asked::Order(kind, value) => {
                 let f = fate_of(moved, kind);
                 match f {
-                    Fate::Taken => {
+                    Fate::Counts(noted) => {
                         let x = known_input(kind, value);
-                        let d = take(p, k, moved, x);
+                        let d = take(p, k, moved, x, noted);
                         let note = d.note;
                         count = put_note(records, m.count, note);
                         answers[i as usize] = d.answer;
                         let table = scenes_after(p, k, moved, x);
                         k = table;
-                        z = sensor;
-                        heard = turn.heard;
-                        l = d.lamp;
-                        i += 1;
-                    }
-                    Fate::Noted => {
-                        let d = note_value(moved, known_input(kind, value));
-                        let note = d.note;
-                        count = put_note(records, m.count, note);
-                        answers[i as usize] = d.answer;
                         z = sensor;
                         heard = turn.heard;
                         l = d.lamp;

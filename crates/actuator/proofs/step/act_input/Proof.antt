@@ -1,7 +1,7 @@
 use Rattle.rules.proofs.Laws.Inputs.{kind-range}
 use Rattle.rules.specs.Barriers.{barrier}
 use Rattle.actuator.specs.Acts.{droppedBy}
-use Rattle.actuator.proofs.Taken.{noted-is-done, dropped-leaves, acting-by-parts}
+use Rattle.actuator.proofs.Taken.{dropped-leaves, acting-by-parts}
 use mathlib.Core.Path.{sym, _∙_}
 use borrow.Author.Needs.{needs}
 use Rattle.actuator.proofs.step.act_input.Statement.{statement}
@@ -13,11 +13,11 @@ fate-of-requires c κs = rw (c .kind-of .ensures) (kind-range (c .before .before
 take-requires : tie.Need-take-requires
 unfolding barrier
 take-requires c κs =
-    (rw (c .before .before .before .before .lamp-of .ensures) (c .before .before .before .before .before .before .before .pre), rw (← c .before .before .before .kind-of .ensures) (sym (c .before .before .fate-of .ensures) ∙ c .enum-told2 .given .1))
+    (rw (c .before .before .before .before .before .lamp-of .ensures) (c .before .before .before .before .before .before .before .before .pre), rw (← c .before .before .before .before .kind-of .ensures) (sym (c .before .before .before .fate-of .ensures) ∙ c .before .f2 .given .1))
 
 scenes-after-requires : tie.Need-scenes-after-requires
 unfolding barrier
-scenes-after-requires c κs = rw (← c .before .before .before .before .before .kind-of .ensures) (sym (c .before .before .before .before .fate-of .ensures) ∙ c .before .before .enum-told2 .given .1)
+scenes-after-requires c κs = (c .before .before .before .f2 .given .0 .0, rw (← c .before .before .before .before .before .before .kind-of .ensures) (sym (c .before .before .before .before .before .fate-of .ensures) ∙ c .before .before .before .f2 .given .1))
 
 returns : tie.Need-returns
 unfolding barrier droppedBy
@@ -28,19 +28,10 @@ returns c =
     acting-by-parts (a .s) (a .i) (droppedBy (a .s) _) _ (left .0) (left .1)
 
 returns-2 : tie.Need-returns-2
-unfolding barrier
 returns-2 c =
-    let a = c .before .before .before .before .before .before .before .before .before .before .args in
-    let l = c .before .before .before .before .before .before .before .lamp-of .ensures in
-    let fate = rw (c .before .before .before .before .before .before .kind-of .ensures, l) at (sym (c .before .before .before .before .before .fate-of .ensures) ∙ c .before .before .before .enum-told .given .1) in
+    let a = c .before .before .before .before .before .before .before .before .before .before .before .before .args in
+    let l = c .before .before .before .before .before .before .before .before .before .lamp-of .ensures in
     rw (c .state-of .ensures)
-    (acting-by-parts (a .s) (a .i) _ _ (rw l at (c .before .before .note-value .ensures (a .s .params) (a .s .scenes)) fate) (noted-is-done (a .s) (a .i) fate .1))
-
-returns-3 : tie.Need-returns-3
-returns-3 c =
-    let a = c .before .before .before .before .before .before .before .before .before .before .before .args in
-    let l = c .before .before .before .before .before .before .before .before .lamp-of .ensures in
-    rw (c .state-of2 .ensures)
     (acting-by-parts (a .s) (a .i) _ _ (rw l at (c .before .before .before .take .ensures)) (rw l at (c .before .scenes-after .ensures)))
 
 pub act-input-spec : {M : Type 1} → statement M
@@ -52,12 +43,8 @@ act-input-spec =
     fate-of-requires
     (λ c. search needs)
     (λ c. search needs)
-    (λ c κs. search needs)
-    (λ c κs. search needs)
-    (λ c. search needs)
     take-requires
     scenes-after-requires
     (λ c κs. search needs)
     returns
-    returns-2
-    returns-3)
+    returns-2)

@@ -22,7 +22,6 @@ use Rattle.pairs.specs.Pairs.{pairOf}
 use Rattle.pairs.proofs.Soundness.{sound-pair-exactly-when}
 use Rattle.turns.specs.Turns.{listened, Turned}
 use Rattle.turns.proofs.Turning.{turned}
-use Rattle.actuator.proofs.Taken.{noted-is-done}
 use Rattle.player.specs.Playing.{Ready}
 use Rattle.player.proofs.Turns.{Going, going-first, next-item, going-rests, going-asks, going-acts, going-dropped, going-last}
 use Rattle.player.proofs.items.play_items.Statement.{statement}
@@ -126,129 +125,81 @@ fate-of-requires : tie.Need-fate-of-requires Inv-loop μ-loop
 fate-of-requires c κs = let x = asked (c .before) in rw (← meant-kind _ _ (x .0) (x .1)) (kind-range (x .0))
 
 known-input-requires : tie.Need-known-input-requires Inv-loop μ-loop
-known-input-requires c κs = rw (asked (c .before .before .before .before) .1) refl
+known-input-requires c κs = rw (asked (c .before .before .before .before .before) .1) refl
 
 take-requires : tie.Need-take-requires Inv-loop μ-loop
 unfolding barrier
 take-requires c κs =
-    let ready = ready-to (c .before .before .before .before .before .before .before .before .before .before .before .before .before .before .before .before .before .before .before) in
-    let a = c .before .before .before .before .before .before .before .before .before .before .before .before .before .before .before .before .before .before .before .before .before .before .before .before .before .args in
-    let loop = c .before .before .before .before .before .before .before .before .before .before .before .before .before .before .before .before .before .before .loop in
+    let ready = ready-to (c .before .before .before .before .before .before .before .before .before .before .before .before .before .before .before .before .before .before .before .before) in
+    let a = c .before .before .before .before .before .before .before .before .before .before .before .before .before .before .before .before .before .before .before .before .before .before .before .before .before .before .args in
+    let loop = c .before .before .before .before .before .before .before .before .before .before .before .before .before .before .before .before .before .before .before .loop in
     let s = stateOf (a .start .params) (loop .k) (loop .l) in
     let g = loop .inv .0 in
-    let f = next-item _ _ _ _ _ _ ready _ _ _ _ _ g (c .before .before .before .before .before .before .before .before .before .before .before .before .before .before .before .before .before .loop-test .taken) in
-    let counts = rw (← meant-kind _ _ _ (c .known-input .ensures)) at (sym (c .before .before .before .fate-of .ensures) ∙ c .before .enum-told2 .given .1) in
-    (rw (c .before .before .before .before .before .before .before .before .before .before .before .before .before .advance .ensures (loop .k) .lamp, c .before .before .before .before .before .before .before .before .before .before .before .before .before .before .before .stamp-at .ensures, (c .before .before .before .before .before .before .before .before .before .before .before .before .before .before .before .before .input-place .ensures), move-clock s _) (moved-roomy s _ (sound-pair-exactly-when _ .0 (g .safe) .actuator) (f .risen) (f .timely)), counts)
+    let f = next-item _ _ _ _ _ _ ready _ _ _ _ _ g (c .before .before .before .before .before .before .before .before .before .before .before .before .before .before .before .before .before .before .loop-test .taken) in
+    let counts = rw (← meant-kind _ _ _ (c .known-input .ensures)) at (sym (c .before .before .before .before .fate-of .ensures) ∙ c .before .before .f .given .1) in
+    (rw (c .before .before .before .before .before .before .before .before .before .before .before .before .before .before .advance .ensures (loop .k) .lamp, c .before .before .before .before .before .before .before .before .before .before .before .before .before .before .before .before .stamp-at .ensures, (c .before .before .before .before .before .before .before .before .before .before .before .before .before .before .before .before .before .input-place .ensures), move-clock s _) (moved-roomy s _ (sound-pair-exactly-when _ .0 (g .safe) .actuator) (f .risen) (f .timely)), counts)
 
 put-note-requires : tie.Need-put-note-requires Inv-loop μ-loop
 put-note-requires c κs =
-    let ready = ready-to (c .before .before .before .before .before .before .before .before .before .before .before .before .before .before .before .before .before .before .before .before .before) in
-    let a = c .before .before .before .before .before .before .before .before .before .before .before .before .before .before .before .before .before .before .before .before .before .before .before .before .before .before .before in
-    let loop = c .before .before .before .before .before .before .before .before .before .before .before .before .before .before .before .before .before .before .before .before .loop in
+    let ready = ready-to (c .before .before .before .before .before .before .before .before .before .before .before .before .before .before .before .before .before .before .before .before .before .before) in
+    let a = c .before .before .before .before .before .before .before .before .before .before .before .before .before .before .before .before .before .before .before .before .before .before .before .before .before .before .before .before in
+    let loop = c .before .before .before .before .before .before .before .before .before .before .before .before .before .before .before .before .before .before .before .before .before .loop in
     let g = loop .inv .0 in
-    let within = c .before .before .before .before .before .before .before .before .before .before .before .before .before .before .before .before .before .before .before .loop-test .taken in
-    let place = (c .before .before .before .before .before .before .before .before .before .before .before .before .before .before .before .before .before .before .input-place .ensures) in
-    let stamp = rw place at (c .before .before .before .before .before .before .before .before .before .before .before .before .before .before .before .before .before .stamp-at .ensures) in
-    let moves = c .before .before .before .before .before .before .before .before .before .before .before .before .before .before .before .advance in
-    let two = a-move-writes-at-most-two (stateOf (a .args .start .params) (loop .k) (loop .l)) (c .before .before .before .before .before .before .before .before .before .before .before .before .before .before .before .before .before .stamp-at .result) in
+    let within = c .before .before .before .before .before .before .before .before .before .before .before .before .before .before .before .before .before .before .before .before .loop-test .taken in
+    let place = (c .before .before .before .before .before .before .before .before .before .before .before .before .before .before .before .before .before .before .before .input-place .ensures) in
+    let stamp = rw place at (c .before .before .before .before .before .before .before .before .before .before .before .before .before .before .before .before .before .before .stamp-at .ensures) in
+    let moves = c .before .before .before .before .before .before .before .before .before .before .before .before .before .before .before .before .advance in
+    let two = a-move-writes-at-most-two (stateOf (a .args .start .params) (loop .k) (loop .l)) (c .before .before .before .before .before .before .before .before .before .before .before .before .before .before .before .before .before .before .stamp-at .result) in
     let own = listed-few (c .before .take .result .note) in
     (omega (arith, within, two, moves .ensures (loop .k) .count, g .stands .few, ready .few), omega (arith, within, two, own, moves .ensures (loop .k) .count, moves .kept .0, g .stands .few, g .stands .room, a .pre .2))
 
 cast-answers-2 : tie.Need-cast-answers-2 Inv-loop μ-loop
-cast-answers-2 c = omega (arith, c .before .before .before .before .before .before .before .before .before .before .before .before .before .before .before .before .before .before .before .before .before .before .loop-test .taken, ready-to (c .before .before .before .before .before .before .before .before .before .before .before .before .before .before .before .before .before .before .before .before .before .before .before .before) .few)
+cast-answers-2 c = omega (arith, c .before .before .before .before .before .before .before .before .before .before .before .before .before .before .before .before .before .before .before .before .before .before .before .loop-test .taken, ready-to (c .before .before .before .before .before .before .before .before .before .before .before .before .before .before .before .before .before .before .before .before .before .before .before .before .before) .few)
 
 slice-write-answers-2 : tie.Need-slice-write-answers-2 Inv-loop μ-loop
-slice-write-answers-2 c = omega (arith, c .before .before .before .before .before .before .before .before .before .before .before .before .before .before .before .before .before .before .before .before .before .before .loop-test .taken, c .before .before .before .before .before .before .before .before .before .before .before .before .before .before .before .before .before .before .before .before .before .before .before .loop .inv .0 .stands .places, c .before .before .before .before .before .before .before .before .before .before .before .before .before .before .before .before .before .before .before .before .before .before .before .before .before .before .before .before .before .before .pre .3)
+slice-write-answers-2 c = omega (arith, c .before .before .before .before .before .before .before .before .before .before .before .before .before .before .before .before .before .before .before .before .before .before .before .loop-test .taken, c .before .before .before .before .before .before .before .before .before .before .before .before .before .before .before .before .before .before .before .before .before .before .before .before .loop .inv .0 .stands .places, c .before .before .before .before .before .before .before .before .before .before .before .before .before .before .before .before .before .before .before .before .before .before .before .before .before .before .before .before .before .before .before .pre .3)
 
 scenes-after-requires : tie.Need-scenes-after-requires Inv-loop μ-loop
 unfolding barrier
-scenes-after-requires c κs = rw (← meant-kind _ _ _ (c .before .before .before .before .before .known-input .ensures)) at (sym (c .before .before .before .before .before .before .before .before .fate-of .ensures) ∙ c .before .before .before .before .before .before .enum-told2 .given .1)
+scenes-after-requires c κs = (c .before .before .before .before .before .before .before .f .given .0 .0, rw (← meant-kind _ _ _ (c .before .before .before .before .before .known-input .ensures)) at (sym (c .before .before .before .before .before .before .before .before .before .fate-of .ensures) ∙ c .before .before .before .before .before .before .before .f .given .1))
 
 add-i-2 : tie.Need-add-i-2 Inv-loop μ-loop
-add-i-2 c = omega (arith, c .before .before .before .before .before .before .before .before .before .before .before .before .before .before .before .before .before .before .before .before .before .before .before .before .loop-test .taken, ready-to (c .before .before .before .before .before .before .before .before .before .before .before .before .before .before .before .before .before .before .before .before .before .before .before .before .before .before) .few)
+add-i-2 c = omega (arith, c .before .before .before .before .before .before .before .before .before .before .before .before .before .before .before .before .before .before .before .before .before .before .before .before .before .loop-test .taken, ready-to (c .before .before .before .before .before .before .before .before .before .before .before .before .before .before .before .before .before .before .before .before .before .before .before .before .before .before .before) .few)
 
 loop-less-2 : tie.Need-loop-less-2 Inv-loop μ-loop
-loop-less-2 c = omega (arith, c .before .before .before .before .before .before .before .before .before .before .before .before .before .before .before .before .before .before .before .before .before .before .before .before .loop-test .taken)
+loop-less-2 c = omega (arith, c .before .before .before .before .before .before .before .before .before .before .before .before .before .before .before .before .before .before .before .before .before .before .before .before .before .loop-test .taken)
 
 loop-again-2 : tie.Need-loop-again-2 Inv-loop μ-loop
 loop-again-2 c =
-    let ready = ready-to (c .before .before .before .before .before .before .before .before .before .before .before .before .before .before .before .before .before .before .before .before .before .before .before .before .before .before) in
-    let a = c .before .before .before .before .before .before .before .before .before .before .before .before .before .before .before .before .before .before .before .before .before .before .before .before .before .before .before .before .before .before .before .before in
-    let loop = c .before .before .before .before .before .before .before .before .before .before .before .before .before .before .before .before .before .before .before .before .before .before .before .before .before .loop in
+    let ready = ready-to (c .before .before .before .before .before .before .before .before .before .before .before .before .before .before .before .before .before .before .before .before .before .before .before .before .before .before .before) in
+    let a = c .before .before .before .before .before .before .before .before .before .before .before .before .before .before .before .before .before .before .before .before .before .before .before .before .before .before .before .before .before .before .before .before .before in
+    let loop = c .before .before .before .before .before .before .before .before .before .before .before .before .before .before .before .before .before .before .before .before .before .before .before .before .before .before .loop in
     let g = loop .inv .0 in
-    let within = c .before .before .before .before .before .before .before .before .before .before .before .before .before .before .before .before .before .before .before .before .before .before .before .before .loop-test .taken in
-    let place = (c .before .before .before .before .before .before .before .before .before .before .before .before .before .before .before .before .before .before .before .before .before .before .before .input-place .ensures) in
-    let stamp = rw place at (c .before .before .before .before .before .before .before .before .before .before .before .before .before .before .before .before .before .before .before .before .before .before .stamp-at .ensures) in
-    let moves = c .before .before .before .before .before .before .before .before .before .before .before .before .before .before .before .before .before .before .before .before .advance in
-    let two = a-move-writes-at-most-two (stateOf (a .args .start .params) (loop .k) (loop .l)) (c .before .before .before .before .before .before .before .before .before .before .before .before .before .before .before .before .before .before .before .before .before .before .stamp-at .result) in
+    let within = c .before .before .before .before .before .before .before .before .before .before .before .before .before .before .before .before .before .before .before .before .before .before .before .before .before .loop-test .taken in
+    let place = (c .before .before .before .before .before .before .before .before .before .before .before .before .before .before .before .before .before .before .before .before .before .before .before .before .input-place .ensures) in
+    let stamp = rw place at (c .before .before .before .before .before .before .before .before .before .before .before .before .before .before .before .before .before .before .before .before .before .before .before .stamp-at .ensures) in
+    let moves = c .before .before .before .before .before .before .before .before .before .before .before .before .before .before .before .before .before .before .before .before .before .advance in
+    let two = a-move-writes-at-most-two (stateOf (a .args .start .params) (loop .k) (loop .l)) (c .before .before .before .before .before .before .before .before .before .before .before .before .before .before .before .before .before .before .before .before .before .before .before .stamp-at .result) in
     let put = c .before .before .before .before .put-note in
     let means = c .before .before .before .before .before .before .before .known-input .ensures in
-    let goes = going-acts _ _ _ _ _ _ ready (a .args .start .params) (loop .k) (loop .l) (loop .z) (loop .heard) _ _ _ _ g (loop .inv .1) within (omega (arith, a .pre .2)) (a .pre .3) (omega (arith, within, g .stands .few, g .stands .room, a .pre .2)) _ _ (rw stamp at (moves .ensures)) (moves .kept .0) (omega (arith, within, two, moves .ensures (loop .k) .count, moves .kept .0, g .stands .few, g .stands .room, a .pre .2)) _ (took (c .before .before .before .before .before .before .before .before .before .before .before .before .before .before .before)) _ _ (c .before .before .before .before .before .before .before .before .before .before .before .before .asked .given .1) _ means _ (c .before .before .before .before .before .before .take .ensures) _ (put .ensures .0) _ (put .ensures .1) (put .kept .0 ∙ moves .kept .0) _ (c .before .scenes-after .ensures) in
-    (goes, omega (arith, behind-still (c .before .before .before .before .before .before .before .before .before .before .before .before .before .before .before), put .ensures .0))
-
--- a value that is noted
-known-input-requires-2 : tie.Need-known-input-requires-2 Inv-loop μ-loop
-known-input-requires-2 c κs = rw (asked (c .before .before .before .before) .1) refl
-
-put-note-requires-2 : tie.Need-put-note-requires-2 Inv-loop μ-loop
-put-note-requires-2 c κs =
-    let ready = ready-to (c .before .before .before .before .before .before .before .before .before .before .before .before .before .before .before .before .before .before .before .before .before) in
-    let a = c .before .before .before .before .before .before .before .before .before .before .before .before .before .before .before .before .before .before .before .before .before .before .before .before .before .before .before in
-    let loop = c .before .before .before .before .before .before .before .before .before .before .before .before .before .before .before .before .before .before .before .before .loop in
-    let g = loop .inv .0 in
-    let within = c .before .before .before .before .before .before .before .before .before .before .before .before .before .before .before .before .before .before .before .loop-test .taken in
-    let place = (c .before .before .before .before .before .before .before .before .before .before .before .before .before .before .before .before .before .before .input-place .ensures) in
-    let stamp = rw place at (c .before .before .before .before .before .before .before .before .before .before .before .before .before .before .before .before .before .stamp-at .ensures) in
-    let moves = c .before .before .before .before .before .before .before .before .before .before .before .before .before .before .before .advance in
-    let two = a-move-writes-at-most-two (stateOf (a .args .start .params) (loop .k) (loop .l)) (c .before .before .before .before .before .before .before .before .before .before .before .before .before .before .before .before .before .stamp-at .result) in
-    let own = listed-few (c .before .note-value .result .note) in
-    (omega (arith, within, two, moves .ensures (loop .k) .count, g .stands .few, ready .few), omega (arith, within, two, own, moves .ensures (loop .k) .count, moves .kept .0, g .stands .few, g .stands .room, a .pre .2))
+    let goes = going-acts _ _ _ _ _ _ ready (a .args .start .params) (loop .k) (loop .l) (loop .z) (loop .heard) _ _ _ _ g (loop .inv .1) within (omega (arith, a .pre .2)) (a .pre .3) (omega (arith, within, g .stands .few, g .stands .room, a .pre .2)) _ _ (rw stamp at (moves .ensures)) (moves .kept .0) (omega (arith, within, two, moves .ensures (loop .k) .count, moves .kept .0, g .stands .few, g .stands .room, a .pre .2)) _ (took (c .before .before .before .before .before .before .before .before .before .before .before .before .before .before .before .before)) _ _ (c .before .before .before .before .before .before .before .before .before .before .before .before .before .asked .given .1) _ means _ (c .before .before .before .before .before .before .take .ensures) _ (put .ensures .0) _ (put .ensures .1) (put .kept .0 ∙ moves .kept .0) _ (c .before .scenes-after .ensures) in
+    (goes, omega (arith, behind-still (c .before .before .before .before .before .before .before .before .before .before .before .before .before .before .before .before), put .ensures .0))
 
 cast-answers-3 : tie.Need-cast-answers-3 Inv-loop μ-loop
-cast-answers-3 c = omega (arith, c .before .before .before .before .before .before .before .before .before .before .before .before .before .before .before .before .before .before .before .before .before .before .loop-test .taken, ready-to (c .before .before .before .before .before .before .before .before .before .before .before .before .before .before .before .before .before .before .before .before .before .before .before .before) .few)
+cast-answers-3 c = omega (arith, c .before .before .before .before .before .before .before .before .before .before .before .before .before .before .before .before .before .loop-test .taken, ready-to (c .before .before .before .before .before .before .before .before .before .before .before .before .before .before .before .before .before .before .before) .few)
 
 slice-write-answers-3 : tie.Need-slice-write-answers-3 Inv-loop μ-loop
-slice-write-answers-3 c = omega (arith, c .before .before .before .before .before .before .before .before .before .before .before .before .before .before .before .before .before .before .before .before .before .before .loop-test .taken, c .before .before .before .before .before .before .before .before .before .before .before .before .before .before .before .before .before .before .before .before .before .before .before .loop .inv .0 .stands .places, c .before .before .before .before .before .before .before .before .before .before .before .before .before .before .before .before .before .before .before .before .before .before .before .before .before .before .before .before .before .before .pre .3)
+slice-write-answers-3 c = omega (arith, c .before .before .before .before .before .before .before .before .before .before .before .before .before .before .before .before .before .loop-test .taken, c .before .before .before .before .before .before .before .before .before .before .before .before .before .before .before .before .before .before .loop .inv .0 .stands .places, c .before .before .before .before .before .before .before .before .before .before .before .before .before .before .before .before .before .before .before .before .before .before .before .before .before .pre .3)
 
 add-i-3 : tie.Need-add-i-3 Inv-loop μ-loop
-add-i-3 c = omega (arith, c .before .before .before .before .before .before .before .before .before .before .before .before .before .before .before .before .before .before .before .before .before .before .before .loop-test .taken, ready-to (c .before .before .before .before .before .before .before .before .before .before .before .before .before .before .before .before .before .before .before .before .before .before .before .before .before) .few)
+add-i-3 c = omega (arith, c .before .before .before .before .before .before .before .before .before .before .before .before .before .before .before .before .before .loop-test .taken, ready-to (c .before .before .before .before .before .before .before .before .before .before .before .before .before .before .before .before .before .before .before) .few)
 
 loop-less-3 : tie.Need-loop-less-3 Inv-loop μ-loop
-loop-less-3 c = omega (arith, c .before .before .before .before .before .before .before .before .before .before .before .before .before .before .before .before .before .before .before .before .before .before .before .loop-test .taken)
+loop-less-3 c = omega (arith, c .before .before .before .before .before .before .before .before .before .before .before .before .before .before .before .before .before .loop-test .taken)
 
 loop-again-3 : tie.Need-loop-again-3 Inv-loop μ-loop
 unfolding barrier
 loop-again-3 c =
-    let ready = ready-to (c .before .before .before .before .before .before .before .before .before .before .before .before .before .before .before .before .before .before .before .before .before .before .before .before .before) in
-    let a = c .before .before .before .before .before .before .before .before .before .before .before .before .before .before .before .before .before .before .before .before .before .before .before .before .before .before .before .before .before .before .before in
-    let loop = c .before .before .before .before .before .before .before .before .before .before .before .before .before .before .before .before .before .before .before .before .before .before .before .before .loop in
-    let g = loop .inv .0 in
-    let within = c .before .before .before .before .before .before .before .before .before .before .before .before .before .before .before .before .before .before .before .before .before .before .before .loop-test .taken in
-    let place = (c .before .before .before .before .before .before .before .before .before .before .before .before .before .before .before .before .before .before .before .before .before .before .input-place .ensures) in
-    let stamp = rw place at (c .before .before .before .before .before .before .before .before .before .before .before .before .before .before .before .before .before .before .before .before .before .stamp-at .ensures) in
-    let moves = c .before .before .before .before .before .before .before .before .before .before .before .before .before .before .before .before .before .before .before .advance in
-    let two = a-move-writes-at-most-two (stateOf (a .args .start .params) (loop .k) (loop .l)) (c .before .before .before .before .before .before .before .before .before .before .before .before .before .before .before .before .before .before .before .before .before .stamp-at .result) in
-    let put = c .before .before .before .put-note2 in
-    let means = c .before .before .before .before .before .before .known-input2 .ensures in
-    let fate = rw (← meant-kind _ _ _ means) at (sym (c .before .before .before .before .before .before .before .before .before .fate-of .ensures) ∙ c .before .before .before .before .before .before .before .enum-told3 .given .1) in
-    let goes = going-acts _ _ _ _ _ _ ready (a .args .start .params) (loop .k) (loop .l) (loop .z) (loop .heard) _ _ _ _ g (loop .inv .1) within (omega (arith, a .pre .2)) (a .pre .3) (omega (arith, within, g .stands .few, g .stands .room, a .pre .2)) _ _ (rw stamp at (moves .ensures)) (moves .kept .0) (omega (arith, within, two, moves .ensures (loop .k) .count, moves .kept .0, g .stands .few, g .stands .room, a .pre .2)) _ (took (c .before .before .before .before .before .before .before .before .before .before .before .before .before .before)) _ _ (c .before .before .before .before .before .before .before .before .before .before .before .asked .given .1) _ means _ (c .before .before .before .before .before .note-value .ensures (a .args .start .params) (loop .k) fate) _ (put .ensures .0) _ (put .ensures .1) (put .kept .0 ∙ moves .kept .0) _ (noted-is-done _ _ fate .1) in
-    (goes, omega (arith, behind-still (c .before .before .before .before .before .before .before .before .before .before .before .before .before .before), put .ensures .0))
-
-cast-answers-4 : tie.Need-cast-answers-4 Inv-loop μ-loop
-cast-answers-4 c = omega (arith, c .before .before .before .before .before .before .before .before .before .before .before .before .before .before .before .before .before .loop-test .taken, ready-to (c .before .before .before .before .before .before .before .before .before .before .before .before .before .before .before .before .before .before .before) .few)
-
-slice-write-answers-4 : tie.Need-slice-write-answers-4 Inv-loop μ-loop
-slice-write-answers-4 c = omega (arith, c .before .before .before .before .before .before .before .before .before .before .before .before .before .before .before .before .before .loop-test .taken, c .before .before .before .before .before .before .before .before .before .before .before .before .before .before .before .before .before .before .loop .inv .0 .stands .places, c .before .before .before .before .before .before .before .before .before .before .before .before .before .before .before .before .before .before .before .before .before .before .before .before .before .pre .3)
-
-add-i-4 : tie.Need-add-i-4 Inv-loop μ-loop
-add-i-4 c = omega (arith, c .before .before .before .before .before .before .before .before .before .before .before .before .before .before .before .before .before .loop-test .taken, ready-to (c .before .before .before .before .before .before .before .before .before .before .before .before .before .before .before .before .before .before .before) .few)
-
-loop-less-4 : tie.Need-loop-less-4 Inv-loop μ-loop
-loop-less-4 c = omega (arith, c .before .before .before .before .before .before .before .before .before .before .before .before .before .before .before .before .before .loop-test .taken)
-
-loop-again-4 : tie.Need-loop-again-4 Inv-loop μ-loop
-unfolding barrier
-loop-again-4 c =
     let ready = ready-to (c .before .before .before .before .before .before .before .before .before .before .before .before .before .before .before .before .before .before .before) in
     let a = c .before .before .before .before .before .before .before .before .before .before .before .before .before .before .before .before .before .before .before .before .before .before .before .before .before in
     let loop = c .before .before .before .before .before .before .before .before .before .before .before .before .before .before .before .before .before .before .loop in
@@ -259,8 +210,8 @@ loop-again-4 c =
     let moves = c .before .before .before .before .before .before .before .before .before .before .before .before .before .advance in
     let two = a-move-writes-at-most-two (stateOf (a .args .start .params) (loop .k) (loop .l)) (c .before .before .before .before .before .before .before .before .before .before .before .before .before .before .before .stamp-at .result) in
     let x = asked (c .before .before .before .before .before) in
-    let drops = rw (← meant-kind _ _ _ (x .1)) at (sym (c .before .before .before .fate-of .ensures) ∙ c .before .f .given .1) in
-    let goes = going-dropped _ _ _ _ _ _ ready (a .args .start .params) (loop .k) (loop .l) (loop .z) (loop .heard) _ _ _ _ g (loop .inv .1) within (omega (arith, a .pre .2)) (a .pre .3) (omega (arith, within, g .stands .few, g .stands .room, a .pre .2)) _ _ (rw stamp at (moves .ensures)) (moves .kept .0) (omega (arith, within, two, moves .ensures (loop .k) .count, moves .kept .0, g .stands .few, g .stands .room, a .pre .2)) _ (took (c .before .before .before .before .before .before .before .before)) _ _ (c .before .before .before .before .before .asked .given .1) (x .0) (x .1) (c .before .f .given .0 .0) drops in
+    let drops = rw (← meant-kind _ _ _ (x .1)) at (sym (c .before .before .before .fate-of .ensures) ∙ c .before .f2 .given .1) in
+    let goes = going-dropped _ _ _ _ _ _ ready (a .args .start .params) (loop .k) (loop .l) (loop .z) (loop .heard) _ _ _ _ g (loop .inv .1) within (omega (arith, a .pre .2)) (a .pre .3) (omega (arith, within, g .stands .few, g .stands .room, a .pre .2)) _ _ (rw stamp at (moves .ensures)) (moves .kept .0) (omega (arith, within, two, moves .ensures (loop .k) .count, moves .kept .0, g .stands .few, g .stands .room, a .pre .2)) _ (took (c .before .before .before .before .before .before .before .before)) _ _ (c .before .before .before .before .before .asked .given .1) (x .0) (x .1) (c .before .f2 .given .0 .0) drops in
     (goes, behind-still (c .before .before .before .before .before .before .before .before))
 
 same-length : tie.Need-same-length Inv-loop μ-loop
@@ -307,20 +258,11 @@ play-items-spec =
     loop-less-2
     loop-again-2
     (λ c. search needs)
-    known-input-requires-2
-    (λ c κs. search needs)
-    put-note-requires-2
     cast-answers-3
     slice-write-answers-3
     add-i-3
     loop-less-3
     loop-again-3
-    (λ c. search needs)
-    cast-answers-4
-    slice-write-answers-4
-    add-i-4
-    loop-less-4
-    loop-again-4
     (λ c κs. search needs)
     same-length
     same-length-2
