@@ -4,7 +4,7 @@ use Prim.Native.Nat.{ℕ}
 use mathlib.Core.Bool.{Bool, true, false, cond, not, _&&_, _||_, or-true, or-false}
 use mathlib.Core.Path.{_≡_, refl, sym, ap, subst, _∙_}
 use mathlib.Core.Logic.{_⊎_, inl, inr}
-use mathlib.Core.List.{List, [], _∷_}
+use mathlib.Core.List.{List, [], _∷_, _++_}
 use Rattle.base.proofs.Tests.{no}
 use Rattle.rules.specs.declared.parameters.Params.{Params}
 use Rattle.rules.specs.declared.parameters.Scene.{Scene}
@@ -25,14 +25,14 @@ use Rattle.rules.specs.Orders.{withLink, standing, held, plain, byMode, forced,
 use Rattle.rules.specs.Barriers.{rows, rowOf, firstBarrier, barrierTo, barrier}
 use Rattle.rules.specs.Soundness.{sound}
 use Rattle.rules.specs.Steps.{Moved, Stepped, fresh, atMoment, clockMove, act, step}
-use Rattle.rules.specs.Lists.{Cue, cue, andThen, moved, stepped, plays, playsTo}
+use Rattle.rules.specs.Lists.{Cue, cue, Played, andThen, moved, stepped, plays, playsTo, start, playList}
 use Rattle.rules.specs.Said.{Flags, flagsAfterPower, flagsAfter}
 use Rattle.rules.specs.Promises.{turns, Each, upTo, stateAt}
 use Rattle.rules.proofs.Laws.Facts.{sound-exactly-when, held-exactly-when}
 use Rattle.rules.proofs.Laws.Barriers.{open-is-unstopped, NotedWhere, noted-where}
 use Rattle.rules.proofs.Laws.Orders.{order-leaves}
 use Rattle.rules.proofs.Laws.Soundness.{noted-is-the-note, taken-is-the-order}
-use Rattle.rules.proofs.Laws.Lists.{plays-to-next}
+use Rattle.rules.proofs.Laws.Lists.{andThen-assoc, andThen-from, plays-append, plays-to-append, plays-to-next}
 use Rattle.rules.proofs.Mistakes.Rank.{dropped-leaves-no-trace}
 use Rattle.demands.specs.Notes.{isNoted, unnoted, forcesUnlocked, DifferInNotes, SameFromThenOn, OnlyTheNewestCount}
 use Rattle.demands.proofs.Held.{Steady, plain-is-steady, steady-moves, order-held, low-is-free, settle-held, mode-held, HeldIsSteady, plays-steady}
@@ -425,10 +425,28 @@ newest-from s steady one other d =
     let l : Likewise a b = lead one s other s (alike s (s .clock) (s .night) (s .force) (d .holds) (inr refl) (steady (d .holds))) (d .same) (d .within) (d .unlocked) in
     record { runs = runs-same a b (agreed a b l (d .night) (d .force)); moments = moments-same a b (agreed a b l (d .night) (d .force)) }
 
+-- a run is what comes before some cue, and then what is played from there
+run-in-two : (p : Params) (scenes : List Scene) (before later : List Cue) (end : ℕ) (rest : Played) → playsTo end later (plays before (fresh p scenes) .state) ≡ rest →
+    playList p scenes (before ++ later) end ≡ andThen (andThen (start p scenes) (plays before)) (λ s. rest)
+unfolding playList
+run-in-two p scenes before later end rest e =
+    andThen-from (start p scenes) (playsTo end (before ++ later)) (λ s. andThen (plays before s) (playsTo end later)) (plays-to-append end before later (fresh p scenes))
+    ∙ sym (andThen-assoc (start p scenes) (plays before) (playsTo end later))
+    ∙ andThen-from (andThen (start p scenes) (plays before)) (playsTo end later) (λ s. rest) e
+
 -- so it is of every list from its start
 pub only-the-newest-count : (p : Params) (scenes : List Scene) → OnlyTheNewestCount p scenes
 only-the-newest-count p scenes before one other d =
-    newest-from (plays before (fresh p scenes) .state) (plays-steady before (fresh p scenes) (λ holds. unfold fresh in inl refl)) one other d
+    let s : State = plays before (fresh p scenes) .state in
+    let same = newest-from s (plays-steady before (fresh p scenes) (λ holds. unfold fresh in inl refl)) one other d in
+    let there : (list : List Cue) → plays (before ++ list) (fresh p scenes) .state ≡ plays list s .state = λ list. ap (λ (x : Played). x .state) (plays-append before list (fresh p scenes)) in (
+      same,
+      λ later end. record {
+        rest = playsTo end later (plays other s .state);
+        first = run-in-two p scenes (before ++ one) later end _ (ap (playsTo end later) (there one) ∙ same .runs later end);
+        second = run-in-two p scenes (before ++ other) later end _ (ap (playsTo end later) (there other));
+      },
+    )
 
 -- and of every sound state that is handed in: "lock or force leaves only Dark or Lit"
 pub only-the-newest-count-from-a-sound-state : (s : State) → sound s ≡ true → (one other : List Cue) → DifferInNotes s one other → SameFromThenOn (plays one s .state) (plays other s .state)

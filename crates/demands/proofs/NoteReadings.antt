@@ -62,5 +62,7 @@ pub newest-used : let s : State = plays (lock-at 0 ∷ []) (fresh keeps noScenes
     SameFromThenOn (plays (force-on-at 5 ∷ night-at 6 ∷ release-at 7 ∷ []) s .state) (plays (night-at 8 ∷ []) s .state)
 unfolding playingNotes turns unnoted forcesUnlocked
 newest-used =
+    let same =
     only-the-newest-count keeps noScenes (lock-at 0 ∷ []) (force-on-at 5 ∷ night-at 6 ∷ release-at 7 ∷ []) (night-at 8 ∷ [])
-    record { holds = refl; same = refl; within = (refl, (refl, (refl, tt))); unlocked = refl; night = refl; force = refl }
+    record { holds = refl; same = refl; within = (refl, (refl, (refl, tt))); unlocked = refl; night = refl; force = refl } in
+    same .0

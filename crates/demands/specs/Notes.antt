@@ -22,7 +22,7 @@ use Rattle.rules.specs.Orders.{standing, held}
 use Rattle.rules.specs.Barriers.{barrier}
 use Rattle.rules.specs.Status.{value, attributes}
 use Rattle.rules.specs.Steps.{fresh}
-use Rattle.rules.specs.Lists.{Cue, cue, plays, playsTo}
+use Rattle.rules.specs.Lists.{Cue, cue, Played, andThen, plays, playsTo, start, playList}
 use Rattle.rules.specs.Said.{OnlyItsValue}
 use Rattle.rules.specs.Promises.{Rises, Turn, turn, turns, Each, stateAt, Taken, Noted, turnAfter}
 
@@ -79,11 +79,17 @@ pub record SameFromThenOn (a b : State) : Type 0 where
   pub runs : (later : List Cue) (end : ℕ) → playsTo end later a ≡ playsTo end later b
   pub moments : (later : List Cue) (v : ℕ) → stateAt v later a ≡ stateAt v later b
 
--- (the list is `before`, then one of the two: rules, Laws/Lists.antt `plays-to-append` has the run as what was played before, and then from there)
+-- the whole runs of two lists that end alike: what each has come to by then, and then the same answers, records and end state
+pub record RunsGoOnAlike (p : Params) (scenes : List Scene) (one other later : List Cue) (end : ℕ) : Type 0 where
+  pub rest : Played
+  pub first : playList p scenes (one ++ later) end ≡ andThen (andThen (start p scenes) (plays one)) (λ s. rest)
+  pub second : playList p scenes (other ++ later) end ≡ andThen (andThen (start p scenes) (plays other)) (λ s. rest)
+
+-- of every list: it is `before`, then one of the two, and then `later`
 abbrev pub OnlyTheNewestCount : Params → List Scene → Type 0
 OnlyTheNewestCount p scenes =
     (before one other : List Cue) → let s : State = plays before (fresh p scenes) .state in
-    DifferInNotes s one other → SameFromThenOn (plays one s .state) (plays other s .state)
+    DifferInNotes s one other → SameFromThenOn (plays one s .state) (plays other s .state) × ((later : List Cue) (end : ℕ) → RunsGoOnAlike p scenes (before ++ one) (before ++ other) later end)
 
 -- ---- "so a night order sent during a force must hold at its release"
 
