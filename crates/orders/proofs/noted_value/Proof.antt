@@ -1,7 +1,4 @@
-use mathlib.Core.Path.{_≡_, sym, ap, _∙_}
 use borrow.Author.Tests.{ne-eqb}
-use lib.Dec.{eqb}
-use Rattle.rules.specs.Inputs.{kind}
 use Rattle.orders.specs.ByKind.{notedByKind}
 use Rattle.orders.proofs.ByKind.{a-note-is-by-its-kind}
 use borrow.Author.Needs.{needs}

@@ -1,5 +1,5 @@
 use Rattle.rules.specs.Barriers.{firstBarrier, rowOf, orNoted, barrierTo}
-use mathlib.Core.Path.{_≡_, sym, ap, _∙_}
+use mathlib.Core.Path.{_≡_}
 use borrow.Author.Needs.{needs}
 use Rattle.barriers.proofs.barrier.barrier_to.Statement.{statement}
 use Rattle.barriers.proofs.barrier.barrier_to.Tie as tie
