@@ -319,7 +319,7 @@ enum house_attribute {
  * The value changes, and a record shows it where an attribute does; the light stays as it is. The release or the unlocking then acts on
  * the values that stand. A bus or a power that is down drops them too, and a power failure clears what was noted. */
 enum house_answer {
-    HOUSE_CHANGED = 0,          /* it changed something */
+    HOUSE_CHANGED = 0,          /* it was taken, and changed something */
     HOUSE_UNCHANGED = 1,        /* it changed nothing but the clock, taken or noted; or an edge that sends nothing */
     HOUSE_STOPPED_BY_FORCE = 2,
     HOUSE_STOPPED_BY_LOCK = 3,

@@ -20,10 +20,10 @@ use Rattle.rules.specs.Status.{value, attributes, sameStatus, recordOf}
 use Rattle.rules.specs.Answers.{answer, samePhase, sameFlags, sameScenes, sameButClock}
 use Rattle.rules.specs.Steps.{Stepped, clockMove, counted, meet, act, step}
 use Rattle.rules.specs.Lists.{Played, still}
-use Rattle.rules.specs.Said.{scenesAfter}
+use Rattle.rules.specs.Said.{NotedWhere, scenesAfter}
 use Rattle.base.proofs.Tests.{no, eqb-same, beq-same}
 use Rattle.rules.proofs.Laws.Orders.{order-leaves, noted-leaves}
-use Rattle.rules.proofs.Laws.Barriers.{NotedWhere, noted-where}
+use Rattle.rules.proofs.Laws.Barriers.{noted-where}
 use Rattle.rules.proofs.Laws.Answers.{same-but-clock-is-exact, scenes-same}
 use Rattle.rules.proofs.Laws.Soundness.{move-keeps}
 use Rattle.rules.proofs.Laws.Records.{a-move-writes-at-most-two, one-record-at-most}

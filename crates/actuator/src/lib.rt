@@ -1,2 +1,2 @@
-// One input to an actuator: the clock moves to its stamp, then it acts, or is dropped for good.
+// One input to an actuator: the clock moves to its stamp, then it acts, is noted, or is dropped for good.
 pub mod step;

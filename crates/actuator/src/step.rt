@@ -38,7 +38,7 @@ use states::same::same_lamp;
 use states::same::same_phase;
 use timers::clock::move_clock;
 
-// What becomes of an input at its barrier: it is dropped for good, with this answer, or it counts, and then it is noted, or taken.
+// What becomes of an input at its barrier: it is dropped for good, with this answer, or it counts, noted (true) or taken (false).
 pub enum Fate {
     Dropped(u8),
     Counts(bool),
@@ -90,22 +90,24 @@ pub fn fate_of(l: Lamp, kind: u8) -> Fate
     }
 }
 
-// The answer octet of an input that is taken and changes something, and of one that is noted and does.
-const TAKEN: u8 = 0;
+// The answer octets of an input that counts: taken, it changes something; it changes nothing; noted, it changes something.
+const CHANGED: u8 = 0;
+
+const UNCHANGED: u8 = 1;
 
 const NOTED: u8 = 6;
 
 fn changed_number(noted: bool) -> u8
     ensures { λ r. ⌜ r ≡ answer (meeting noted) false ⌝ }
 {
-    if noted { NOTED } else { TAKEN }
+    if noted { NOTED } else { CHANGED }
 }
 
 // The answer octet of an order that is taken.
 fn taken_number(same: bool) -> u8
     ensures { λ r. ⌜ r ≡ answer Barrier.Open same ⌝ }
 {
-    if same { 1 } else { TAKEN }
+    if same { UNCHANGED } else { CHANGED }
 }
 
 // Whether the scene table after an order is the one before it. Only a lesson can change it, so no other input pays for it.
@@ -136,7 +138,7 @@ fn take_light(p: Params, k: [Scene; 8], l: Lamp, i: Input) -> Done
         let after = lamp::with_phase(l, next);
         Done {
             lamp: after,
-            answer: TAKEN,
+            answer: CHANGED,
             note: notes::written(kind_of(i), l, after),
         }
     }
@@ -163,7 +165,7 @@ fn take_other(p: Params, l: Lamp, i: Input, noted: bool) -> Done
     if same_lamp(l, after) {
         Done {
             lamp: l,
-            answer: 1,
+            answer: UNCHANGED,
             note: Note::Silent,
         }
     } else {

@@ -26,15 +26,17 @@ use Rattle.rules.specs.Barriers.{rows, rowOf, firstBarrier, barrierTo, barrier}
 use Rattle.rules.specs.Soundness.{sound}
 use Rattle.rules.specs.Steps.{Moved, Stepped, fresh, atMoment, clockMove, act, step}
 use Rattle.rules.specs.Lists.{Cue, cue, Played, andThen, moved, stepped, plays, playsTo, start, playList}
-use Rattle.rules.specs.Said.{Flags, flagsAfterPower, flagsAfter}
+use Rattle.rules.specs.Files.{endTime, paramsIn, scenesIn}
+use Rattle.rules.specs.Runs.{playFile}
+use Rattle.rules.specs.Said.{NotedWhere, Flags, flagsAfterPower, flagsAfter}
 use Rattle.rules.specs.Promises.{turns, Each, upTo, stateAt}
 use Rattle.rules.proofs.Laws.Facts.{sound-exactly-when, held-exactly-when}
-use Rattle.rules.proofs.Laws.Barriers.{open-is-unstopped, NotedWhere, noted-where}
+use Rattle.rules.proofs.Laws.Barriers.{open-is-unstopped, noted-where}
 use Rattle.rules.proofs.Laws.Orders.{order-leaves}
 use Rattle.rules.proofs.Laws.Soundness.{noted-is-the-note, taken-is-the-order}
 use Rattle.rules.proofs.Laws.Lists.{andThen-assoc, andThen-from, plays-append, plays-to-append, plays-to-next}
 use Rattle.rules.proofs.Mistakes.Rank.{dropped-leaves-no-trace}
-use Rattle.demands.specs.Notes.{isNoted, unnoted, forcesUnlocked, DifferInNotes, SameFromThenOn, OnlyTheNewestCount}
+use Rattle.demands.specs.Notes.{isNoted, unnoted, forcesUnlocked, DifferInNotes, SameFromThenOn, OnlyTheNewestCount, OnlyTheNewestCountInFiles}
 use Rattle.demands.proofs.Held.{Steady, plain-is-steady, steady-moves, order-held, low-is-free, settle-held, mode-held, HeldIsSteady, plays-steady}
 
 -- ---- two states that agree in all but the clock and what may be noted
@@ -447,6 +449,12 @@ only-the-newest-count p scenes before one other d =
         second = run-in-two p scenes (before ++ other) later end _ (ap (playsTo end later) (there other));
       },
     )
+
+-- and of every two accepted files
+pub only-the-newest-count-in-every-two-accepted-files : (file₁ file₂ : List ℕ) → OnlyTheNewestCountInFiles file₁ file₂
+unfolding playFile
+only-the-newest-count-in-every-two-accepted-files file₁ file₂ before one other later read₁ read₂ params scenes ends d =
+    rw (← params, ← scenes, ← ends) (only-the-newest-count (paramsIn file₁) (scenesIn file₁) before one other d .1 later (endTime file₁))
 
 -- and of every sound state that is handed in: "lock or force leaves only Dark or Lit"
 pub only-the-newest-count-from-a-sound-state : (s : State) → sound s ≡ true → (one other : List Cue) → DifferInNotes s one other → SameFromThenOn (plays one s .state) (plays other s .state)

@@ -4,16 +4,18 @@ use mathlib.Core.Path.{_≡_, refl}
 use mathlib.Core.List.{[], _∷_, map}
 use native.Mathlib.Omega.{arith}
 use Rattle.rules.specs.declared.input.Force.the-variants.{On}
+use Rattle.rules.specs.declared.input.Event.the-variants.{Failure, Return}
+use Rattle.rules.specs.declared.input.Input.the-variants.{SwitchOnOff, TimedStartStop, NumberedSceneControl, Bus, Power}
 use Rattle.rules.specs.declared.state.State.{State}
 use Rattle.rules.specs.Calls.{noScenes}
 use Rattle.rules.specs.Orders.{powerFails, powerReturns, power, forced, locked, unlockingOutput, unlocked, lockDevice, noted}
-use Rattle.rules.specs.Lists.{plays, playsTo, playList}
+use Rattle.rules.specs.Lists.{cue, plays, playsTo, playList}
 use Rattle.rules.specs.Phases.{output}
 use Rattle.rules.specs.Promises.{stateAt, turns}
 use Rattle.rules.specs.Steps.{fresh}
 use Rattle.rules.specs.Soundness.{sound}
 use Rattle.demands.specs.Notes.{unnoted, forcesUnlocked, SameFromThenOn}
-use Rattle.demands.specs.NoteReadings.{keeps, force-on-at, release-at, lock-at, unlock-at, night-at, NoteCase, notePlayed, noteCases}
+use Rattle.demands.specs.NoteReadings.{keeps, force-on-at, force-off-at, release-at, lock-at, unlock-at, night-at, NoteCase, notePlayed, noteCases}
 use Rattle.demands.proofs.Computing.{playingPairs, callingPairs}
 use Rattle.demands.proofs.Noting.{night-holds-at-the-release, night-holds-at-the-unlock}
 use Rattle.demands.proofs.Newest.{only-the-newest-count}
@@ -47,15 +49,21 @@ a-force-without-a-lock-agrees-with-the-phase = refl
 
 -- ---- the theorems, used
 
--- force On 10, night 20, release 30: dark from 730 on
-pub release-used : output (stateAt 730 (force-on-at 10 ∷ night-at 20 ∷ release-at 30 ∷ []) (fresh keeps noScenes) .phase) ≡ false
+-- force On 10, night 20, Off 21 and a timed start 22 (dropped), lock 23, force Off 24 and night 25 (noted), unlock 26, release 30: dark from 730 on
+pub release-used :
+    output (stateAt 730 (force-on-at 10 ∷ night-at 20 ∷ cue 21 (SwitchOnOff false) ∷ cue 22 (TimedStartStop true) ∷ lock-at 23 ∷ force-off-at 24 ∷ night-at 25 ∷ unlock-at 26 ∷ release-at 30 ∷ []) (fresh keeps noScenes) .phase) ≡ false
 unfolding playingNotes turns
-release-used = night-holds-at-the-release keeps noScenes (force-on-at 10 ∷ []) 20 [] 30 (omega arith) refl tt refl refl 730 (omega arith)
+release-used =
+    night-holds-at-the-release keeps noScenes (force-on-at 10 ∷ []) 20 (cue 21 (SwitchOnOff false) ∷ cue 22 (TimedStartStop true) ∷ lock-at 23 ∷ force-off-at 24 ∷ night-at 25 ∷ unlock-at 26 ∷ []) 30 (omega arith)
+    record { linked = refl; held = refl } (refl, (refl, (refl, (refl, (refl, (refl, tt)))))) record { linked = refl; unlocked = refl; stands = refl } 730 (omega arith)
 
--- lock 10, night 20, unlock 30
-pub unlock-used : output (stateAt 730 (lock-at 10 ∷ night-at 20 ∷ unlock-at 30 ∷ []) (fresh keeps noScenes) .phase) ≡ false
+-- lock 10, night 20, a scene 21 (dropped), bus failure 22 and return 23, power return 24, unlock 30
+pub unlock-used :
+    output (stateAt 730 (lock-at 10 ∷ night-at 20 ∷ cue 21 (NumberedSceneControl false 5) ∷ cue 22 (Bus Failure) ∷ cue 23 (Bus Return) ∷ cue 24 (Power Return) ∷ unlock-at 30 ∷ []) (fresh keeps noScenes) .phase) ≡ false
 unfolding playingNotes turns
-unlock-used = night-holds-at-the-unlock keeps noScenes (lock-at 10 ∷ []) 20 [] 30 (omega arith) refl tt refl (refl, refl) 730 (omega arith)
+unlock-used =
+    night-holds-at-the-unlock keeps noScenes (lock-at 10 ∷ []) 20 (cue 21 (NumberedSceneControl false 5) ∷ cue 22 (Bus Failure) ∷ cue 23 (Bus Return) ∷ cue 24 (Power Return) ∷ []) 30 (omega arith)
+    record { linked = refl; held = refl } (refl, (refl, (refl, (refl, tt)))) record { linked = refl; stands = refl; unforced = refl } 730 (omega arith)
 
 -- under a lock, force On 5, night 6, release 7 against night 8: the newest values are night and no force
 pub newest-used : let s : State = plays (lock-at 0 ∷ []) (fresh keeps noScenes) .state in

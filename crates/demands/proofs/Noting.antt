@@ -17,14 +17,14 @@ use Rattle.rules.specs.declared.state.Link.the-variants.{Up, BusDown, PowerDown
 use Rattle.rules.specs.declared.state.State.{State}
 use Rattle.rules.specs.Phases.{output, litAt, setOn}
 use Rattle.rules.specs.Orders.{withForce, withLock, standing, held, settle, forced, unlockingOutput, unlocked, lockDevice, order, noted}
-use Rattle.rules.specs.Barriers.{rows, rowOf, powerDown, barrier}
+use Rattle.rules.specs.Barriers.{rows, rowOf, powerDown, firstBarrier, orNoted, barrierTo, barrier}
 use Rattle.rules.specs.Status.{value, staircase, bit, attributes}
 use Rattle.rules.specs.Steps.{fresh, clockMove, step}
 use Rattle.rules.specs.Lists.{Cue, cue, Played, plays}
-use Rattle.rules.specs.Said.{Flags, flagsAfterPower, flagsAfter}
+use Rattle.rules.specs.Said.{NotedWhere, Flags, flagsAfterPower, flagsAfter}
 use Rattle.rules.specs.Promises.{turn, turns, Each, Noted, NightRules}
 use Rattle.rules.proofs.Laws.Status.{bits-of}
-use Rattle.rules.proofs.Laws.Barriers.{open-is-unstopped, NotedWhere, noted-where}
+use Rattle.rules.proofs.Laws.Barriers.{noted-where, noted-there}
 use Rattle.rules.proofs.Laws.Lists.{plays-append, plays-keep-params}
 use Rattle.rules.proofs.Laws.Moments.{at-the-end, at-after}
 use Rattle.rules.proofs.Laws.Orders.{order-leaves}
@@ -33,7 +33,7 @@ use Rattle.rules.proofs.Laws.Soundness.{move-keeps, move-clock, move-params, st
 use Rattle.rules.proofs.Promises.Dark.{night-is-dark}
 use Rattle.rules.proofs.Promises.Prolonging.{Over}
 use Rattle.base.proofs.Tests.{no}
-use Rattle.demands.specs.Notes.{bitOf, OtherBitsStay, ChangesItsValueAlone, NotesChangeTheirValueAlone, endsNight, DarkAfterHold, NightHoldsAtTheRelease, NightHoldsAtTheUnlock}
+use Rattle.demands.specs.Notes.{bitOf, OtherBitsStay, ChangesItsValueAlone, NotesChangeTheirValueAlone, endsNight, DarkAfterHold, Forced, Locked, NightHoldsAtTheRelease, NightHoldsAtTheUnlock}
 
 -- ---- the status
 
@@ -141,44 +141,50 @@ module _ (s : State) (night : s .night ≡ true) (unlocked : s .lock ≡ false) 
   settled-is-dark : (on : Bool) (v : ℕ) → s .clock + s .params .timedon + s .params .prewarning ≤ v → output (clockMove (settle s on) v .state .phase) ≡ false
   settled-is-dark on v late = night-is-dark (settle s on) v (settled-in-night on) (settled-is-over on v late)
 
--- a taken release of a standing force
-released-is-dark : (s : State) → s .night ≡ true → barrier s (SwitchOnOffForced Free) ≡ Open → standing (s .force) ≡ true → (v : ℕ) → s .clock + s .params .timedon + s .params .prewarning ≤ v →
-    output (clockMove (order s (SwitchOnOffForced Free)) v .state .phase) ≡ false
-unfolding order forced rowOf rows
-released-is-dark s night way stood v late =
-    let free = open-is-unstopped s (SwitchOnOffForced Free) way in
-    rw stood (settled-is-dark (withForce s Free) night (free .unlocked) refl (free .powered) (output (s .phase)) v late)
+-- the release of a standing force: with no lock it is taken
+release-is-open : (s : State) → Forced s → barrier s (SwitchOnOffForced Free) ≡ Open
+unfolding barrier barrierTo firstBarrier rowOf rows orNoted
+release-is-open s m = rw (m .linked, m .unlocked) refl
 
--- a taken unlock with no force
-unlocked-is-dark : (s : State) → s .night ≡ true → barrier s (LockDevice false) ≡ Open → (s .lock ≡ true) × (s .force ≡ Free) → (v : ℕ) → s .clock + s .params .timedon + s .params .prewarning ≤ v →
+released-is-dark : (s : State) → s .night ≡ true → Forced s → (v : ℕ) → s .clock + s .params .timedon + s .params .prewarning ≤ v →
+    output (clockMove (order s (SwitchOnOffForced Free)) v .state .phase) ≡ false
+unfolding order forced
+released-is-dark s night m v late = rw (m .stands) (settled-is-dark (withForce s Free) night (m .unlocked) refl (ap powerDown (m .linked)) (output (s .phase)) v late)
+
+-- the unlock with no force: nothing but power and bus can stop it
+unlock-is-open : (s : State) → Locked s → barrier s (LockDevice false) ≡ Open
+unfolding barrier barrierTo firstBarrier rowOf rows orNoted
+unlock-is-open s m = rw (m .linked) refl
+
+unlocked-is-dark : (s : State) → s .night ≡ true → Locked s → (v : ℕ) → s .clock + s .params .timedon + s .params .prewarning ≤ v →
     output (clockMove (order s (LockDevice false)) v .state .phase) ≡ false
-unfolding order lockDevice unlocked rowOf rows
-unlocked-is-dark s night way stood v late =
-    let free = open-is-unstopped s (LockDevice false) way in
-    let opens : order s (LockDevice false) ≡ settle (withLock s false (s .atlocking)) (unlockingOutput s) = ap (λ (lock : Bool). cond lock (unlocked s (s .force)) s) (stood .0) ∙ ap (unlocked s) (stood .1) in
+unfolding order lockDevice unlocked
+unlocked-is-dark s night m v late =
+    let opens : order s (LockDevice false) ≡ settle (withLock s false (s .atlocking)) (unlockingOutput s) = ap (λ (lock : Bool). cond lock (unlocked s (s .force)) s) (m .stands) ∙ ap (unlocked s) (m .unforced) in
     subst (λ (x : State). output (clockMove x v .state .phase) ≡ false) (sym opens)
-    (settled-is-dark (withLock s false (s .atlocking)) night refl (stood .1) (free .powered) (unlockingOutput s) v late)
+    (settled-is-dark (withLock s false (s .atlocking)) night refl (m .unforced) (ap powerDown (m .linked)) (unlockingOutput s) v late)
 
 -- ---- the customer's example, and its twin
 
-dark-after : (ending : Input) (Meets : State → Type 0) →
-    ((s : State) → s .night ≡ true → barrier s ending ≡ Open → Meets s → (v : ℕ) → s .clock + s .params .timedon + s .params .prewarning ≤ v → output (clockMove (order s ending) v .state .phase) ≡ false)
-    → (p : Params) (scenes : List Scene) → DarkAfterHold ending Meets p scenes
-unfolding plays fresh
-dark-after ending Meets ends p scenes before t between u rises sent stay taken meets v late =
-    let s : State = plays before (fresh p scenes) .state in
-    let list : List Cue = before ++ (cue t (NightMode true) ∷ between) in
-    let last : State = plays between (step s (NightMode true) t .state) .state in
-    let met : State = clockMove last u .state in
-    let whole : list ++ (cue u ending ∷ []) ≡ before ++ (cue t (NightMode true) ∷ (between ++ (cue u ending ∷ []))) = append-assoc before (cue t (NightMode true) ∷ between) (cue u ending ∷ []) in
-    let there : plays list (fresh p scenes) .state ≡ last = ap (λ (x : Played). x .state) (plays-append before (cue t (NightMode true) ∷ between) (fresh p scenes)) in
-    let same : met .params ≡ p = move-params last u ∙ plays-keep-params between (step s (NightMode true) t .state) ∙ step-params s (NightMode true) t ∙ plays-keep-params before (fresh p scenes) in
-    let night : met .night ≡ true = ap (λ (x : State). x .night) (move-keeps last u) ∙ plays-keep-night between (step s (NightMode true) t .state) (noted-night-is-on s t sent) stay in
-    rw (← whole, at-after u ending [] u list 0 (rw whole rises) v (omega arith) [] (fresh p scenes), there, at-the-end v (step last ending u .state), taken-is-the-order last ending u taken)
-    (ends met night taken meets v (rw (move-clock last u, same) late))
+module _ (ending : Input) (Meets : State → Type 0) (opens : (s : State) → Meets s → barrier s ending ≡ Open)
+    (ends : (s : State) → s .night ≡ true → Meets s → (v : ℕ) → s .clock + s .params .timedon + s .params .prewarning ≤ v → output (clockMove (order s ending) v .state .phase) ≡ false) where
+  dark-after : (p : Params) (scenes : List Scene) → DarkAfterHold ending Meets p scenes
+  unfolding plays fresh
+  dark-after p scenes before t between u rises sent stay meets v late =
+      let s : State = plays before (fresh p scenes) .state in
+      let list : List Cue = before ++ (cue t (NightMode true) ∷ between) in
+      let last : State = plays between (step s (NightMode true) t .state) .state in
+      let met : State = clockMove last u .state in
+      let whole : list ++ (cue u ending ∷ []) ≡ before ++ (cue t (NightMode true) ∷ (between ++ (cue u ending ∷ []))) = append-assoc before (cue t (NightMode true) ∷ between) (cue u ending ∷ []) in
+      let there : plays list (fresh p scenes) .state ≡ last = ap (λ (x : Played). x .state) (plays-append before (cue t (NightMode true) ∷ between) (fresh p scenes)) in
+      let same : met .params ≡ p = move-params last u ∙ plays-keep-params between (step s (NightMode true) t .state) ∙ step-params s (NightMode true) t ∙ plays-keep-params before (fresh p scenes) in
+      let way = noted-there (clockMove s t .state) (NightMode true) sent in
+      let night : met .night ≡ true = ap (λ (x : State). x .night) (move-keeps last u) ∙ plays-keep-night between (step s (NightMode true) t .state) (noted-night-is-on s t way) stay in
+      rw (← whole, at-after u ending [] u list 0 (rw whole rises) v (omega arith) [] (fresh p scenes), there, at-the-end v (step last ending u .state), taken-is-the-order last ending u (opens met meets))
+      (ends met night meets v (rw (move-clock last u, same) late))
 
 pub night-holds-at-the-release : (p : Params) (scenes : List Scene) → NightHoldsAtTheRelease p scenes
-night-holds-at-the-release = dark-after (SwitchOnOffForced Free) (λ s. standing (s .force) ≡ true) released-is-dark
+night-holds-at-the-release = dark-after (SwitchOnOffForced Free) Forced release-is-open released-is-dark
 
 pub night-holds-at-the-unlock : (p : Params) (scenes : List Scene) → NightHoldsAtTheUnlock p scenes
-night-holds-at-the-unlock = dark-after (LockDevice false) (λ s. (s .lock ≡ true) × (s .force ≡ Free)) unlocked-is-dark
+night-holds-at-the-unlock = dark-after (LockDevice false) Locked unlock-is-open unlocked-is-dark

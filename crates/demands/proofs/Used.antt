@@ -84,7 +84,7 @@ light-used =
     record { taken = refl; lights = refl; reached = omega arith; undimmed = (λ early counts. refl, tt) }
 
 -- On 0, night 10, Off 20: the Off is stamped at the end of the delay, and not before it, so it is on by 20 all the same. (No list has
--- an Off that is dropped while the light waits: the order that lights was taken, and only an input that dims raises a barrier.)
+-- an input that is dropped or noted while the light waits: the order that lights was taken, and only an input that dims raises a barrier.)
 pub strong-light-used : ShowsLight 0 20 1000 (night-at 10 ∷ off-at 20 ∷ []) (turnAfter paper noScenes [] 0 (SwitchOnOff true) .left)
 unfolding playing
 strong-light-used =

@@ -26,7 +26,7 @@ on-at t = cue t (SwitchOnOff true)
 abbrev pub force-on-at : ℕ → Cue
 force-on-at t = cue t (SwitchOnOffForced On)
 
-abbrev force-off-at : ℕ → Cue
+abbrev pub force-off-at : ℕ → Cue
 force-off-at t = cue t (SwitchOnOffForced Off)
 
 abbrev pub release-at : ℕ → Cue

@@ -15,6 +15,7 @@ use Rattle.rules.specs.declared.input.Input.{Input}
 use Rattle.rules.specs.declared.input.Input.the-variants.{SwitchOnOff, TimedStartStop, NumberedSceneControl, SwitchOnOffForced, LockDevice, NightMode, Bus, Power}
 use Rattle.rules.specs.declared.barrier.Barrier.{Barrier}
 use Rattle.rules.specs.declared.barrier.Barrier.the-variants.{Open, Notes, Stopped}
+use Rattle.rules.specs.declared.state.Link.the-variants.{Up}
 use Rattle.rules.specs.declared.state.State.{State}
 use Rattle.rules.specs.Inputs.{kind}
 use Rattle.rules.specs.Phases.{output}
@@ -23,8 +24,11 @@ use Rattle.rules.specs.Barriers.{barrier}
 use Rattle.rules.specs.Status.{value, attributes}
 use Rattle.rules.specs.Steps.{fresh}
 use Rattle.rules.specs.Lists.{Cue, cue, Played, andThen, plays, playsTo, start, playList}
-use Rattle.rules.specs.Said.{OnlyItsValue}
-use Rattle.rules.specs.Promises.{Rises, Turn, turn, turns, Each, stateAt, Taken, Noted, turnAfter}
+use Rattle.rules.specs.Readings.{cues}
+use Rattle.rules.specs.Files.{endTime, readFile, paramsIn, scenesIn}
+use Rattle.rules.specs.Runs.{playFile}
+use Rattle.rules.specs.Said.{UnderHold, OnlyItsValue}
+use Rattle.rules.specs.Promises.{Rises, Turn, turn, turns, Each, stateAt, Noted, turnAfter}
 
 -- ---- "is noted: the flag or force changes, the phase does not"
 
@@ -79,17 +83,33 @@ pub record SameFromThenOn (a b : State) : Type 0 where
   pub runs : (later : List Cue) (end : ℕ) → playsTo end later a ≡ playsTo end later b
   pub moments : (later : List Cue) (v : ℕ) → stateAt v later a ≡ stateAt v later b
 
--- the whole runs of two lists that end alike: what each has come to by then, and then the same answers, records and end state
-pub record RunsGoOnAlike (p : Params) (scenes : List Scene) (one other later : List Cue) (end : ℕ) : Type 0 where
+-- two whole runs: what each has come to by then, and then the same answers, records and end state
+pub record GoOnAlike (one other early₁ early₂ : Played) : Type 0 where
   pub rest : Played
-  pub first : playList p scenes (one ++ later) end ≡ andThen (andThen (start p scenes) (plays one)) (λ s. rest)
-  pub second : playList p scenes (other ++ later) end ≡ andThen (andThen (start p scenes) (plays other)) (λ s. rest)
+  pub first : one ≡ andThen early₁ (λ s. rest)
+  pub second : other ≡ andThen early₂ (λ s. rest)
+
+-- the start record, and then these cues
+abbrev pub upToThen : Params → List Scene → List Cue → Played
+upToThen p scenes list = andThen (start p scenes) (plays list)
 
 -- of every list: it is `before`, then one of the two, and then `later`
 abbrev pub OnlyTheNewestCount : Params → List Scene → Type 0
 OnlyTheNewestCount p scenes =
     (before one other : List Cue) → let s : State = plays before (fresh p scenes) .state in
-    DifferInNotes s one other → SameFromThenOn (plays one s .state) (plays other s .state) × ((later : List Cue) (end : ℕ) → RunsGoOnAlike p scenes (before ++ one) (before ++ other) later end)
+    DifferInNotes s one other → SameFromThenOn (plays one s .state) (plays other s .state)
+    × ((later : List Cue) (end : ℕ) →
+    GoOnAlike (playList p scenes ((before ++ one) ++ later) end) (playList p scenes ((before ++ other) ++ later) end) (upToThen p scenes (before ++ one)) (upToThen p scenes (before ++ other)))
+
+-- of every two accepted cue files with one set of parameters, one scene table and one end time: what was played of each is then the same
+abbrev pub OnlyTheNewestCountInFiles : List ℕ → List ℕ → Type 0
+OnlyTheNewestCountInFiles file₁ file₂ =
+    (before one other later : List Cue) → readFile file₁ ≡ cues ((before ++ one) ++ later) → readFile file₂ ≡ cues ((before ++ other) ++ later) →
+    paramsIn file₁ ≡ paramsIn file₂ → scenesIn file₁ ≡ scenesIn file₂ → endTime file₁ ≡ endTime file₂ →
+    let p : Params = paramsIn file₁ in
+    let scenes : List Scene = scenesIn file₁ in
+    DifferInNotes (plays before (fresh p scenes) .state) one other →
+    GoOnAlike (playFile file₁ ((before ++ one) ++ later)) (playFile file₂ ((before ++ other) ++ later)) (upToThen p scenes (before ++ one)) (upToThen p scenes (before ++ other))
 
 -- ---- "so a night order sent during a force must hold at its release"
 
@@ -105,21 +125,32 @@ endsNight (Bus event) = false
 endsNight (Power Failure) = true
 endsNight (Power Return) = false
 
--- the list: night is sent at t and only noted, inputs follow that do not end it, and at u `ending` is taken, which meets a state of this
--- sort; nothing follows. Then "the house is dark by TimedOn plus Prewarning after" u.
+-- the list: night is sent at t under lock or force, inputs follow that do not end it, and at u comes `ending`, which meets a state of this
+-- sort; nothing follows. Then "the house is dark by TimedOn plus Prewarning after" u. (That the night is noted, and `ending` taken, is not asked
+-- for: it is so.)
 abbrev pub DarkAfterHold : Input → (State → Type 0) → Params → List Scene → Type 0
 DarkAfterHold ending Meets p scenes =
     (before : List Cue) (t : ℕ) (between : List Cue) (u : ℕ) →
     let list : List Cue = before ++ (cue t (NightMode true) ∷ (between ++ (cue u ending ∷ []))) in
     let sent : Turn = turnAfter p scenes before t (NightMode true) in
     let last : Turn = turn (plays between (sent .left) .state) u ending in
-    Rises 0 list u → Noted sent → Each (λ x. endsNight (x .input) ≡ false) (turns between (sent .left)) → Taken last → Meets (last .met) →
+    Rises 0 list u → UnderHold (sent .met) → Each (λ x. endsNight (x .input) ≡ false) (turns between (sent .left)) → Meets (last .met) →
     (v : ℕ) → u + p .timedon + p .prewarning ≤ v → output (stateAt v list (fresh p scenes) .phase) ≡ false
 
--- a force stands and is released
-abbrev pub NightHoldsAtTheRelease : Params → List Scene → Type 0
-NightHoldsAtTheRelease = DarkAfterHold (SwitchOnOffForced Free) (λ s. standing (s .force) ≡ true)
+-- a force stands, and no lock over it: it is released
+pub record Forced (s : State) : Type 0 where
+  pub linked : s .link ≡ Up
+  pub unlocked : s .lock ≡ false
+  pub stands : standing (s .force) ≡ true
 
--- a lock stands, and no force under it, and the house is unlocked
+abbrev pub NightHoldsAtTheRelease : Params → List Scene → Type 0
+NightHoldsAtTheRelease = DarkAfterHold (SwitchOnOffForced Free) Forced
+
+-- a lock stands, and no force under it: the house is unlocked
+pub record Locked (s : State) : Type 0 where
+  pub linked : s .link ≡ Up
+  pub stands : s .lock ≡ true
+  pub unforced : s .force ≡ Free
+
 abbrev pub NightHoldsAtTheUnlock : Params → List Scene → Type 0
-NightHoldsAtTheUnlock = DarkAfterHold (LockDevice false) (λ s. (s .lock ≡ true) × (s .force ≡ Free))
+NightHoldsAtTheUnlock = DarkAfterHold (LockDevice false) Locked

@@ -36,7 +36,8 @@ rows =
     row false false false false ∷
     []
 
--- Beside the table, 02, [4]: "Night and force are values, not events.": lock and force note kinds 4 and 6, and drop the others that they stop.
+-- Beside the table, 02, [4]: "Night and force are values, not events.": what lock or force would stop is noted if it is of kind 4 or 6, and else
+-- dropped.
 unfoldable pub setsValue : ℕ → Bool
 setsValue kind = eqb kind 4 || eqb kind 6
 
@@ -70,6 +71,7 @@ outranked value NoBus = Stopped NoBus
 outranked value Locked = cond value Notes (Stopped Locked)
 outranked value Forced = cond value Notes (Stopped Forced)
 
+-- the first barrier that stands, or that the value is noted
 unfoldable pub orNoted : Bool → Barrier → Barrier
 orNoted value Open = Open
 orNoted value Notes = Notes

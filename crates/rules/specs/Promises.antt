@@ -136,7 +136,7 @@ busOn s (Power event) = false
 abbrev pub longestLight : Params → ℕ
 longestLight p = p .ondelay + p .timedon + p .prewarning
 
--- "night mode [is] on, lock and force [are] clear and power [is] up"
+-- "night mode [is] on, lock and force [are] clear and power [is] up"; 02, [4]: "Demand 3 reads night and force as these values.", noted or not
 pub record NightRules (s : State) : Type 0 where
   pub night : s .night ≡ true
   pub unlocked : s .lock ≡ false
@@ -200,12 +200,12 @@ LightBy Counts p scenes cues end =
     (before : List Cue) (a : ℕ) (i : Input) (later : List Cue) → before ++ (cue a i ∷ later) ≡ cues → LightDue Counts p scenes before a i later end →
     ShowsLight a (a + p .ondelay) end later (turnAfter p scenes before a i .left)
 
--- the promise to the letter: every input that follows counts, dropped or not
+-- the promise to the letter: every input that follows counts, taken, noted or dropped
 abbrev pub LightPromise : Params → List Scene → List Cue → ℕ → Type 0
 LightPromise = LightBy (λ x. Unit)
 
 -- and on less: only those that are taken count. (No list tells the two apart: where an order was taken that lights, only a taken
--- input that dims raises a barrier, so that none is dropped before it.)
+-- input that dims raises a barrier, so that none is dropped or noted before it.)
 abbrev pub StrongLightPromise : Params → List Scene → List Cue → ℕ → Type 0
 StrongLightPromise = LightBy Taken
 

@@ -22,7 +22,7 @@ use Rattle.rules.specs.declared.state.Link.the-variants.{Up, BusDown, Po
 use Rattle.rules.specs.declared.state.State.{State}
 use Rattle.rules.specs.Scenes.{learnt}
 use Rattle.rules.specs.Phases.{output}
-use Rattle.rules.specs.Orders.{timedStart, off, timedStop, nightFalls, order}
+use Rattle.rules.specs.Orders.{timedStart, off, timedStop, nightFalls, held, order}
 
 -- ---- what an order leaves of each field but the phase (01, "What each order does, at t")
 
@@ -96,7 +96,30 @@ pub record MadeOf (p : Params) (t : ℕ) (k : List Scene) (f : Flags) (u : State
 abbrev pub Leaves : State → Input → State → Type 0
 Leaves s i u = MadeOf (s .params) (s .clock) (scenesAfter s i) (flagsAfter s i) u
 
--- 02, [4]: "is noted: the flag or force changes, the phase does not": of every other field what its order leaves
+-- ---- what is noted (02, [4])
+
+-- "a force value under lock": 0 and 1 too. "Bus and power down still drop."
+pub record UnderLock (s : State) : Type 0 where
+  pub linked : s .link ≡ Up
+  pub locked : s .lock ≡ true
+
+-- "a night value under lock or force"
+pub record UnderHold (s : State) : Type 0 where
+  pub linked : s .link ≡ Up
+  pub held : held s ≡ true
+
+-- an input is noted exactly here (proofs/Laws/Barriers.antt, `noted-exactly-where`)
+abbrev pub NotedWhere : State → Input → Type 0
+NotedWhere s (SwitchOnOff value) = ⊥
+NotedWhere s (TimedStartStop value) = ⊥
+NotedWhere s (NumberedSceneControl learns number) = ⊥
+NotedWhere s (SwitchOnOffForced force) = UnderLock s
+NotedWhere s (LockDevice value) = ⊥
+NotedWhere s (NightMode value) = UnderHold s
+NotedWhere s (Bus event) = ⊥
+NotedWhere s (Power event) = ⊥
+
+-- "is noted: the flag or force changes, the phase does not": every field but the phase is what its order leaves
 pub record OnlyItsValue (s : State) (i : Input) (u : State) : Type 0 where
   pub leaves : Leaves s i u
   pub phase : u .phase ≡ s .phase

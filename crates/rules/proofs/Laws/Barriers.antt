@@ -13,9 +13,10 @@ use Rattle.rules.specs.declared.barrier.Why.the-variants.{NoPower, NoBus
 use Rattle.rules.specs.declared.barrier.Barrier.{Barrier}
 use Rattle.rules.specs.declared.barrier.Barrier.the-variants.{Open, Notes, Stopped}
 use Rattle.rules.specs.Inputs.{kind}
-use Rattle.rules.specs.Orders.{held, noted}
+use Rattle.rules.specs.Orders.{standing, held, noted}
 use Rattle.rules.specs.Barriers.{row, rows, rowOf, setsValue, powerDown, busDown, firstBarrier, outranked, orNoted, barrierTo, barrier, powerStops, busStops, lockStops, forceStops, isValue, fits}
 use Rattle.rules.specs.Answers.{answer}
+use Rattle.rules.specs.Said.{NotedWhere}
 use Rattle.base.proofs.Tests.{no}
 
 -- ---- the table
@@ -83,7 +84,7 @@ pub taken-exactly-when : (s : State) (i : Input) →
     (barrier s i ≡ Open) ↔ T (not (powerStops s i) && not (busStops s i) && not (lockStops s i) && not (forceStops s i))
 taken-exactly-when s i = first-that-fits s i Open
 
--- and it is noted exactly when it sets a value, the link is up for it, and lock or force is named
+-- and it is noted exactly when it sets a value, neither power nor bus stops it, and lock or force would (in the words of 02: `noted-exactly-where`)
 pub noted-exactly-when : (s : State) (i : Input) →
     (barrier s i ≡ Notes) ↔ T (not (powerStops s i) && not (busStops s i) && (lockStops s i || forceStops s i) && isValue i)
 noted-exactly-when s i = first-that-fits s i Notes
@@ -117,25 +118,6 @@ held-back-view false false false true true h = record { powered = refl; connecte
 pub noted-is-held-back : (s : State) (i : Input) → barrier s i ≡ Notes → HeldBack (powerStops s i) (busStops s i) (lockStops s i || forceStops s i) (isValue i)
 noted-is-held-back s i way = held-back-view _ _ (lockStops s i) (forceStops s i) _ (noted-exactly-when s i .0 way)
 
--- what is noted of each kind of input: a force value under lock, a night value under lock or force, with the link up
-pub record UnderLock (s : State) : Type 0 where
-  pub linked : s .link ≡ Up
-  pub locked : s .lock ≡ true
-
-pub record UnderHold (s : State) : Type 0 where
-  pub linked : s .link ≡ Up
-  pub held : held s ≡ true
-
-abbrev pub NotedWhere : State → Input → Type 0
-NotedWhere s (SwitchOnOff value) = ⊥
-NotedWhere s (TimedStartStop value) = ⊥
-NotedWhere s (NumberedSceneControl learns number) = ⊥
-NotedWhere s (SwitchOnOffForced force) = UnderLock s
-NotedWhere s (LockDevice value) = ⊥
-NotedWhere s (NightMode value) = UnderHold s
-NotedWhere s (Bus event) = ⊥
-NotedWhere s (Power event) = ⊥
-
 neither-down : (link : Link) → powerDown link ≡ false → busDown link ≡ false → link ≡ Up
 neither-down Up power bus = refl
 neither-down BusDown power bus = cc
@@ -155,6 +137,21 @@ noted-where s (NightMode value) way =
     record { linked = neither-down (s .link) (c .powered) (c .connected); held = c .held }
 noted-where s (Bus event) way = no (noted-is-held-back s (Bus event) way .valued)
 noted-where s (Power event) way = no (noted-is-held-back s (Power event) way .valued)
+
+-- and wherever it is so, it is noted
+night-is-noted : (link : Link) (lock force : Bool) → link ≡ Up → (lock || force) ≡ true → first (powerDown link) (busDown link) lock force true ≡ Notes
+unfolding orNoted outranked
+night-is-noted link true force up holds = rw up refl
+night-is-noted link false true up holds = rw up refl
+night-is-noted link false false up holds = no holds
+
+pub noted-there : (s : State) (i : Input) → NotedWhere s i → barrier s i ≡ Notes
+unfolding barrier barrierTo firstBarrier rowOf rows setsValue held orNoted outranked
+noted-there s (SwitchOnOffForced force) w = rw (w .linked, w .locked) refl
+noted-there s (NightMode value) w = night-is-noted (s .link) (s .lock) (standing (s .force)) (w .linked) (w .held)
+
+pub noted-exactly-where : (s : State) (i : Input) → (barrier s i ≡ Notes) ↔ NotedWhere s i
+noted-exactly-where s i = (noted-where s i, noted-there s i)
 
 -- lock or force stands in any case, before and after
 pub noted-is-held : (s : State) (i : Input) → barrier s i ≡ Notes → (held s ≡ true) × (held (noted s i) ≡ true)

@@ -128,7 +128,7 @@ order-leaves s (NightMode value) = night-leaves s value
 order-leaves s (Bus event) = bus-leaves s (s .link) event refl
 order-leaves s (Power event) = power-leaves s (s .link) event
 
--- a value that is noted changes one flag, or none
+-- a value that is noted leaves the parameters, the clock and the scenes (and of the flags all but its own: Said.antt)
 pub noted-leaves : (s : State) (i : Input) → With s (flagsOf (noted s i)) (noted s i)
 unfolding noted
 noted-leaves s (SwitchOnOff value) = same

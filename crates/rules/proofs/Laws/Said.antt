@@ -24,12 +24,12 @@ use Rattle.rules.specs.declared.state.State.{State}
 use Rattle.rules.specs.Phases.{output, litAt, setOn}
 use Rattle.rules.specs.Orders.{timedStart, offAfterDelay, off, timedStop, nightFalls, withLock, withLink, held, settle, plain, byMode, locked, unlockingOutput, unlocked, lockDevice, busMode, bus, powerReturns, power, order, noted}
 use Rattle.rules.specs.Barriers.{barrier}
-use Rattle.rules.specs.Said.{OnlyItsValue, setTo, NothingHolds, ModesSet, runsTimed, EndsAtEarlier, OffOrders, TimedOrders, NightFalls}
+use Rattle.rules.specs.Said.{NotedWhere, OnlyItsValue, setTo, NothingHolds, ModesSet, runsTimed, EndsAtEarlier, OffOrders, TimedOrders, NightFalls}
 use Rattle.rules.specs.Facts.{ParamsFit}
 use Rattle.base.specs.Time.{earlier}
 use Rattle.base.proofs.Tests.{no, either-way, by-order}
 use Rattle.rules.proofs.Laws.Facts.{held-exactly-when}
-use Rattle.rules.proofs.Laws.Barriers.{NotedWhere, noted-where}
+use Rattle.rules.proofs.Laws.Barriers.{noted-where}
 
 -- ---- modes
 

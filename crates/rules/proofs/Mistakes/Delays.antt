@@ -28,13 +28,14 @@ use Rattle.rules.specs.Scenes.{recalled, learnt}
 use Rattle.rules.specs.Phases.{output, deadline, atDeadline}
 use Rattle.rules.specs.Orders.{offAfterDelay, off, timedStop, nightFalls, withPhase, withNight, withScenes, standing, held, switch, timed, recall, learn, scene, nightMode, forced, lockDevice, bus, power, order}
 use Rattle.rules.specs.Barriers.{row, rows, rowOf, setsValue, firstBarrier, outranked, orNoted, barrierTo, barrier}
+use Rattle.rules.specs.Said.{NotedWhere}
 use Rattle.rules.specs.Steps.{fresh, atMoment, tickAt, tick, ticked, clockMove, step, Quiet}
 use Rattle.rules.specs.Lists.{Cue, cue, Played, plays}
 use Rattle.rules.specs.Promises.{Rises, turn, turns, Each, stateAt, Taken, recallsOn}
 use Rattle.rules.specs.Mistakes.{LeavesNoTrace, asksFor, stirs, OffIsHeard, AskingAgainIsIdle}
 use Rattle.base.proofs.Tests.{no, cond-case, either-way}
 use Rattle.rules.proofs.Laws.Steps.{tick-case, three-are-enough}
-use Rattle.rules.proofs.Laws.Barriers.{NotedWhere, noted-where, noted-is-held}
+use Rattle.rules.proofs.Laws.Barriers.{noted-where, noted-is-held}
 use Rattle.rules.proofs.Laws.Soundness.{move-clock, move-params, step-case, taken-is-the-order, step-params}
 use Rattle.rules.proofs.Laws.Lists.{plays-append, plays-keep-params}
 use Rattle.rules.proofs.Laws.Moments.{at-case, at-the-end, rises-from, rises-to, at-after}

@@ -19,12 +19,13 @@ use Rattle.rules.specs.Scenes.{recalled}
 use Rattle.rules.specs.Phases.{output}
 use Rattle.rules.specs.Orders.{withPhase, withForce, withLink, withLock, standing, held, settle, plain, byMode, switch, timed, recall, learn, scene, nightMode, forced, locked, unlocked, lockDevice, busMode, bus, powerFails, powerReturns, power, order, noted}
 use Rattle.rules.specs.Barriers.{powerDown, barrier}
+use Rattle.rules.specs.Said.{NotedWhere}
 use Rattle.rules.specs.Steps.{tick, ticked, clockMove, step}
 use Rattle.rules.specs.Promises.{recallsOn, lights, modeOn, busOn, longestLight}
 use Rattle.base.proofs.Tests.{cond-case, either-way}
 use Rattle.rules.proofs.Promises.Lasting.{OverBy, timer-over, off-over, timed-stop-over, night-ends-over, set-on-over, on-over, timed-start-over, night-falls-over}
 use Rattle.rules.proofs.Laws.Steps.{tick-case}
-use Rattle.rules.proofs.Laws.Barriers.{NotedWhere, noted-where}
+use Rattle.rules.proofs.Laws.Barriers.{noted-where}
 use Rattle.rules.proofs.Laws.Soundness.{move-clock, move-params, step-case}
 
 -- night rules where it is on and neither lock nor force stands
