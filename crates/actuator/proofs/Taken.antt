@@ -9,7 +9,7 @@ use Rattle.rules.specs.declared.parameters.Params.{Params}
 use Rattle.rules.specs.declared.parameters.Scene.{Scene}
 use Rattle.rules.specs.declared.phase.Phase.{Phase}
 use Rattle.rules.specs.declared.input.Input.{Input}
-use Rattle.rules.specs.declared.input.Input.the-variants.{SwitchOnOff, TimedStartStop, NumberedSceneControl, SwitchOnOffForced, LockDevice, NightMode, Bus, Power}
+use Rattle.rules.specs.declared.input.Input.the-variants.{SwitchOnOffForced, NightMode}
 use Rattle.rules.specs.declared.state.State.{State}
 use Rattle.rules.specs.declared.barrier.Barrier.{Barrier}
 use Rattle.rules.specs.declared.barrier.Barrier.the-variants.{Open, Notes, Stopped}
@@ -22,7 +22,7 @@ use Rattle.rules.specs.Steps.{Stepped, clockMove, counted, meet, act, step}
 use Rattle.rules.specs.Lists.{Played, still}
 use Rattle.rules.specs.Said.{NotedWhere, scenesAfter}
 use Rattle.base.proofs.Tests.{no, eqb-same, beq-same}
-use Rattle.rules.proofs.Laws.Orders.{order-leaves, noted-leaves}
+use Rattle.rules.proofs.Laws.Orders.{order-leaves, noted-both, noted-leaves}
 use Rattle.rules.proofs.Laws.Barriers.{noted-where}
 use Rattle.rules.proofs.Laws.Answers.{same-but-clock-is-exact, scenes-same}
 use Rattle.rules.proofs.Laws.Soundness.{move-keeps}
@@ -127,15 +127,7 @@ module _ (p : Params) (k : List Scene) (l : Lamp) (i : Input) (b : Bool) (other 
 
 -- a value that is noted, whatever the parameters and the table
 pub noted-alone : (p : Params) (k : List Scene) (l : Lamp) (i : Input) → lampOf (noted (alone l) i) ≡ lampOf (noted (stateOf p k l) i)
-unfolding noted
-noted-alone p k l (SwitchOnOff value) = refl
-noted-alone p k l (TimedStartStop value) = refl
-noted-alone p k l (NumberedSceneControl learns number) = refl
-noted-alone p k l (SwitchOnOffForced force) = refl
-noted-alone p k l (LockDevice value) = refl
-noted-alone p k l (NightMode value) = refl
-noted-alone p k l (Bus event) = refl
-noted-alone p k l (Power event) = refl
+noted-alone p k l i = noted-both (λ (u v : State). lampOf u ≡ lampOf v) (alone l) (stateOf p k l) i refl (λ force. refl) (λ night. refl)
 
 -- ---- at the moved clock
 

@@ -32,6 +32,7 @@ use Rattle.rules.specs.Status.{value, attributes, recordOf, byItself, sameStatu
 use Rattle.rules.specs.Answers.{sameFlags, sameButClock}
 use Rattle.rules.specs.Steps.{Moved, Stepped, fresh, tickAt, tick, ticked, clockMove, counted, meet, act, step}
 use Rattle.rules.specs.Lists.{Cue, playList, still}
+use Rattle.rules.proofs.Laws.Orders.{noted-both}
 use Rattle.sensor.specs.declared.signal.Signal.{Signal}
 use Rattle.sensor.specs.declared.signal.Signal.the-variants as signal
 use Rattle.sensor.specs.declared.state.Sensor.{Sensor}
@@ -197,15 +198,7 @@ module _ (v : ℕ) where
   alike-order s (Power event) = alike-power s (s .link) event
 
   alike-noted : (s : State) (i : Input) → noted (like s) i ≡ like (noted s i)
-  unfolding noted
-  alike-noted s (SwitchOnOff value) = refl
-  alike-noted s (TimedStartStop value) = refl
-  alike-noted s (NumberedSceneControl learns number) = refl
-  alike-noted s (SwitchOnOffForced force) = refl
-  alike-noted s (LockDevice value) = refl
-  alike-noted s (NightMode value) = refl
-  alike-noted s (Bus event) = refl
-  alike-noted s (Power event) = refl
+  alike-noted s i = noted-both (λ (u v : State). u ≡ like v) (like s) s i refl (λ force. refl) (λ night. refl)
 
   -- ---- timers, records, steps
 

@@ -14,8 +14,9 @@ use Rattle.rules.specs.Phases.{output}
 use Rattle.rules.specs.Promises.{stateAt, turns}
 use Rattle.rules.specs.Steps.{fresh}
 use Rattle.rules.specs.Soundness.{sound}
+use Rattle.rules.specs.Worked.{force-off-at, release-at, lock-at, unlock-at, night-at}
 use Rattle.demands.specs.Notes.{unnoted, forcesUnlocked, SameFromThenOn}
-use Rattle.demands.specs.NoteReadings.{keeps, force-on-at, force-off-at, release-at, lock-at, unlock-at, night-at, NoteCase, notePlayed, noteCases}
+use Rattle.demands.specs.NoteReadings.{keeps, force-on-at, NoteCase, notePlayed, noteCases}
 use Rattle.demands.proofs.Computing.{playingPairs, callingPairs}
 use Rattle.demands.proofs.Noting.{night-holds-at-the-release, night-holds-at-the-unlock}
 use Rattle.demands.proofs.Newest.{only-the-newest-count}

@@ -1,16 +1,16 @@
 -- Sentences of 02, [4], that can be read in two ways. In the table are lists from the start that tell the readings apart, with every answer and
 -- record up to 1000 by the reading that is taken. (Checked: proofs/NoteReadings.antt, where the sound states are too.)
 use Prim.Native.Nat.{ℕ}
-use mathlib.Core.Bool.{true, false}
+use mathlib.Core.Bool.{false}
 use mathlib.Core.List.{List, [], _∷_}
 use Rattle.rules.specs.declared.parameters.Params.{Params}
-use Rattle.rules.specs.declared.input.Force.the-variants.{Free, Off, On}
+use Rattle.rules.specs.declared.input.Force.the-variants.{On}
 use Rattle.rules.specs.declared.input.Event.the-variants.{Failure, Return}
-use Rattle.rules.specs.declared.input.Input.the-variants.{SwitchOnOff, SwitchOnOffForced, LockDevice, NightMode, Bus, Power}
+use Rattle.rules.specs.declared.input.Input.the-variants.{SwitchOnOffForced, NightMode, Bus, Power}
 use Rattle.rules.specs.declared.record.Record.{Record}
 use Rattle.rules.specs.Calls.{noScenes}
 use Rattle.rules.specs.Lists.{Cue, cue, Played, playList}
-use Rattle.rules.specs.Worked.{Shown}
+use Rattle.rules.specs.Worked.{Shown, rec, on-at, force-off-at, release-at, lock-at, unlock-at, night-at}
 
 -- TimedOn 600, Prewarning 100, no other delay; BehaviourAtLocking and BehaviourAtUnlocking; the other modes are 0
 abbrev pub holding : ℕ → ℕ → Params
@@ -20,33 +20,11 @@ holding locking unlocking =
 abbrev pub keeps : Params
 keeps = holding 0 0
 
-abbrev on-at : ℕ → Cue
-on-at t = cue t (SwitchOnOff true)
-
 abbrev pub force-on-at : ℕ → Cue
 force-on-at t = cue t (SwitchOnOffForced On)
 
-abbrev pub force-off-at : ℕ → Cue
-force-off-at t = cue t (SwitchOnOffForced Off)
-
-abbrev pub release-at : ℕ → Cue
-release-at t = cue t (SwitchOnOffForced Free)
-
-abbrev pub lock-at : ℕ → Cue
-lock-at t = cue t (LockDevice true)
-
-abbrev pub unlock-at : ℕ → Cue
-unlock-at t = cue t (LockDevice false)
-
-abbrev pub night-at : ℕ → Cue
-night-at t = cue t (NightMode true)
-
 abbrev day-at : ℕ → Cue
 day-at t = cue t (NightMode false)
-
--- stamp, value, attributes, cause
-abbrev rec : ℕ → ℕ → ℕ → ℕ → Record
-rec stamp value attributes cause = record { stamp = stamp; value = value; attributes = attributes; cause = cause }
 
 -- a case: the parameters, the cues, and what they show
 pub record NoteCase : Type 0 where

@@ -1,5 +1,5 @@
--- Orders said a second time, from another side: what each leaves of every field, what each mode sets, what timed orders and nightfall make
--- of a phase, where Orders.antt goes order by order. That both sides say the same is proved (proofs/Laws/Orders.antt, Said.antt), so that a
+-- Orders said a second time, from another side: what each leaves of every field, where an input is noted and what that changes, what each mode
+-- sets, what timed orders and nightfall make of a phase, where Orders.antt goes order by order. That both sides say the same is proved (proofs/Laws/Orders.antt, Said.antt), so that a
 -- slip in one of them does not pass.
 use Prim.Native.Nat.{ℕ, _+_, _≤_}
 use mathlib.Core.Bool.{Bool, true, false, cond}

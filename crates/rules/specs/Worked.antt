@@ -29,7 +29,7 @@ paper =
     }
 
 -- stamp, value, attributes, cause
-abbrev rec : ℕ → ℕ → ℕ → ℕ → Record
+abbrev pub rec : ℕ → ℕ → ℕ → ℕ → Record
 rec stamp value attributes cause = record { stamp = stamp; value = value; attributes = attributes; cause = cause }
 
 -- what a run shows
@@ -58,19 +58,19 @@ on-at t = cue t (SwitchOnOff true)
 abbrev pub off-at : ℕ → Cue
 off-at t = cue t (SwitchOnOff false)
 
-abbrev timed-at : ℕ → Cue
+abbrev pub timed-at : ℕ → Cue
 timed-at t = cue t (TimedStartStop true)
 
-abbrev force-off-at : ℕ → Cue
+abbrev pub force-off-at : ℕ → Cue
 force-off-at t = cue t (SwitchOnOffForced force.Off)
 
-abbrev release-at : ℕ → Cue
+abbrev pub release-at : ℕ → Cue
 release-at t = cue t (SwitchOnOffForced force.Free)
 
-abbrev lock-at : ℕ → Cue
+abbrev pub lock-at : ℕ → Cue
 lock-at t = cue t (LockDevice true)
 
-abbrev unlock-at : ℕ → Cue
+abbrev pub unlock-at : ℕ → Cue
 unlock-at t = cue t (LockDevice false)
 
 abbrev pub night-at : ℕ → Cue

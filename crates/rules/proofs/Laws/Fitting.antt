@@ -20,6 +20,7 @@ use Rattle.rules.specs.Scenes.{recalled}
 use Rattle.rules.specs.Phases.{output}
 use Rattle.rules.specs.Orders.{withPhase, withNight, withForce, withLink, withLock, standing, held, settle, byMode, switch, timed, recall, learn, scene, nightMode, forced, locked, unlocked, lockDevice, busMode, bus, powerFails, powerReturns, power, order, noted}
 use Rattle.rules.specs.Barriers.{powerDown, rows, rowOf, barrier}
+use Rattle.rules.specs.Said.{NotedWhere}
 use Rattle.rules.specs.Soundness.{isLit, soon, heldIsSteady, forceDecides, nightEnds, powerDownIsClear}
 use Rattle.base.proofs.Tests.{neither-left, cond-case}
 use Rattle.rules.proofs.Laws.Deadlines.{Times}
@@ -136,15 +137,10 @@ module _ (s : State) (n : Times (s .params)) (f : Fits s) where
   -- a value that is noted leaves the phase, and lock or force holds it still: the lock stands where a force is noted
   pub noted-fits : (i : Input) → barrier s i ≡ Notes → Fits (noted s i)
   unfolding noted held heldIsSteady forceDecides nightEnds powerDownIsClear
-  noted-fits (SwitchOnOff value) way = absurd (noted-where s (SwitchOnOff value) way)
-  noted-fits (TimedStartStop value) way = absurd (noted-where s (TimedStartStop value) way)
-  noted-fits (NumberedSceneControl learns number) way = absurd (noted-where s (NumberedSceneControl learns number) way)
-  noted-fits (SwitchOnOffForced force) way =
-      let w = noted-where s (SwitchOnOffForced force) way in
-      record { soon = f .soon; steady = rw (w .locked) (rw (w .locked) at (f .steady)); decided = rw (w .locked); ends = rw (w .locked) (either-true (s .night && isLit (s .phase))); clear = rw (w .linked) }
-  noted-fits (LockDevice value) way = absurd (noted-where s (LockDevice value) way)
-  noted-fits (NightMode value) way =
-      let w = noted-where s (NightMode value) way in
-      record { soon = f .soon; steady = f .steady; decided = f .decided; ends = rw (w .held) (either-true (value && isLit (s .phase))); clear = rw (w .linked) }
-  noted-fits (Bus event) way = absurd (noted-where s (Bus event) way)
-  noted-fits (Power event) way = absurd (noted-where s (Power event) way)
+  noted-fits i way = go i (noted-where s i way)
+    where
+      go : (i : Input) → NotedWhere s i → Fits (noted s i)
+      go (SwitchOnOffForced force) w =
+          record { soon = f .soon; steady = rw (w .locked) (rw (w .locked) at (f .steady)); decided = rw (w .locked); ends = rw (w .locked) (either-true (s .night && isLit (s .phase))); clear = rw (w .linked) }
+      go (NightMode value) w =
+          record { soon = f .soon; steady = f .steady; decided = f .decided; ends = rw (w .held) (either-true (value && isLit (s .phase))); clear = rw (w .linked) }

@@ -20,7 +20,7 @@ use Rattle.rules.specs.declared.state.State.{State}
 use Rattle.rules.specs.Scenes.{recalled, learnt}
 use Rattle.rules.specs.Phases.{output}
 use Rattle.rules.specs.declared.phase.Phase.the-variants.{Dark, Lit}
-use Rattle.rules.specs.Orders.{withForce, withLink, withLock, withScenes, standing, held, settle, switch, timed, recall, learn, scene, nightMode, forced, locked, unlocked, lockDevice, busMode, bus, powerFails, powerReturns, power, order, noted}
+use Rattle.rules.specs.Orders.{withNight, withForce, withLink, withLock, withScenes, standing, held, settle, switch, timed, recall, learn, scene, nightMode, forced, locked, unlocked, lockDevice, busMode, bus, powerFails, powerReturns, power, order, noted}
 use Rattle.rules.specs.Said.{Flags, flagsOf, flagsAfterPower, MadeOf, Leaves}
 use Rattle.base.proofs.Tests.{no, cond-case}
 
@@ -128,28 +128,25 @@ order-leaves s (NightMode value) = night-leaves s value
 order-leaves s (Bus event) = bus-leaves s (s .link) event refl
 order-leaves s (Power event) = power-leaves s (s .link) event
 
--- a value that is noted leaves the parameters, the clock and the scenes (and of the flags all but its own: Said.antt)
-pub noted-leaves : (s : State) (i : Input) → With s (flagsOf (noted s i)) (noted s i)
+-- what is noted in two states at once: what holds of both as they are, and of both with another force or another night, holds after the note
+pub noted-both : (P : State → State → Type 0) (s u : State) (i : Input) → P s u → ((force : Force) → P (withForce s force) (withForce u force)) → ((night : Bool) → P (withNight s night) (withNight u night)) →
+    P (noted s i) (noted u i)
 unfolding noted
-noted-leaves s (SwitchOnOff value) = same
-noted-leaves s (TimedStartStop value) = same
-noted-leaves s (NumberedSceneControl learns number) = same
-noted-leaves s (SwitchOnOffForced force) = same
-noted-leaves s (LockDevice value) = same
-noted-leaves s (NightMode value) = same
-noted-leaves s (Bus event) = same
-noted-leaves s (Power event) = same
+noted-both P s u (SwitchOnOff value) stays forces nights = stays
+noted-both P s u (TimedStartStop value) stays forces nights = stays
+noted-both P s u (NumberedSceneControl learns number) stays forces nights = stays
+noted-both P s u (SwitchOnOffForced force) stays forces nights = forces force
+noted-both P s u (LockDevice value) stays forces nights = stays
+noted-both P s u (NightMode value) stays forces nights = nights value
+noted-both P s u (Bus event) stays forces nights = stays
+noted-both P s u (Power event) stays forces nights = stays
+
+-- so it leaves the parameters, the clock and the scenes (and of the flags all but its own: Said.antt), and the phase
+pub noted-leaves : (s : State) (i : Input) → With s (flagsOf (noted s i)) (noted s i)
+noted-leaves s i = noted-both (λ (u v : State). With s (flagsOf u) u) s s i same (λ force. same) (λ night. same)
 
 pub noted-phase : (s : State) (i : Input) → noted s i .phase ≡ s .phase
-unfolding noted
-noted-phase s (SwitchOnOff value) = refl
-noted-phase s (TimedStartStop value) = refl
-noted-phase s (NumberedSceneControl learns number) = refl
-noted-phase s (SwitchOnOffForced force) = refl
-noted-phase s (LockDevice value) = refl
-noted-phase s (NightMode value) = refl
-noted-phase s (Bus event) = refl
-noted-phase s (Power event) = refl
+noted-phase s i = noted-both (λ (u v : State). u .phase ≡ s .phase) s s i refl (λ force. refl) (λ night. refl)
 
 -- 01, "Slips we have seen": "An unlock that forgets a standing force."
 pub unlock-obeys-a-standing-force : (s : State) → s .lock ≡ true →

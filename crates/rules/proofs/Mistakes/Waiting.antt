@@ -34,6 +34,7 @@ use Rattle.rules.specs.Lists.{Cue, cue, plays}
 use Rattle.rules.specs.Promises.{Rises, Turn, turn, turns, Each, stateAt, Taken, recallsOn, lights, NotBefore, ShowsLight}
 use Rattle.rules.specs.Mistakes.{LeavesNoTrace, asksFor, OnIsIdleWhileItWaits, OnIsNeverLater}
 use Rattle.base.proofs.Tests.{no, cond-case, either-way, by-order}
+use Rattle.rules.proofs.Laws.Orders.{noted-both}
 use Rattle.rules.proofs.Laws.Soundness.{taken-is-the-order, noted-is-the-note, step-clock, step-params}
 use Rattle.rules.proofs.Laws.Timers.{no-timer-due-no-move}
 use Rattle.rules.proofs.Laws.Moments.{at-case, at-the-end, next-is-later, rises-from, at-past}
@@ -312,15 +313,10 @@ module _ (unstopped : Bool) (d : ℕ) (s : State) (is-timed : Bool) (phase : Pha
 
   -- a value that is noted is noted in both
   noted-follows : (i : Input) → Follows unstopped d (noted s i) (noted (withPhase s phase) i)
-  unfolding noted
-  noted-follows (SwitchOnOff value) = stays
-  noted-follows (TimedStartStop value) = stays
-  noted-follows (NumberedSceneControl learns number) = stays
-  noted-follows (SwitchOnOffForced force) = inl (record { timed = is-timed; phase = phase; waits = waits; behind = behind; same = refl })
-  noted-follows (LockDevice value) = stays
-  noted-follows (NightMode value) = inl (record { timed = is-timed; phase = phase; waits = waits; behind = behind; same = refl })
-  noted-follows (Bus event) = stays
-  noted-follows (Power event) = stays
+  noted-follows i =
+      noted-both (Follows unstopped d) s (withPhase s phase) i stays
+      (λ force. inl (record { timed = is-timed; phase = phase; waits = waits; behind = behind; same = refl }))
+      (λ night. inl (record { timed = is-timed; phase = phase; waits = waits; behind = behind; same = refl }))
 
 -- up to d the clock moves alike, and the same barriers stand
 module _ (unstopped : Bool) (d : ℕ) (s : State) (is-timed : Bool) (phase : Phase) (waits : s .phase ≡ Starting is-timed d) (behind : Behind unstopped d is-timed phase) (t : ℕ) (early : t < d) where
