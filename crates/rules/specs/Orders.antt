@@ -2,7 +2,7 @@
 -- the state. An order is asked only of a state whose clock has moved to t, and only where nothing stops it (Barriers.antt). Last, what a
 -- value changes that is only noted.
 use Prim.Native.Nat.{ℕ, _+_}
-use mathlib.Core.Bool.{Bool, true, false, cond, _||_}
+use mathlib.Core.Bool.{Bool, true, false, cond, not, _&&_, _||_}
 use mathlib.Core.List.{List}
 use lib.Dec.{eqb}
 use Rattle.rules.specs.declared.parameters.Params.{Params}
@@ -22,7 +22,9 @@ use Rattle.rules.specs.declared.state.Link.the-variants.{Up, BusDown, Po
 use Rattle.rules.specs.declared.state.State.{State}
 use Rattle.base.specs.Time.{earlier}
 use Rattle.rules.specs.Scenes.{recalled, learnt}
-use Rattle.rules.specs.Phases.{output, litAt, setOn, setOff}
+use Rattle.rules.specs.declared.phase.Deadline.{Deadline}
+use Rattle.rules.specs.declared.phase.Deadline.the-variants.{Never, At}
+use Rattle.rules.specs.Phases.{output, ownEnd, litAt, setOn, setOff}
 
 -- ---- orders to the phase
 
@@ -58,6 +60,14 @@ offAfterDelay p t (Ending d) = Ending (earlier (t + p .offdelay) d)
 -- "With OffDelay 0 the result is Dark."
 unfoldable pub off : Params → ℕ → Phase → Phase
 off p t phase = cond (eqb (p .offdelay) 0) Dark (offAfterDelay p t phase)
+
+-- 02, [5]: "one choice of the earlier of two moments": t+OffDelay, and the phase's own end where it has one
+unfoldable pub earliestEnd : ℕ → Deadline → ℕ
+earliestEnd delayed Never = delayed
+earliestEnd delayed (At own) = earlier delayed own
+
+unfoldable pub offOnce : Params → ℕ → Phase → Phase
+offOnce p t phase = cond (output phase && not (eqb (p .offdelay) 0)) (Ending (earliestEnd (t + p .offdelay) (ownEnd p phase))) Dark
 
 -- "Timed stop: as Off in Timed, Warning and timed Starting; otherwise nothing."
 unfoldable pub timedStop : Params → ℕ → Phase → Phase

@@ -42,6 +42,17 @@ atDeadline p night (Timed d) = cond (eqb (p .prewarning) 0) Dark (Warning (d + p
 atDeadline p night (Warning d) = Dark
 atDeadline p night (Ending d) = Dark
 
+-- when a lit phase goes dark by itself, if ever (02, [5]: "read from one place"). By the timers above:
+--   Timed, at d: "Warning until d+Prewarning", and then, or at once where "Prewarning is 0", Dark
+--   "Warning and Ending (on). At d: Dark."
+unfoldable pub ownEnd : Params → Phase → Deadline
+ownEnd p Dark = Never
+ownEnd p Lit = Never
+ownEnd p (Starting timed d) = Never
+ownEnd p (Timed d) = At (d + p .prewarning)
+ownEnd p (Warning d) = At d
+ownEnd p (Ending d) = At d
+
 -- ""Set on" is Lit, or Timed until t+TimedOn when night is on and, once the order's own flags are changed, neither lock nor
 -- force stands." (`held`: lock or force stands; `setOff` is the phase Dark)
 unfoldable pub setOn : Params → Bool → Bool → ℕ → Phase

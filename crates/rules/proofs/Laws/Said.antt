@@ -21,8 +21,8 @@ use Rattle.rules.specs.declared.barrier.Barrier.the-variants.{Notes}
 use Rattle.rules.specs.declared.state.Link.{Link}
 use Rattle.rules.specs.declared.state.Link.the-variants.{Up, BusDown, PowerDown}
 use Rattle.rules.specs.declared.state.State.{State}
-use Rattle.rules.specs.Phases.{output, litAt, setOn}
-use Rattle.rules.specs.Orders.{timedStart, offAfterDelay, off, timedStop, nightFalls, withLock, withLink, held, settle, plain, byMode, locked, unlockingOutput, unlocked, lockDevice, busMode, bus, powerReturns, power, order, noted}
+use Rattle.rules.specs.Phases.{output, ownEnd, litAt, setOn}
+use Rattle.rules.specs.Orders.{timedStart, offAfterDelay, off, offOnce, earliestEnd, timedStop, nightFalls, withLock, withLink, held, settle, plain, byMode, locked, unlockingOutput, unlocked, lockDevice, busMode, bus, powerReturns, power, order, noted}
 use Rattle.rules.specs.Barriers.{barrier}
 use Rattle.rules.specs.Said.{NotedWhere, OnlyItsValue, setTo, NothingHolds, ModesSet, runsTimed, EndsAtEarlier, OffOrders, TimedOrders, NightFalls}
 use Rattle.rules.specs.Facts.{ParamsFit}
@@ -155,6 +155,22 @@ off-orders p t =
       warning = λ some d. rw (ne-eqb (p .offdelay) 0 some) (ends-at-earlier (t + p .offdelay) d);
       ending = λ some d. rw (ne-eqb (p .offdelay) 0 some) (ends-at-earlier (t + p .offdelay) d);
     }
+
+-- 02, [5]: "No answer changes.": Off said once is Off as it was spelled out, phase by phase
+pub said-once : (p : Params) (t : ℕ) (phase : Phase) → offOnce p t phase ≡ off p t phase
+said-once p t phase = by phase (eqb (p .offdelay) 0) refl
+  where
+    by : (phase : Phase) (none : Bool) → eqb (p .offdelay) 0 ≡ none → offOnce p t phase ≡ off p t phase
+    by Dark none e = unfold off offAfterDelay offOnce in either-way (λ (x : Phase). Dark ≡ x) (eqb (p .offdelay) 0) Dark Dark refl refl
+    by (Starting timed d) none e = unfold off offAfterDelay offOnce in either-way (λ (x : Phase). Dark ≡ x) (eqb (p .offdelay) 0) Dark Dark refl refl
+    by Lit true e = unfold off offAfterDelay offOnce earliestEnd ownEnd in rw e
+    by Lit false e = unfold off offAfterDelay offOnce earliestEnd ownEnd in rw e
+    by (Timed d) true e = unfold off offAfterDelay offOnce earliestEnd ownEnd in rw e
+    by (Timed d) false e = unfold off offAfterDelay offOnce earliestEnd ownEnd in rw e
+    by (Warning d) true e = unfold off offAfterDelay offOnce earliestEnd ownEnd in rw e
+    by (Warning d) false e = unfold off offAfterDelay offOnce earliestEnd ownEnd in rw e
+    by (Ending d) true e = unfold off offAfterDelay offOnce earliestEnd ownEnd in rw e
+    by (Ending d) false e = unfold off offAfterDelay offOnce earliestEnd ownEnd in rw e
 
 pub night-falls : (p : Params) (t : ℕ) → NightFalls p t
 unfolding nightFalls
