@@ -25,13 +25,14 @@ use Rattle.rules.specs.declared.barrier.Barrier.{Barrier}
 use Rattle.rules.specs.declared.barrier.Barrier.the-variants.{Open, Notes, Stopped}
 use Rattle.rules.specs.Phases.{output, deadline, litAt, atDeadline, setOn}
 use Rattle.rules.specs.Scenes.{recalled}
-use Rattle.rules.specs.Orders.{on, timedStart, offAfterDelay, off, timedStop, nightFalls, withPhase, withForce, held, standing, settle, switch, timed, recall, learn, scene, nightMode, forced, locked, unlockingOutput, unlocked, lockDevice, busMode, bus, powerFails, powerReturns, power, order, noted}
+use Rattle.rules.specs.Orders.{on, timedStart, off, timedStop, nightFalls, withPhase, withForce, held, standing, settle, switch, timed, recall, learn, scene, nightMode, forced, locked, unlockingOutput, unlocked, lockDevice, busMode, bus, powerFails, powerReturns, power, order, noted}
 use Rattle.rules.specs.Barriers.{barrier}
 use Rattle.rules.specs.Inputs.{kind}
 use Rattle.rules.specs.Status.{value, attributes, recordOf, byItself, sameStatus, written}
 use Rattle.rules.specs.Answers.{sameFlags, sameButClock}
 use Rattle.rules.specs.Steps.{Moved, Stepped, fresh, tickAt, tick, ticked, clockMove, counted, meet, act, step}
 use Rattle.rules.specs.Lists.{Cue, playList, still}
+use Rattle.rules.proofs.Laws.Phases.{each-phase}
 use Rattle.rules.proofs.Laws.Orders.{noted-both}
 use Rattle.sensor.specs.declared.signal.Signal.{Signal}
 use Rattle.sensor.specs.declared.signal.Signal.the-variants as signal
@@ -56,34 +57,15 @@ module _ (v : ℕ) where
 
   alike-on : (p : Params) (night held : Bool) (t : ℕ) (ph : Phase) → on (ofVersion v p) night held t ph ≡ on p night held t ph
   unfolding on setOn litAt
-  alike-on p night held t Dark = refl
-  alike-on p night held t Lit = refl
-  alike-on p night held t (Starting timed d) = refl
-  alike-on p night held t (Timed d) = refl
-  alike-on p night held t (Warning d) = refl
-  alike-on p night held t (Ending d) = refl
+  alike-on p night held t = each-phase (λ ph. on (ofVersion v p) night held t ph ≡ on p night held t ph) refl refl (λ timed d. refl) (λ d. refl) (λ d. refl) (λ d. refl)
 
   alike-start : (p : Params) (t : ℕ) (ph : Phase) → timedStart (ofVersion v p) t ph ≡ timedStart p t ph
   unfolding timedStart
-  alike-start p t Dark = refl
-  alike-start p t Lit = refl
-  alike-start p t (Starting timed d) = refl
-  alike-start p t (Timed d) = refl
-  alike-start p t (Warning d) = refl
-  alike-start p t (Ending d) = refl
-
-  alike-delayed : (p : Params) (t : ℕ) (ph : Phase) → offAfterDelay (ofVersion v p) t ph ≡ offAfterDelay p t ph
-  unfolding offAfterDelay
-  alike-delayed p t Dark = refl
-  alike-delayed p t Lit = refl
-  alike-delayed p t (Starting timed d) = refl
-  alike-delayed p t (Timed d) = refl
-  alike-delayed p t (Warning d) = refl
-  alike-delayed p t (Ending d) = refl
+  alike-start p t = each-phase (λ ph. timedStart (ofVersion v p) t ph ≡ timedStart p t ph) refl refl (λ timed d. refl) (λ d. refl) (λ d. refl) (λ d. refl)
 
   alike-off : (p : Params) (t : ℕ) (ph : Phase) → off (ofVersion v p) t ph ≡ off p t ph
   unfolding off
-  alike-off p t ph = rw (alike-delayed p t ph)
+  alike-off p t = each-phase (λ ph. off (ofVersion v p) t ph ≡ off p t ph) refl refl (λ timed d. refl) (λ d. refl) (λ d. refl) (λ d. refl)
 
   alike-stop : (p : Params) (t : ℕ) (ph : Phase) → timedStop (ofVersion v p) t ph ≡ timedStop p t ph
   unfolding timedStop
@@ -96,21 +78,11 @@ module _ (v : ℕ) where
 
   alike-nightfall : (p : Params) (t : ℕ) (ph : Phase) → nightFalls (ofVersion v p) t ph ≡ nightFalls p t ph
   unfolding nightFalls
-  alike-nightfall p t Dark = refl
-  alike-nightfall p t Lit = refl
-  alike-nightfall p t (Starting timed d) = refl
-  alike-nightfall p t (Timed d) = refl
-  alike-nightfall p t (Warning d) = refl
-  alike-nightfall p t (Ending d) = refl
+  alike-nightfall p t = each-phase (λ ph. nightFalls (ofVersion v p) t ph ≡ nightFalls p t ph) refl refl (λ timed d. refl) (λ d. refl) (λ d. refl) (λ d. refl)
 
   alike-deadline : (p : Params) (night : Bool) (ph : Phase) → atDeadline (ofVersion v p) night ph ≡ atDeadline p night ph
   unfolding atDeadline litAt
-  alike-deadline p night Dark = refl
-  alike-deadline p night Lit = refl
-  alike-deadline p night (Starting timed d) = refl
-  alike-deadline p night (Timed d) = refl
-  alike-deadline p night (Warning d) = refl
-  alike-deadline p night (Ending d) = refl
+  alike-deadline p night = each-phase (λ ph. atDeadline (ofVersion v p) night ph ≡ atDeadline p night ph) refl refl (λ timed d. refl) (λ d. refl) (λ d. refl) (λ d. refl)
 
   -- ---- the orders
 

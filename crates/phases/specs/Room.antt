@@ -1,5 +1,5 @@
 -- What keeps every sum of the code within its type. Conditions of inner functions only: no public call has one.
-use Prim.Native.Nat.{ℕ, _≤_}
+use Prim.Native.Nat.{ℕ, _+_, _≤_}
 use Rattle.rules.specs.declared.parameters.Params.{Params}
 use Rattle.rules.specs.declared.phase.Phase.{Phase}
 use Rattle.base.specs.Time.{lastStamp, longestDelay}
@@ -16,4 +16,4 @@ pub record Room (p : Params) (t : ℕ) : Type 0 where
 -- and a deadline of the phase is at most the longest delay after the last stamp
 pub record Roomy (p : Params) (t : ℕ) (phase : Phase) : Type 0 where
   pub room : Room p t
-  pub deadline : due phase ≤ 1_519_350
+  pub deadline : due phase ≤ lastStamp + longestDelay

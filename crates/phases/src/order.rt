@@ -1,12 +1,17 @@
 // What each order makes of a phase, at t: one small function for each.
 ghost use mathlib.Core.Path.{_≡_};
-ghost use Rattle.rules.specs.Orders.{on, timedStart, offAfterDelay, off, nightFalls};
+ghost use Rattle.rules.specs.Orders.{on, timedStart, earliestEnd, off, nightFalls};
 ghost use Rattle.phases.specs.Room.{Room, Roomy};
 use crate::phase::lit_at;
+use crate::phase::output_of;
+use crate::phase::own_end;
 use crate::phase::set_on;
+use base::logic::both;
+use base::logic::negated;
 use base::moment::earlier_of;
 use base::moment::later;
 use rules::parameters::Params;
+use rules::phase::Deadline;
 use rules::phase::Phase;
 
 pub fn order_on(p: Params, night: bool, held: bool, t: u32, phase: Phase) -> Phase
@@ -51,18 +56,13 @@ pub fn order_timed_start(p: Params, t: u32, phase: Phase) -> Phase
     }
 }
 
-// Off, with a delay that is not 0: a lamp that would go dark by itself sooner keeps its own moment.
-fn off_after_delay(p: Params, t: u32, phase: Phase) -> Phase
-    requires { ⌜ Roomy p t phase ⌝ }
-    ensures { λ r. ⌜ r ≡ offAfterDelay p t phase ⌝ }
+// The earlier of two moments: that of an Off, and the one at which the light would end by itself, if it does.
+fn earliest_end(delayed: u32, own: Deadline) -> u32
+    ensures { λ r. ⌜ r ≡ earliestEnd delayed own ⌝ }
 {
-    match phase {
-        Phase::Dark => Phase::Dark,
-        Phase::Lit => Phase::Ending(later(t, p.offdelay)),
-        Phase::Starting(_, _) => Phase::Dark,
-        Phase::Timed(d) => Phase::Ending(earlier_of(later(t, p.offdelay), later(d, p.prewarning))),
-        Phase::Warning(d) => Phase::Ending(earlier_of(later(t, p.offdelay), d)),
-        Phase::Ending(d) => Phase::Ending(earlier_of(later(t, p.offdelay), d)),
+    match own {
+        Deadline::Never => delayed,
+        Deadline::At(end) => earlier_of(delayed, end),
     }
 }
 
@@ -71,10 +71,10 @@ pub fn order_off(p: Params, t: u32, phase: Phase) -> Phase
     ensures { λ r. ⌜ r ≡ off p t phase ⌝ }
 {
     let none = p.offdelay == 0;
-    if none {
-        Phase::Dark
+    if both(output_of(phase), negated(none)) {
+        Phase::Ending(earliest_end(later(t, p.offdelay), own_end(p, phase)))
     } else {
-        off_after_delay(p, t, phase)
+        Phase::Dark
     }
 }
 

@@ -1,6 +1,8 @@
 // The phases: their outputs, their deadlines, and what becomes of each at its deadline.
 ghost use mathlib.Core.Path.{_≡_};
-ghost use Rattle.rules.specs.Phases.{output, deadline, litAt, atDeadline, setOn};
+ghost use Rattle.rules.specs.Phases.{output, deadline, litAt, atDeadline, ownEnd, setOn};
+ghost use Rattle.base.specs.Time.{lastStamp, longestDelay};
+ghost use Prim.Native.Nat.{_+_, _≤_};
 ghost use Rattle.rules.specs.Status.{staircase};
 ghost use Rattle.rules.specs.Answers.{due};
 ghost use Rattle.phases.specs.Room.{Room};
@@ -96,6 +98,21 @@ pub fn at_deadline(p: Params, night: bool, phase: Phase) -> Phase
         }
         Phase::Warning(_) => Phase::Dark,
         Phase::Ending(_) => Phase::Dark,
+    }
+}
+
+// When a lit phase goes dark by itself, if it does.
+pub fn own_end(p: Params, phase: Phase) -> Deadline
+    requires { ⌜ (due phase ≤ lastStamp + longestDelay) × (p .prewarning ≤ longestDelay) ⌝ }
+    ensures { λ r. ⌜ r ≡ ownEnd p phase ⌝ }
+{
+    match phase {
+        Phase::Dark => Deadline::Never,
+        Phase::Lit => Deadline::Never,
+        Phase::Starting(_, _) => Deadline::Never,
+        Phase::Timed(d) => Deadline::At(moment::later(d, p.prewarning)),
+        Phase::Warning(d) => Deadline::At(d),
+        Phase::Ending(d) => Deadline::At(d),
     }
 }
 

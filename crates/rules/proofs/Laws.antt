@@ -6,6 +6,7 @@ pub mod Parameters
 pub mod Written
 pub mod BadOctets
 pub mod Inputs
+pub mod Ends
 pub mod Phases
 pub mod Holding
 pub mod Scenes

@@ -47,27 +47,14 @@ timedStart p t (Timed d) = Timed (t + p .timedon)
 timedStart p t (Warning d) = Timed (t + p .timedon)
 timedStart p t (Ending d) = Timed (t + p .timedon)
 
--- "Off: Dark stays; Starting becomes Dark. Lit: Ending until t+OffDelay. Timed with deadline d: Ending until the earlier of
--- t+OffDelay and d+Prewarning. Warning or Ending: Ending until the earlier of t+OffDelay and d."
-unfoldable pub offAfterDelay : Params → ℕ → Phase → Phase
-offAfterDelay p t Dark = Dark
-offAfterDelay p t (Starting timed d) = Dark
-offAfterDelay p t Lit = Ending (t + p .offdelay)
-offAfterDelay p t (Timed d) = Ending (earlier (t + p .offdelay) (d + p .prewarning))
-offAfterDelay p t (Warning d) = Ending (earlier (t + p .offdelay) d)
-offAfterDelay p t (Ending d) = Ending (earlier (t + p .offdelay) d)
-
--- "With OffDelay 0 the result is Dark."
-unfoldable pub off : Params → ℕ → Phase → Phase
-off p t phase = cond (eqb (p .offdelay) 0) Dark (offAfterDelay p t phase)
-
--- 02, [5]: "one choice of the earlier of two moments": t+OffDelay, and the phase's own end where it has one
+-- 02, [5]: "one choice of the earlier of two moments, read from one place": t+OffDelay, and the phase's own end where it has one
 unfoldable pub earliestEnd : ℕ → Deadline → ℕ
 earliestEnd delayed Never = delayed
 earliestEnd delayed (At own) = earlier delayed own
 
-unfoldable pub offOnce : Params → ℕ → Phase → Phase
-offOnce p t phase = cond (output phase && not (eqb (p .offdelay) 0)) (Ending (earliestEnd (t + p .offdelay) (ownEnd p phase))) Dark
+-- "Off: Dark stays; Starting becomes Dark." Every lit phase: Ending until the earliest end. "With OffDelay 0 the result is Dark."
+unfoldable pub off : Params → ℕ → Phase → Phase
+off p t phase = cond (output phase && not (eqb (p .offdelay) 0)) (Ending (earliestEnd (t + p .offdelay) (ownEnd p phase))) Dark
 
 -- "Timed stop: as Off in Timed, Warning and timed Starting; otherwise nothing."
 unfoldable pub timedStop : Params → ℕ → Phase → Phase

@@ -45,7 +45,7 @@ atDeadline p night (Ending d) = Dark
 -- when a lit phase goes dark by itself, if ever (02, [5]: "read from one place"). By the timers above:
 --   Timed, at d: "Warning until d+Prewarning", and then, or at once where "Prewarning is 0", Dark
 --   "Warning and Ending (on). At d: Dark."
-unfoldable pub ownEnd : Params → Phase → Deadline
+abbrev pub ownEnd : Params → Phase → Deadline
 ownEnd p Dark = Never
 ownEnd p Lit = Never
 ownEnd p (Starting timed d) = Never

@@ -11,6 +11,7 @@ use Rattle.rules.specs.declared.parameters.Params.{Params}
 use Rattle.rules.specs.declared.parameters.Scene.{Scene}
 use Rattle.rules.specs.declared.phase.Phase.{Phase}
 use Rattle.rules.specs.declared.phase.Phase.the-variants.{Dark, Lit, Starting, Timed, Warning, Ending}
+use Rattle.rules.specs.declared.phase.Deadline.the-variants.{At}
 use Rattle.rules.specs.declared.input.Force.{Force}
 use Rattle.rules.specs.declared.input.Force.the-variants.{Free}
 use Rattle.rules.specs.declared.input.Event.{Event}
@@ -21,8 +22,9 @@ use Rattle.rules.specs.declared.state.Link.{Link}
 use Rattle.rules.specs.declared.state.Link.the-variants.{Up, BusDown, PowerDown}
 use Rattle.rules.specs.declared.state.State.{State}
 use Rattle.rules.specs.Scenes.{learnt}
-use Rattle.rules.specs.Phases.{output}
+use Rattle.rules.specs.Phases.{output, ownEnd}
 use Rattle.rules.specs.Orders.{timedStart, off, timedStop, nightFalls, held, order}
+use Rattle.rules.specs.Steps.{clockMove, Quiet}
 
 -- ---- what an order leaves of each field but the phase (01, "What each order does, at t")
 
@@ -164,6 +166,11 @@ pub record EndsAtEarlier (a b : ℕ) (phase : Phase) : Type 0 where
   pub not-after-a : until ≤ a
   pub not-after-b : until ≤ b
   pub one-of-them : (until ≡ a) ⊎ (until ≡ b)
+
+-- when a lit phase goes dark by itself (02, [5]), as the timers run: it is lit until then and dark from then on, or lit for good
+pub record EndsByItself (s : State) : Type 0 where
+  pub until : (t : ℕ) → output (s .phase) ≡ true → Quiet t (ownEnd (s .params) (s .phase)) → output (clockMove s t .state .phase) ≡ true
+  pub after : (t d : ℕ) → ownEnd (s .params) (s .phase) ≡ At d → d ≤ t → clockMove s t .state .phase ≡ Dark
 
 -- "Off: Dark stays; Starting becomes Dark. Lit: Ending until t+OffDelay. Timed with deadline d: Ending until the earlier of t+OffDelay and
 -- d+Prewarning. Warning or Ending: Ending until the earlier of t+OffDelay and d. With OffDelay 0 the result is Dark."

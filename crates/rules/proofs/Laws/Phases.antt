@@ -1,16 +1,27 @@
 -- What the timers and the orders make of a phase that nothing holds: its deadline stays soon, and night leaves no Lit.
-use Prim.Native.Nat.{ℕ, _≤_}
+use Prim.Native.Nat.{ℕ, _+_}
 use mathlib.Core.Bool.{Bool, true, false, _||_}
 use mathlib.Core.Path.{_≡_, refl}
 use native.Mathlib.Omega.{arith}
 use Rattle.rules.specs.declared.parameters.Params.{Params}
 use Rattle.rules.specs.declared.phase.Phase.{Phase}
 use Rattle.rules.specs.declared.phase.Phase.the-variants.{Dark, Lit, Starting, Timed, Warning, Ending}
-use Rattle.rules.specs.Phases.{litAt, atDeadline, setOn}
-use Rattle.rules.specs.Orders.{on, timedStart, off, offAfterDelay, timedStop, nightFalls}
+use Rattle.rules.specs.Phases.{deadline, litAt, atDeadline, ownEnd, setOn}
+use Rattle.rules.specs.Orders.{on, timedStart, off, timedStop, nightFalls}
 use Rattle.rules.specs.Answers.{due}
 use Rattle.base.proofs.Tests.{cond-zero}
 use Rattle.rules.proofs.Laws.Deadlines.{Times, Within}
+use Rattle.rules.proofs.Laws.Ends.{DueFrom, earliest-within, earliest-from, own-end-from, off-case}
+
+-- what holds of each phase holds of every phase
+pub each-phase : (P : Phase → Type 0) → P Dark → P Lit → ((timed : Bool) (d : ℕ) → P (Starting timed d)) → ((d : ℕ) → P (Timed d)) → ((d : ℕ) → P (Warning d)) → ((d : ℕ) → P (Ending d)) →
+    (phase : Phase) → P phase
+each-phase P dark lit starting timed warning ending Dark = dark
+each-phase P dark lit starting timed warning ending Lit = lit
+each-phase P dark lit starting timed warning ending (Starting is-timed d) = starting is-timed d
+each-phase P dark lit starting timed warning ending (Timed d) = timed d
+each-phase P dark lit starting timed warning ending (Warning d) = warning d
+each-phase P dark lit starting timed warning ending (Ending d) = ending d
 
 -- what a sound state asks of its phase where neither lock nor force stands and power is not down
 abbrev pub Unheld : Bool → ℕ → Phase → Type 0
@@ -61,18 +72,19 @@ module _ (p : Params) (n : Times p) where
   timed-start-unheld night t (Warning d) h = omega arith
   timed-start-unheld night t (Ending d) h = omega arith
 
-  off-after-delay-unheld : (night : Bool) (t : ℕ) (phase : Phase) → 1 ≤ p .offdelay → Unheld night t phase → Unheld night t (offAfterDelay p t phase)
-  unfolding offAfterDelay
-  off-after-delay-unheld night t Dark some h = tt
-  off-after-delay-unheld night t (Starting timed d) some h = tt
-  off-after-delay-unheld night t Lit some h = omega arith
-  off-after-delay-unheld night t (Timed d) some h = omega arith
-  off-after-delay-unheld night t (Warning d) some h = omega arith
-  off-after-delay-unheld night t (Ending d) some h = omega arith
+  -- an Off takes the earlier of two moments, and neither is past
+  unheld-from : (night : Bool) (t : ℕ) (phase : Phase) → Unheld night t phase → DueFrom (t + 1) (deadline phase)
+  unheld-from night t Dark h = tt
+  unheld-from night t Lit h = tt
+  unheld-from night t (Starting timed d) h = omega arith
+  unheld-from night t (Timed d) h = omega arith
+  unheld-from night t (Warning d) h = omega arith
+  unheld-from night t (Ending d) h = omega arith
 
   pub off-unheld : (night : Bool) (t : ℕ) (phase : Phase) → Unheld night t phase → Unheld night t (off p t phase)
-  unfolding off
-  off-unheld night t phase h = cond-zero (Unheld night t) (p .offdelay) _ _ tt (λ some. off-after-delay-unheld night t phase some h)
+  off-unheld night t phase h =
+      off-case (Unheld night t) p t phase tt
+      (λ lit some. omega (arith, earliest-within (t + p .offdelay) (ownEnd p phase), earliest-from (t + p .offdelay) (t + 1) (ownEnd p phase) (omega arith) (own-end-from p (t + 1) phase (unheld-from night t phase h))))
 
   pub timed-stop-unheld : (night : Bool) (t : ℕ) (phase : Phase) → Unheld night t phase → Unheld night t (timedStop p t phase)
   unfolding timedStop

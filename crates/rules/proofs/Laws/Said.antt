@@ -1,6 +1,6 @@
 -- What each mode sets, and what Off, timed orders and nightfall make of a phase, in 01's words; and what a noted value changes, in those of 02.
 use Prim.Native.Nat.{ℕ, zero, suc, _+_, _≤_}
-use mathlib.Core.Bool.{Bool, true, false, cond, _&&_}
+use mathlib.Core.Bool.{Bool, true, false, cond, _&&_, and-false}
 use mathlib.Core.List.{[], _∷_}
 use mathlib.Core.Logic.{_⊎_, inl, inr}
 use mathlib.Core.Path.{_≡_, refl, _∙_, ap}
@@ -21,13 +21,13 @@ use Rattle.rules.specs.declared.barrier.Barrier.the-variants.{Notes}
 use Rattle.rules.specs.declared.state.Link.{Link}
 use Rattle.rules.specs.declared.state.Link.the-variants.{Up, BusDown, PowerDown}
 use Rattle.rules.specs.declared.state.State.{State}
-use Rattle.rules.specs.Phases.{output, ownEnd, litAt, setOn}
-use Rattle.rules.specs.Orders.{timedStart, offAfterDelay, off, offOnce, earliestEnd, timedStop, nightFalls, withLock, withLink, held, settle, plain, byMode, locked, unlockingOutput, unlocked, lockDevice, busMode, bus, powerReturns, power, order, noted}
+use Rattle.rules.specs.Phases.{output, litAt, setOn}
+use Rattle.rules.specs.Orders.{timedStart, earliestEnd, off, timedStop, nightFalls, withLock, withLink, held, settle, plain, byMode, locked, unlockingOutput, unlocked, lockDevice, busMode, bus, powerReturns, power, order, noted}
 use Rattle.rules.specs.Barriers.{barrier}
 use Rattle.rules.specs.Said.{NotedWhere, OnlyItsValue, setTo, NothingHolds, ModesSet, runsTimed, EndsAtEarlier, OffOrders, TimedOrders, NightFalls}
 use Rattle.rules.specs.Facts.{ParamsFit}
 use Rattle.base.specs.Time.{earlier}
-use Rattle.base.proofs.Tests.{no, either-way, by-order}
+use Rattle.base.proofs.Tests.{no, by-order}
 use Rattle.rules.proofs.Laws.Facts.{held-exactly-when}
 use Rattle.rules.proofs.Laws.Barriers.{noted-where}
 
@@ -143,34 +143,31 @@ ends-at-earlier a b =
     (λ first. record { until = earlier a b; ending = refl; not-after-a = omega arith; not-after-b = omega arith; one-of-them = inl (omega arith) })
     (λ second. record { until = earlier a b; ending = refl; not-after-a = omega arith; not-after-b = omega arith; one-of-them = inr (omega arith) })
 
+module _ (p : Params) (t : ℕ) (some : p .offdelay ≡ 0 → ⊥) (d : ℕ) where
+  off-timed : EndsAtEarlier (t + p .offdelay) (d + p .prewarning) (off p t (Timed d))
+  unfolding off earliestEnd
+  off-timed = rw (ne-eqb (p .offdelay) 0 some) (ends-at-earlier (t + p .offdelay) (d + p .prewarning))
+
+  off-warning : EndsAtEarlier (t + p .offdelay) d (off p t (Warning d))
+  unfolding off earliestEnd
+  off-warning = rw (ne-eqb (p .offdelay) 0 some) (ends-at-earlier (t + p .offdelay) d)
+
+  off-ending : EndsAtEarlier (t + p .offdelay) d (off p t (Ending d))
+  unfolding off earliestEnd
+  off-ending = rw (ne-eqb (p .offdelay) 0 some) (ends-at-earlier (t + p .offdelay) d)
+
 pub off-orders : (p : Params) (t : ℕ) → OffOrders p t
-unfolding off offAfterDelay
+unfolding off earliestEnd
 off-orders p t =
     record {
-      at-once = λ none phase. rw (eq-eqb (p .offdelay) 0 none);
-      dark = either-way (λ (x : Phase). x ≡ Dark) (eqb (p .offdelay) 0) _ _ refl refl;
-      starting = λ timed d. either-way (λ (x : Phase). x ≡ Dark) (eqb (p .offdelay) 0) _ _ refl refl;
+      at-once = λ none phase. rw (eq-eqb (p .offdelay) 0 none, and-false (output phase));
+      dark = refl;
+      starting = λ timed d. refl;
       lit = λ some. rw (ne-eqb (p .offdelay) 0 some);
-      timed = λ some d. rw (ne-eqb (p .offdelay) 0 some) (ends-at-earlier (t + p .offdelay) (d + p .prewarning));
-      warning = λ some d. rw (ne-eqb (p .offdelay) 0 some) (ends-at-earlier (t + p .offdelay) d);
-      ending = λ some d. rw (ne-eqb (p .offdelay) 0 some) (ends-at-earlier (t + p .offdelay) d);
+      timed = off-timed p t;
+      warning = off-warning p t;
+      ending = off-ending p t;
     }
-
--- 02, [5]: "No answer changes.": Off said once is Off as it was spelled out, phase by phase
-pub said-once : (p : Params) (t : ℕ) (phase : Phase) → offOnce p t phase ≡ off p t phase
-said-once p t phase = by phase (eqb (p .offdelay) 0) refl
-  where
-    by : (phase : Phase) (none : Bool) → eqb (p .offdelay) 0 ≡ none → offOnce p t phase ≡ off p t phase
-    by Dark none e = unfold off offAfterDelay offOnce in either-way (λ (x : Phase). Dark ≡ x) (eqb (p .offdelay) 0) Dark Dark refl refl
-    by (Starting timed d) none e = unfold off offAfterDelay offOnce in either-way (λ (x : Phase). Dark ≡ x) (eqb (p .offdelay) 0) Dark Dark refl refl
-    by Lit true e = unfold off offAfterDelay offOnce earliestEnd ownEnd in rw e
-    by Lit false e = unfold off offAfterDelay offOnce earliestEnd ownEnd in rw e
-    by (Timed d) true e = unfold off offAfterDelay offOnce earliestEnd ownEnd in rw e
-    by (Timed d) false e = unfold off offAfterDelay offOnce earliestEnd ownEnd in rw e
-    by (Warning d) true e = unfold off offAfterDelay offOnce earliestEnd ownEnd in rw e
-    by (Warning d) false e = unfold off offAfterDelay offOnce earliestEnd ownEnd in rw e
-    by (Ending d) true e = unfold off offAfterDelay offOnce earliestEnd ownEnd in rw e
-    by (Ending d) false e = unfold off offAfterDelay offOnce earliestEnd ownEnd in rw e
 
 pub night-falls : (p : Params) (t : ℕ) → NightFalls p t
 unfolding nightFalls

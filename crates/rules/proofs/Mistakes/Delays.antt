@@ -6,8 +6,7 @@ use mathlib.Core.Bool.{Bool, true, false}
 use mathlib.Core.Path.{_≡_, refl, sym, ap, subst, _∙_}
 use mathlib.Core.List.{List, [], _∷_, _++_, append-assoc}
 use native.Mathlib.Omega.{arith}
-use lib.Dec.{eqb}
-use borrow.Author.Tests.{le-leb, ne-eqb}
+use borrow.Author.Tests.{ne-eqb}
 use Rattle.rules.specs.declared.parameters.Params.{Params}
 use Rattle.rules.specs.declared.parameters.Scene.{Scene}
 use Rattle.rules.specs.declared.parameters.Recalled.{Recalled}
@@ -23,10 +22,9 @@ use Rattle.rules.specs.declared.state.Link.{Link}
 use Rattle.rules.specs.declared.state.Link.the-variants.{Up, BusDown, PowerDown}
 use Rattle.rules.specs.declared.state.State.{State}
 use Rattle.rules.specs.declared.barrier.Barrier.the-variants.{Open, Notes}
-use Rattle.base.specs.Time.{earlier}
 use Rattle.rules.specs.Scenes.{recalled, learnt}
-use Rattle.rules.specs.Phases.{output, deadline, atDeadline}
-use Rattle.rules.specs.Orders.{offAfterDelay, off, timedStop, nightFalls, withPhase, withNight, withScenes, standing, held, switch, timed, recall, learn, scene, nightMode, forced, lockDevice, bus, power, order}
+use Rattle.rules.specs.Phases.{output, deadline, atDeadline, ownEnd}
+use Rattle.rules.specs.Orders.{earliestEnd, off, timedStop, nightFalls, withPhase, withNight, withScenes, standing, held, switch, timed, recall, learn, scene, nightMode, forced, lockDevice, bus, power, order}
 use Rattle.rules.specs.Barriers.{row, rows, rowOf, setsValue, firstBarrier, outranked, orNoted, barrierTo, barrier}
 use Rattle.rules.specs.Said.{NotedWhere}
 use Rattle.rules.specs.Steps.{fresh, atMoment, tickAt, tick, ticked, clockMove, step, Quiet}
@@ -35,6 +33,7 @@ use Rattle.rules.specs.Promises.{Rises, turn, turns, Each, stateAt, Take
 use Rattle.rules.specs.Mistakes.{LeavesNoTrace, asksFor, stirs, OffIsHeard, AskingAgainIsIdle}
 use Rattle.base.proofs.Tests.{no, cond-case, either-way}
 use Rattle.rules.proofs.Laws.Steps.{tick-case, three-are-enough}
+use Rattle.rules.proofs.Laws.Ends.{ComesBy, earliest-within, earliest-by, ends-by-itself, off-case}
 use Rattle.rules.proofs.Laws.Barriers.{noted-where, noted-is-held}
 use Rattle.rules.proofs.Laws.Soundness.{move-clock, move-params, step-case, taken-is-the-order, step-params}
 use Rattle.rules.proofs.Laws.Lists.{plays-append, plays-keep-params}
@@ -42,40 +41,6 @@ use Rattle.rules.proofs.Laws.Moments.{at-case, at-the-end, rises-from, 
 use Rattle.rules.proofs.Mistakes.Rank.{unchanged-leaves-no-trace, no-trace-may-be-struck}
 
 -- ---- Off, of a phase
-
--- left to itself, the phase is dark from m on (a phase that still waits for its light is left out)
-abbrev pub DarkBy : Params → ℕ → Phase → Type 0
-DarkBy p m Dark = Unit
-DarkBy p m Lit = ⊥
-DarkBy p m (Starting timed d) = ⊥
-DarkBy p m (Timed d) = d + p .prewarning ≤ m
-DarkBy p m (Warning d) = d ≤ m
-DarkBy p m (Ending d) = d ≤ m
-
--- the timers bear that out
-by-the-timers : (s : State) (c m : ℕ) (phase : Phase) (none : Bool) → eqb (s .params .prewarning) 0 ≡ none → DarkBy (s .params) m phase → clockMove (atMoment s c phase) m .state .phase ≡ Dark
-unfolding clockMove ticked tick tickAt atDeadline
-by-the-timers s c m Dark none e h = refl
-by-the-timers s c m (Timed d) true e h = simp (le-leb d m (omega arith), e)
-by-the-timers s c m (Timed d) false e h = simp (le-leb d m (omega arith), e, le-leb (d + s .params .prewarning) m h)
-by-the-timers s c m (Warning d) none e h = rw (le-leb d m h)
-by-the-timers s c m (Ending d) none e h = rw (le-leb d m h)
-
-pub dark-by-the-timers : (s : State) (m : ℕ) → DarkBy (s .params) m (s .phase) → clockMove s m .state .phase ≡ Dark
-dark-by-the-timers s m h = by-the-timers s (s .clock) m (s .phase) (eqb (s .params .prewarning) 0) refl h
-
--- an Off takes the earlier of two moments, and the moment of dark is one of them
-after-delay-is-never-later : (p : Params) (t m : ℕ) (phase : Phase) → DarkBy p m phase → DarkBy p m (offAfterDelay p t phase)
-unfolding offAfterDelay
-after-delay-is-never-later p t m Dark h = tt
-after-delay-is-never-later p t m (Timed d) h = omega arith
-after-delay-is-never-later p t m (Warning d) h = omega arith
-after-delay-is-never-later p t m (Ending d) h = omega arith
-
--- 01, "Slips we have seen": "Off with a long delay that keeps a timed lamp lit beyond its own end."
-pub off-is-never-later : (p : Params) (t m : ℕ) (phase : Phase) → DarkBy p m phase → DarkBy p m (off p t phase)
-unfolding off
-off-is-never-later p t m phase h = either-way (DarkBy p m) (eqb (p .offdelay) 0) Dark (offAfterDelay p t phase) tt (after-delay-is-never-later p t m phase h)
 
 -- what an Off leaves, and what further inputs keep as long as nothing stirs: Dark, or Ending that is over by m
 abbrev Fades : ℕ → Phase → Type 0
@@ -86,27 +51,18 @@ Fades m (Timed d) = ⊥
 Fades m (Warning d) = ⊥
 Fades m (Ending d) = d ≤ m
 
-fading-is-dark-by : (p : Params) (m u : ℕ) (phase : Phase) → m ≤ u → Fades m phase → DarkBy p u phase
-fading-is-dark-by p m u Dark later h = tt
-fading-is-dark-by p m u (Ending d) later h = omega arith
+-- 01, "Slips we have seen": "Off with a long delay that keeps a timed lamp lit beyond its own end."
+pub off-is-never-later : (p : Params) (t m : ℕ) (phase : Phase) → ComesBy m (ownEnd p phase) → Fades m (off p t phase)
+off-is-never-later p t m phase h = off-case (Fades m) p t phase tt (λ lit some. earliest-by _ m (ownEnd p phase) h)
 
 -- an Off is heard within its delay
 off-within-its-delay : (p : Params) (t : ℕ) (phase : Phase) → Fades (t + p .offdelay) (off p t phase)
-unfolding off
-off-within-its-delay p t phase = either-way (Fades (t + p .offdelay)) (eqb (p .offdelay) 0) Dark (offAfterDelay p t phase) tt (delayed phase)
-  where
-    delayed : (phase : Phase) → Fades (t + p .offdelay) (offAfterDelay p t phase)
-    delayed Dark = unfold offAfterDelay in tt
-    delayed Lit = unfold offAfterDelay in omega arith
-    delayed (Starting timed d) = unfold offAfterDelay in tt
-    delayed (Timed d) = unfold offAfterDelay in omega arith
-    delayed (Warning d) = unfold offAfterDelay in omega arith
-    delayed (Ending d) = unfold offAfterDelay in omega arith
+off-within-its-delay p t phase = off-case (Fades (t + p .offdelay)) p t phase tt (λ lit some. earliest-within _ (ownEnd p phase))
 
 -- a later Off finds nothing to change: its own moment is never the earlier one
 repeated-off-changes-nothing : (p : Params) (m u : ℕ) (phase : Phase) → m ≤ u + p .offdelay → Fades m phase → Quiet u (deadline phase) → off p u phase ≡ phase
-unfolding off offAfterDelay
-repeated-off-changes-nothing p m u Dark later h quiet = either-way (λ (x : Phase). x ≡ Dark) (eqb (p .offdelay) 0) Dark Dark refl refl
+unfolding off earliestEnd
+repeated-off-changes-nothing p m u Dark later h quiet = refl
 repeated-off-changes-nothing p m u (Ending d) later h quiet = rw (ne-eqb (p .offdelay) 0 (λ none. omega arith)) (ap Ending (omega arith))
 
 -- the timers and the orders that do not stir keep it so
@@ -117,9 +73,8 @@ timer-fades p night m Dark h = tt
 timer-fades p night m (Ending d) h = tt
 
 off-fades : (p : Params) (t m : ℕ) (phase : Phase) → Fades m phase → Fades m (off p t phase)
-unfolding off offAfterDelay
-off-fades p t m Dark h = either-way (Fades m) (eqb (p .offdelay) 0) Dark Dark tt tt
-off-fades p t m (Ending d) h = either-way (Fades m) (eqb (p .offdelay) 0) Dark (Ending (earlier (t + p .offdelay) d)) tt (omega arith)
+off-fades p t m Dark h = unfold off in tt
+off-fades p t m (Ending d) h = off-is-never-later p t m (Ending d) (h)
 
 timed-stop-fades : (p : Params) (t m : ℕ) (phase : Phase) → Fades m phase → Fades m (timedStop p t phase)
 unfolding timedStop
@@ -153,8 +108,13 @@ move-heard : (s : State) (t m : ℕ) → Heard m s → Heard m (clockMove s t .s
 unfolding clockMove ticked
 move-heard s t m h = at-heard _ t m (tick-heard _ t m (tick-heard _ t m (tick-heard s t m h)))
 
+fading-is-dark : (s : State) (m u : ℕ) (phase : Phase) → m ≤ u → Fades m phase → clockMove (atMoment s (s .clock) phase) u .state .phase ≡ Dark
+unfolding clockMove ticked tick tickAt
+fading-is-dark s m u Dark later h = refl
+fading-is-dark s m u (Ending d) later h = ends-by-itself (atMoment s (s .clock) (Ending d)) .after u d (refl) (omega arith)
+
 heard-is-dark : (s : State) (m u : ℕ) → m ≤ u → Heard m s → output (clockMove s u .state .phase) ≡ false
-heard-is-dark s m u later h = ap output (dark-by-the-timers s u (fading-is-dark-by (s .params) m u (s .phase) later (h .fades)))
+heard-is-dark s m u later h = ap output (fading-is-dark s m u (s .phase) later (h .fades))
 
 -- every order that does not stir keeps it so
 module _ (s : State) (m : ℕ) (h : Heard m s) where

@@ -27,13 +27,14 @@ use Rattle.rules.specs.declared.barrier.Barrier.{Barrier}
 use Rattle.rules.specs.declared.barrier.Barrier.the-variants.{Open, Notes, Stopped}
 use Rattle.rules.specs.Scenes.{recalled, learnt}
 use Rattle.rules.specs.Phases.{output, deadline, litAt, setOn}
-use Rattle.rules.specs.Orders.{on, timedStart, offAfterDelay, off, timedStop, nightFalls, withPhase, withNight, withForce, withLink, withLock, withScenes, standing, held, settle, plain, byMode, switch, timed, recall, learn, scene, nightMode, forced, locked, unlockingOutput, unlocked, lockDevice, busMode, bus, powerFails, powerReturns, power, order, noted}
+use Rattle.rules.specs.Orders.{on, timedStart, off, timedStop, nightFalls, withPhase, withNight, withForce, withLink, withLock, withScenes, standing, held, settle, plain, byMode, switch, timed, recall, learn, scene, nightMode, forced, locked, unlockingOutput, unlocked, lockDevice, busMode, bus, powerFails, powerReturns, power, order, noted}
 use Rattle.rules.specs.Barriers.{barrier}
 use Rattle.rules.specs.Steps.{fresh, atMoment, Moved, clockMove, step, Quiet}
 use Rattle.rules.specs.Lists.{Cue, cue, plays}
 use Rattle.rules.specs.Promises.{Rises, Turn, turn, turns, Each, stateAt, Taken, recallsOn, lights, NotBefore, ShowsLight}
 use Rattle.rules.specs.Mistakes.{LeavesNoTrace, asksFor, OnIsIdleWhileItWaits, OnIsNeverLater}
-use Rattle.base.proofs.Tests.{no, cond-case, either-way, by-order}
+use Rattle.base.proofs.Codes.{failed}
+use Rattle.base.proofs.Tests.{no, cond-case, by-order}
 use Rattle.rules.proofs.Laws.Orders.{noted-both}
 use Rattle.rules.proofs.Laws.Soundness.{taken-is-the-order, noted-is-the-note, step-clock, step-params}
 use Rattle.rules.proofs.Laws.Timers.{no-timer-due-no-move}
@@ -100,13 +101,8 @@ module _ (unstopped : Bool) (d : ℕ) (timed : Bool) where
 
 -- an Off leaves it Dark at once
 off-in-the-dark : (p : Params) (t : ℕ) (phase : Phase) → output phase ≡ false → off p t phase ≡ Dark
-unfolding off offAfterDelay
-off-in-the-dark p t Dark dark = either-way (λ (x : Phase). x ≡ Dark) (eqb (p .offdelay) 0) Dark Dark refl refl
-off-in-the-dark p t (Starting timed d) dark = either-way (λ (x : Phase). x ≡ Dark) (eqb (p .offdelay) 0) Dark Dark refl refl
-off-in-the-dark p t Lit dark = no (sym dark)
-off-in-the-dark p t (Timed d) dark = no (sym dark)
-off-in-the-dark p t (Warning d) dark = no (sym dark)
-off-in-the-dark p t (Ending d) dark = no (sym dark)
+unfolding off
+off-in-the-dark p t phase dark = rw dark
 
 -- a timed stop spares a steady wait
 steady-stop-behind : (unstopped : Bool) (p : Params) (t d : ℕ) (phase : Phase) → Behind unstopped d false phase → Behind unstopped d false (timedStop p t phase)
@@ -180,10 +176,6 @@ module _ (unstopped : Bool) (d : ℕ) (s : State) (is-timed : Bool) (phase : Pha
         })
     timed-follows false unless = by is-timed waits behind
       where
-        stops : (b : Bool) → (b ≡ true → ⊥) → b ≡ false
-        stops true never = absurd (never refl)
-        stops false never = refl
-
         by : (b : Bool) → s .phase ≡ Starting b d → Behind unstopped d b phase →
             Follows unstopped d (withPhase s (timedStop (s .params) (s .clock) (s .phase))) (withPhase s (timedStop (s .params) (s .clock) phase))
         by false e h =
@@ -196,7 +188,7 @@ module _ (unstopped : Bool) (d : ℕ) (s : State) (is-timed : Bool) (phase : Pha
             })
         by true e h =
             inr (ap (withPhase s)
-            (timed-stop-behind unstopped (s .params) (s .clock) d phase (stops unstopped (λ so. unless so refl)) h
+            (timed-stop-behind unstopped (s .params) (s .clock) d phase (failed unstopped (λ so. unless so refl)) h
             ∙ sym (rw e (timed-stop-behind false (s .params) (s .clock) d (Starting true d) refl (omega arith, λ _ _. refl)))))
 
     recall-follows : (found : Recalled) → Follows unstopped d (recall s found) (recall (withPhase s phase) found)

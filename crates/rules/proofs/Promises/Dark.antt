@@ -7,7 +7,6 @@ use native.Mathlib.Omega.{arith}
 use Rattle.rules.specs.declared.parameters.Params.{Params}
 use Rattle.rules.specs.declared.parameters.Scene.{Scene}
 use Rattle.rules.specs.declared.phase.Phase.{Phase}
-use Rattle.rules.specs.declared.phase.Phase.the-variants.{Dark, Lit, Starting, Timed, Warning, Ending}
 use Rattle.rules.specs.declared.input.Input.{Input}
 use Rattle.rules.specs.declared.state.State.{State}
 use Rattle.rules.specs.Phases.{output, deadline}
@@ -16,7 +15,9 @@ use Rattle.rules.specs.Steps.{fresh, ticked, clockMove, step, Quiet}
 use Rattle.rules.specs.Lists.{Cue, cue}
 use Rattle.rules.specs.Promises.{Rises, turn, turns, Each, stateAt, lights, busOn, longestLight, NightRules, LeavesNight, DarkPromise}
 use Rattle.base.proofs.Tests.{no}
-use Rattle.rules.proofs.Promises.Lasting.{OverBy}
+use Rattle.base.proofs.Codes.{failed}
+use Rattle.rules.proofs.Laws.Ends.{still-ahead}
+use Rattle.rules.proofs.Promises.Lasting.{OverBy, over-ends}
 use Rattle.rules.proofs.Laws.Steps.{three-are-enough}
 use Rattle.rules.proofs.Laws.Soundness.{move-keeps, step-params}
 use Rattle.rules.proofs.Promises.Prolonging.{Over, move-over, Prolongs, lighting, busIsOn, byDay, fromLock, fromForce, fromPowerDown, step-over}
@@ -44,12 +45,7 @@ night-prolongs-nothing s i n unlit keeps (fromPowerDown e) = no (sym (n .powered
 
 -- light that is over by t, with no timer due at t any more, is off
 over-is-off : (p : Params) (ruled : Bool) (t : ℕ) (phase : Phase) → ruled ≡ true → OverBy p ruled t phase → Quiet t (deadline phase) → output phase ≡ false
-over-is-off p ruled t Dark night h quiet = refl
-over-is-off p ruled t Lit night h quiet = sym night ∙ h
-over-is-off p ruled t (Starting timed d) night h quiet = refl
-over-is-off p ruled t (Timed d) night h quiet = absurd (omega arith)
-over-is-off p ruled t (Warning d) night h quiet = absurd (omega arith)
-over-is-off p ruled t (Ending d) night h quiet = absurd (omega (arith, h night))
+over-is-off p ruled t phase night h quiet = failed (output phase) (λ lit. still-ahead p t phase quiet (over-ends p ruled t phase night lit h))
 
 night-rules : (s : State) → NightRules s → (s .night && not (held s)) ≡ true
 unfolding held

@@ -8,20 +8,31 @@ use lib.Dec.{eqb}
 use Rattle.rules.specs.declared.parameters.Params.{Params}
 use Rattle.rules.specs.declared.phase.Phase.{Phase}
 use Rattle.rules.specs.declared.phase.Phase.the-variants.{Dark, Lit, Starting, Timed, Warning, Ending}
-use Rattle.rules.specs.Phases.{litAt, atDeadline, setOn}
-use Rattle.rules.specs.Orders.{on, timedStart, offAfterDelay, off, timedStop, nightFalls}
+use Rattle.rules.specs.Phases.{output, litAt, atDeadline, ownEnd, setOn}
+use Rattle.rules.specs.Orders.{on, timedStart, off, timedStop, nightFalls}
 use Rattle.rules.specs.Promises.{longestLight}
 use Rattle.base.proofs.Tests.{no, either-way}
+use Rattle.rules.proofs.Laws.Ends.{ComesBy, earliest-by, off-case}
 
 module _ (p : Params) where
-  -- left to itself, the light of a phase is over by m where night rules; where it does not, Lit and Ending may last
+  -- left to itself, the light of a phase is over by m where night rules; where it does not, Lit and Ending may last. Light that is awaited
+  -- is taken to be timed.
   abbrev pub OverBy : Bool → ℕ → Phase → Type 0
   OverBy ruled m Dark = Unit
   OverBy ruled m Lit = ruled ≡ false
-  OverBy ruled m (Starting timed d) = d + p .timedon + p .prewarning ≤ m
-  OverBy ruled m (Timed d) = d + p .prewarning ≤ m
-  OverBy ruled m (Warning d) = d ≤ m
-  OverBy ruled m (Ending d) = ruled ≡ true → d ≤ m
+  OverBy ruled m (Starting timed d) = ComesBy m (ownEnd p (Timed (d + p .timedon)))
+  OverBy ruled m (Timed d) = ComesBy m (ownEnd p (Timed d))
+  OverBy ruled m (Warning d) = ComesBy m (ownEnd p (Warning d))
+  OverBy ruled m (Ending d) = ruled ≡ true → ComesBy m (ownEnd p (Ending d))
+
+  -- where night rules, light has an own end by then
+  pub over-ends : (ruled : Bool) (m : ℕ) (phase : Phase) → ruled ≡ true → output phase ≡ true → OverBy ruled m phase → ComesBy m (ownEnd p phase)
+  over-ends ruled m Dark night lit h = no lit
+  over-ends ruled m Lit night lit h = no (sym h ∙ night)
+  over-ends ruled m (Starting timed d) night lit h = no lit
+  over-ends ruled m (Timed d) night lit h = h
+  over-ends ruled m (Warning d) night lit h = h
+  over-ends ruled m (Ending d) night lit h = h night
 
   -- steady light comes on only where night does not rule
   lit-over : (ruled timed : Bool) (t m : ℕ) → (timed ≡ false → ruled ≡ false) → t + p .timedon + p .prewarning ≤ m → OverBy ruled m (litAt p timed t)
@@ -42,16 +53,7 @@ module _ (p : Params) where
 
   -- an Off takes the earlier of two moments
   pub off-over : (ruled : Bool) (t m : ℕ) (phase : Phase) → OverBy ruled m phase → OverBy ruled m (off p t phase)
-  unfolding off
-  off-over ruled t m phase h = either-way (OverBy ruled m) (eqb (p .offdelay) 0) Dark (offAfterDelay p t phase) tt (delayed phase h)
-    where
-      delayed : (phase : Phase) → OverBy ruled m phase → OverBy ruled m (offAfterDelay p t phase)
-      delayed Dark h = unfold offAfterDelay in tt
-      delayed Lit h = unfold offAfterDelay in λ night. no (sym h ∙ night)
-      delayed (Starting timed d) h = unfold offAfterDelay in tt
-      delayed (Timed d) h = unfold offAfterDelay in λ night. omega arith
-      delayed (Warning d) h = unfold offAfterDelay in λ night. omega arith
-      delayed (Ending d) h = unfold offAfterDelay in λ night. omega (arith, h night)
+  off-over ruled t m phase h = off-case (OverBy ruled m) p t phase tt (λ lit some night. earliest-by _ m (ownEnd p phase) (over-ends ruled m phase night lit h))
 
   pub timed-stop-over : (ruled : Bool) (t m : ℕ) (phase : Phase) → OverBy ruled m phase → OverBy ruled m (timedStop p t phase)
   unfolding timedStop

@@ -27,24 +27,20 @@ use Rattle.rules.specs.declared.barrier.Barrier.the-variants.{Open, Note
 use Rattle.rules.specs.declared.record.Record.{Record}
 use Rattle.rules.specs.Inputs.{kind}
 use Rattle.rules.specs.Scenes.{recalled}
-use Rattle.rules.specs.Phases.{output, deadline, litAt, atDeadline, setOn}
-use Rattle.rules.specs.Orders.{on, timedStart, offAfterDelay, off, timedStop, nightFalls, plain, withForce, withLink, withLock, standing, held, settle, byMode, switch, timed, recall, learn, scene, nightMode, forced, locked, unlocked, lockDevice, busMode, bus, powerFails, powerReturns, power, order}
+use Rattle.rules.specs.Phases.{output, deadline, litAt, atDeadline, ownEnd, setOn}
+use Rattle.rules.specs.Orders.{on, timedStart, off, timedStop, nightFalls, plain, withForce, withLink, withLock, standing, held, settle, byMode, switch, timed, recall, learn, scene, nightMode, forced, locked, unlocked, lockDevice, busMode, bus, powerFails, powerReturns, power, order}
 use Rattle.rules.specs.Status.{recordOf, byItself, sameStatus, written}
 use Rattle.rules.specs.Steps.{Moved, ticked, clockMove, counted, meet, act, step, Quiet, fired, Moves, rest, fire}
 use Rattle.rules.specs.Lists.{Cue, cue, plays, playsTo}
 use Rattle.rules.specs.Promises.{Rises}
 use Rattle.base.proofs.Tests.{cond-zero, either-way}
 use Rattle.rules.proofs.Laws.Steps.{three-are-enough}
+use Rattle.rules.proofs.Laws.Ends.{DueFrom, earliest-from, own-end-from, off-case}
 use Rattle.rules.proofs.Laws.Soundness.{move-clock, move-params, step-phase-case, step-clock}
 use Rattle.rules.proofs.Laws.Timers.{alike-writes-nothing, clock-moves}
 use Rattle.rules.proofs.Laws.Lists.{plays-to-next}
 
 -- ---- deadlines
-
--- no timer is due before t
-abbrev pub DueFrom : ℕ → Deadline → Type 0
-DueFrom t Never = Unit {0}
-DueFrom t (At d) = t ≤ d
 
 due-from-earlier : (t u : ℕ) (x : Deadline) → t ≤ u → DueFrom u x → DueFrom t x
 due-from-earlier t u Never earlier h = tt
@@ -101,18 +97,8 @@ module _ (p : Params) (t f : ℕ) (near : f ≤ t + 1) (by-timed-on : f ≤ t + 
   timed-start-ahead (Warning d) h = by-timed-on
   timed-start-ahead (Ending d) h = by-timed-on
 
-  off-after-delay-ahead : (phase : Phase) → 1 ≤ p .offdelay → Ahead f phase → Ahead f (offAfterDelay p t phase)
-  unfolding offAfterDelay
-  off-after-delay-ahead Dark some h = tt
-  off-after-delay-ahead Lit some h = omega (arith, near)
-  off-after-delay-ahead (Starting timed d) some h = tt
-  off-after-delay-ahead (Timed d) some h = omega (arith, near)
-  off-after-delay-ahead (Warning d) some h = omega (arith, near)
-  off-after-delay-ahead (Ending d) some h = omega (arith, near)
-
   off-ahead : (phase : Phase) → Ahead f phase → Ahead f (off p t phase)
-  unfolding off
-  off-ahead phase h = cond-zero (Ahead f) (p .offdelay) _ _ tt (λ some. off-after-delay-ahead phase some h)
+  off-ahead phase h = off-case (Ahead f) p t phase tt (λ lit some. earliest-from _ f (ownEnd p phase) (omega (arith, near)) (own-end-from p f phase h))
 
   timed-stop-ahead : (phase : Phase) → Ahead f phase → Ahead f (timedStop p t phase)
   unfolding timedStop
