@@ -380,7 +380,7 @@ uint64_t house_wall_run(const uint8_t *wall, size_t wall_len, uint8_t *records, 
  *     46 the output remembered at power failure (0 off, 1 on)
  *     47 phase (enum house_phase)
  *     48-51 clock, a stamp
- *     52-55 the moment at which the phase ends by itself; 0 in HOUSE_DARK and HOUSE_LIT, which do not
+ *     52-55 the moment at which the phase becomes another by itself; 0 in HOUSE_DARK and HOUSE_LIT, which do not
  *
  * Octets that are no image of a sound state are refused with HOUSE_UNSOUND_STATE wherever a state is handed in: a wrong length, an octet
  * without meaning, parameters out of range for the version, or a state that no actuator can be in.

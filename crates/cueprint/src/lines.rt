@@ -76,7 +76,7 @@ pub fn print_records(k: [Record; 3], n: u8) {
     }
 }
 
-// P: clock, number of the phase as in an image, the stamp at which it ends by itself, 0 where it does not; only where it is asked for.
+// P: clock, number of the phase as in an image, its deadline, 0 where it has none; only where it is asked for.
 pub fn print_phase(s: State, wanted: bool) {
     let phase = s.phase;
     if wanted {

@@ -48,7 +48,7 @@ due (Timed d) = d
 due (Warning d) = d
 due (Ending d) = d
 
--- the phase of this number that ends then, if it ends by itself (proofs/Laws/Answers.antt, `phase-back`)
+-- the phase of this number with this deadline, if it has one (proofs/Laws/Answers.antt, `phase-back`)
 unfoldable pub phaseOf : ℕ → ℕ → Phase
 phaseOf n d =
     cond (eqb n 0) Dark

@@ -1,4 +1,4 @@
-// The phases of the output. A phase that ends by itself carries the moment at which it does, its deadline.
+// The phases of the output. A phase that becomes another by itself carries the moment at which it does, its deadline.
 pub enum Phase {
     Dark,
     Lit,
