@@ -1,7 +1,7 @@
 // Which input counts: the barriers of each kind as one table, and the first that an input meets.
 ghost use mathlib.Core.Path.{_≡_};
 ghost use Prim.Native.Nat.{_≤_};
-ghost use Rattle.rules.specs.Barriers.{rowOf, setsValue, firstBarrier, outranked, barrierTo};
+ghost use Rattle.rules.specs.Barriers.{rowOf, setsValue, outranked, barrierTo};
 use base::logic::both;
 use lamps::flags::bus_is_down;
 use lamps::flags::power_is_down;
@@ -78,60 +78,37 @@ fn sets_value(kind: u8) -> bool
     }
 }
 
-// The first of a row's barriers that stands.
-fn first_barrier(row: Row, link: Link, lock: bool, force: Force) -> Barrier
-    ensures { λ r. ⌜ r ≡ firstBarrier row link lock force ⌝ }
+// What lock and force do to an input that they outrank: a value is noted.
+fn outranked(kind: u8, why: Why) -> Barrier
+    ensures { λ r. ⌜ r ≡ outranked (setsValue kind) why ⌝ }
 {
+    if sets_value(kind) {
+        Barrier::Notes
+    } else {
+        Barrier::Stopped(why)
+    }
+}
+
+// What an input of a kind meets: the first barrier of its row that stands. Whether it sets a value is asked last, so that an input that
+// nothing stops does not pay for it.
+pub fn barrier_to(l: Lamp, kind: u8) -> Barrier
+    requires { ⌜ (1 ≤ kind) × (kind ≤ 8) ⌝ }
+    ensures { λ r. ⌜ r ≡ barrierTo kind (l .link) (l .lock) (l .force) ⌝ }
+{
+    let row = row_of(kind);
+    let link = l.link;
+    let force = l.force;
     if both(row.power, power_is_down(link)) {
         return Barrier::Stopped(Why::NoPower);
     }
     if both(row.bus, bus_is_down(link)) {
         return Barrier::Stopped(Why::NoBus);
     }
-    if both(row.lock, lock) {
-        return Barrier::Stopped(Why::Locked);
+    if both(row.lock, l.lock) {
+        return outranked(kind, Why::Locked);
     }
     if both(row.force, stands(force)) {
-        return Barrier::Stopped(Why::Forced);
+        return outranked(kind, Why::Forced);
     }
     Barrier::Open
-}
-
-// What a barrier does to an input that it stops: lock and force note a value.
-fn outranked(kind: u8, why: Why) -> Barrier
-    ensures { λ r. ⌜ r ≡ outranked (setsValue kind) why ⌝ }
-{
-    match why {
-        Why::NoPower => Barrier::Stopped(Why::NoPower),
-        Why::NoBus => Barrier::Stopped(Why::NoBus),
-        Why::Locked => {
-            if sets_value(kind) {
-                Barrier::Notes
-            } else {
-                Barrier::Stopped(Why::Locked)
-            }
-        }
-        Why::Forced => {
-            if sets_value(kind) {
-                Barrier::Notes
-            } else {
-                Barrier::Stopped(Why::Forced)
-            }
-        }
-    }
-}
-
-// What an input of a kind meets. Whether it sets a value is asked last, so that an input that nothing stops does not pay for it.
-pub fn barrier_to(l: Lamp, kind: u8) -> Barrier
-    requires { ⌜ (1 ≤ kind) × (kind ≤ 8) ⌝ }
-    ensures { λ r. ⌜ r ≡ barrierTo kind (l .link) (l .lock) (l .force) ⌝ }
-{
-    let link = l.link;
-    let force = l.force;
-    let first = first_barrier(row_of(kind), link, l.lock, force);
-    match first {
-        Barrier::Open => Barrier::Open,
-        Barrier::Notes => Barrier::Notes,
-        Barrier::Stopped(why) => outranked(kind, why),
-    }
 }

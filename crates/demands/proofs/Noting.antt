@@ -17,7 +17,7 @@ use Rattle.rules.specs.declared.state.Link.the-variants.{Up, BusDown, PowerDown
 use Rattle.rules.specs.declared.state.State.{State}
 use Rattle.rules.specs.Phases.{output, litAt, setOn}
 use Rattle.rules.specs.Orders.{withForce, withLock, standing, held, settle, forced, unlockingOutput, unlocked, lockDevice, order, noted}
-use Rattle.rules.specs.Barriers.{rows, rowOf, powerDown, firstBarrier, orNoted, barrierTo, barrier}
+use Rattle.rules.specs.Barriers.{rows, rowOf, powerDown, firstBarrier, barrierTo, barrier}
 use Rattle.rules.specs.Status.{value, staircase, bit, attributes}
 use Rattle.rules.specs.Steps.{fresh, clockMove, step}
 use Rattle.rules.specs.Lists.{Cue, cue, Played, plays}
@@ -143,7 +143,7 @@ module _ (s : State) (night : s .night ≡ true) (unlocked : s .lock ≡ false) 
 
 -- the release of a standing force: with no lock it is taken
 release-is-open : (s : State) → Forced s → barrier s (SwitchOnOffForced Free) ≡ Open
-unfolding barrier barrierTo firstBarrier rowOf rows orNoted
+unfolding barrier barrierTo firstBarrier rowOf rows
 release-is-open s m = rw (m .linked, m .unlocked) refl
 
 released-is-dark : (s : State) → s .night ≡ true → Forced s → (v : ℕ) → s .clock + s .params .timedon + s .params .prewarning ≤ v →
@@ -153,7 +153,7 @@ released-is-dark s night m v late = rw (m .stands) (settled-is-dark (withForce s
 
 -- the unlock with no force: nothing but power and bus can stop it
 unlock-is-open : (s : State) → Locked s → barrier s (LockDevice false) ≡ Open
-unfolding barrier barrierTo firstBarrier rowOf rows orNoted
+unfolding barrier barrierTo firstBarrier rowOf rows
 unlock-is-open s m = rw (m .linked) refl
 
 unlocked-is-dark : (s : State) → s .night ≡ true → Locked s → (v : ℕ) → s .clock + s .params .timedon + s .params .prewarning ≤ v →

@@ -57,13 +57,10 @@ pub fn deadline_of(phase: Phase) -> Deadline
 pub fn due_at(phase: Phase) -> u32
     ensures { λ r. ⌜ r ≡ due phase ⌝ }
 {
-    match phase {
-        Phase::Dark => 0,
-        Phase::Lit => 0,
-        Phase::Starting(_, deadline) => deadline,
-        Phase::Timed(d) => d,
-        Phase::Warning(d) => d,
-        Phase::Ending(d) => d,
+    let deadline = deadline_of(phase);
+    match deadline {
+        Deadline::Never => 0,
+        Deadline::At(d) => d,
     }
 }
 

@@ -6,6 +6,8 @@ use lib.Dec.{eqb}
 use Rattle.rules.specs.declared.parameters.Scene.{Scene}
 use Rattle.rules.specs.declared.phase.Phase.{Phase}
 use Rattle.rules.specs.declared.phase.Phase.the-variants.{Dark, Lit, Starting, Timed, Warning, Ending}
+use Rattle.rules.specs.declared.phase.Deadline.{Deadline}
+use Rattle.rules.specs.declared.phase.Deadline.the-variants.{Never, At}
 use Rattle.rules.specs.declared.state.Link.{Link}
 use Rattle.rules.specs.declared.state.Link.the-variants.{Up, BusDown, PowerDown}
 use Rattle.rules.specs.declared.state.State.{State}
@@ -14,6 +16,7 @@ use Rattle.rules.specs.declared.barrier.Why.the-variants.{NoPower, NoBus
 use Rattle.rules.specs.declared.barrier.Barrier.{Barrier}
 use Rattle.rules.specs.declared.barrier.Barrier.the-variants.{Open, Notes, Stopped}
 use Rattle.rules.specs.Inputs.{forceNumber}
+use Rattle.rules.specs.Phases.{deadline}
 
 -- "Answer octet, first that fits: 5 power down, 4 bus down, 3 lock, 2 force"
 abbrev pub stoppedNumber : Why → ℕ
@@ -40,13 +43,12 @@ phaseNumber (Warning d) = 5
 phaseNumber (Ending d) = 6
 
 -- the deadline as a number; a phase without one has none to compare
+abbrev pub moment : Deadline → ℕ
+moment Never = 0
+moment (At d) = d
+
 abbrev pub due : Phase → ℕ
-due Dark = 0
-due Lit = 0
-due (Starting timed d) = d
-due (Timed d) = d
-due (Warning d) = d
-due (Ending d) = d
+due phase = moment (deadline phase)
 
 -- the phase of this number with this deadline, if it has one (proofs/Laws/Answers.antt, `phase-back`)
 unfoldable pub phaseOf : ℕ → ℕ → Phase

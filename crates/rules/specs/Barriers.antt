@@ -56,30 +56,23 @@ busDown Up = false
 busDown BusDown = true
 busDown PowerDown = false
 
--- the first of these barriers that stands: "Answer octet, first that fits: 5 power down, 4 bus down, 3 lock, 2 force"
-unfoldable pub firstBarrier : Row → Link → Bool → Force → Barrier
-firstBarrier r link lock force =
+-- what lock and force do to an input that they outrank. 02, [4]: "From now on a night value under lock or force, and a force value under lock, is
+-- noted"
+unfoldable pub outranked : Bool → Why → Barrier
+outranked value why = cond value Notes (Stopped why)
+
+-- the first of these barriers that stands: "Answer octet, first that fits: 5 power down, 4 bus down, 3 lock, 2 force"; 02, [4]: "Bus and
+-- power down still drop."
+unfoldable pub firstBarrier : Row → Bool → Link → Bool → Force → Barrier
+firstBarrier r value link lock force =
     cond (r .power && powerDown link) (Stopped NoPower)
     (cond (r .bus && busDown link) (Stopped NoBus)
-    (cond (r .lock && lock) (Stopped Locked)
-    (cond (r .force && standing force) (Stopped Forced) Open)))
-
--- 02, [4]: "From now on a night value under lock or force, and a force value under lock, is noted"; "Bus and power down still drop."
-unfoldable pub outranked : Bool → Why → Barrier
-outranked value NoPower = Stopped NoPower
-outranked value NoBus = Stopped NoBus
-outranked value Locked = cond value Notes (Stopped Locked)
-outranked value Forced = cond value Notes (Stopped Forced)
-
--- the first barrier that stands, or that the value is noted
-unfoldable pub orNoted : Bool → Barrier → Barrier
-orNoted value Open = Open
-orNoted value Notes = Notes
-orNoted value (Stopped why) = outranked value why
+    (cond (r .lock && lock) (outranked value Locked)
+    (cond (r .force && standing force) (outranked value Forced) Open)))
 
 -- what an input of a kind meets
 unfoldable pub barrierTo : ℕ → Link → Bool → Force → Barrier
-barrierTo kind link lock force = orNoted (setsValue kind) (firstBarrier (rowOf kind) link lock force)
+barrierTo kind link lock force = firstBarrier (rowOf kind) (setsValue kind) link lock force
 
 -- what an input meets in a state
 unfoldable pub barrier : State → Input → Barrier

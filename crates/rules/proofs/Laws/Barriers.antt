@@ -14,7 +14,7 @@ use Rattle.rules.specs.declared.barrier.Barrier.{Barrier}
 use Rattle.rules.specs.declared.barrier.Barrier.the-variants.{Open, Notes, Stopped}
 use Rattle.rules.specs.Inputs.{kind}
 use Rattle.rules.specs.Orders.{standing, held, noted}
-use Rattle.rules.specs.Barriers.{row, rows, rowOf, setsValue, powerDown, busDown, firstBarrier, outranked, orNoted, barrierTo, barrier, powerStops, busStops, lockStops, forceStops, isValue, fits}
+use Rattle.rules.specs.Barriers.{row, rows, rowOf, setsValue, powerDown, busDown, outranked, firstBarrier, barrierTo, barrier, powerStops, busStops, lockStops, forceStops, isValue, fits}
 use Rattle.rules.specs.Answers.{answer}
 use Rattle.rules.specs.Said.{NotedWhere}
 use Rattle.base.proofs.Tests.{no}
@@ -48,10 +48,10 @@ answer-numbers same = (refl, refl, refl, refl, refl, refl, refl, refl)
 
 -- the first of the four, as `firstBarrier` chooses it; the last two note a value
 abbrev first : Bool → Bool → Bool → Bool → Bool → Barrier
-first power bus lock force value = orNoted value (cond power (Stopped NoPower) (cond bus (Stopped NoBus) (cond lock (Stopped Locked) (cond force (Stopped Forced) Open))))
+first power bus lock force value = cond power (Stopped NoPower) (cond bus (Stopped NoBus) (cond lock (outranked value Locked) (cond force (outranked value Forced) Open)))
 
 first-fits : (power bus lock force value : Bool) → T (fits (first power bus lock force value) power bus lock force value)
-unfolding orNoted outranked
+unfolding outranked
 first-fits true bus lock force value = tt
 first-fits false true lock force value = tt
 first-fits false false true force true = tt
@@ -61,7 +61,7 @@ first-fits false false false true false = tt
 first-fits false false false false value = tt
 
 what-fits-is-first : (b : Barrier) (power bus lock force value : Bool) → T (fits b power bus lock force value) → first power bus lock force value ≡ b
-unfolding orNoted outranked
+unfolding outranked
 what-fits-is-first (Stopped NoPower) true bus lock force value h = refl
 what-fits-is-first (Stopped NoBus) false true lock force value h = refl
 what-fits-is-first (Stopped Locked) false false true force false h = refl
@@ -140,13 +140,13 @@ noted-where s (Power event) way = no (noted-is-held-back s (Power event) way .va
 
 -- and wherever it is so, it is noted
 night-is-noted : (link : Link) (lock force : Bool) → link ≡ Up → (lock || force) ≡ true → first (powerDown link) (busDown link) lock force true ≡ Notes
-unfolding orNoted outranked
+unfolding outranked
 night-is-noted link true force up holds = rw up refl
 night-is-noted link false true up holds = rw up refl
 night-is-noted link false false up holds = no holds
 
 pub noted-there : (s : State) (i : Input) → NotedWhere s i → barrier s i ≡ Notes
-unfolding barrier barrierTo firstBarrier rowOf rows setsValue held orNoted outranked
+unfolding barrier barrierTo firstBarrier rowOf rows setsValue held outranked
 noted-there s (SwitchOnOffForced force) w = rw (w .linked, w .locked) refl
 noted-there s (NightMode value) w = night-is-noted (s .link) (s .lock) (standing (s .force)) (w .linked) (w .held)
 

@@ -1,7 +1,7 @@
 -- Times in range, and deadlines that lie 1 to 655,350 after the clock: what keeps every sum within its type.
 use Prim.Native.Nat.{ℕ, _+_, _-_, _/_, _%_, _≤_, _<_}
 use mathlib.Core.Bool.{Bool, true, false}
-use mathlib.Core.Path.{_≡_, refl}
+use mathlib.Core.Path.{_≡_, refl, ap}
 use mathlib.Core.Logic.{_↔_, inl, inr}
 use native.Mathlib.Omega.{arith}
 use lib.Dec.{leb, ltb}
@@ -9,13 +9,13 @@ use borrow.Author.Tests.{leb-true, ltb-true, eqb-true, le-leb, lt-ltb, eq-eqb}
 use Rattle.rules.specs.declared.form.Scale.the-variants.{Seconds, Tenths}
 use Rattle.rules.specs.declared.parameters.Params.{Params}
 use Rattle.rules.specs.declared.phase.Phase.{Phase}
-use Rattle.rules.specs.declared.phase.Phase.the-variants.{Dark, Lit, Starting, Timed, Warning, Ending}
+use Rattle.rules.specs.declared.phase.Deadline.{Deadline}
 use Rattle.rules.specs.declared.phase.Deadline.the-variants.{Never, At}
 use Rattle.base.specs.Time.{longestDelay}
 use Rattle.rules.specs.Forms.{unit, formOf, HasVersion}
 use Rattle.rules.specs.Parameters.{timeInRange, timesInRange, modesInRange, paramsInRange}
 use Rattle.rules.specs.Phases.{deadline}
-use Rattle.rules.specs.Answers.{due}
+use Rattle.rules.specs.Answers.{moment, due}
 use Rattle.rules.specs.Soundness.{soon}
 use Rattle.rules.specs.Facts.{Delay, ParamsFit}
 use Rattle.base.proofs.Tests.{no, both, cond-case}
@@ -138,27 +138,16 @@ within-soon t d w = simp (lt-ltb t d (w .after), le-leb (d - t) longestDelay (om
 
 -- (a phase without a deadline has the number 0 for it)
 pub soon-due : (t : ℕ) (phase : Phase) → soon t (deadline phase) ≡ true → due phase ≤ t + longestDelay
-soon-due t Dark h = omega arith
-soon-due t Lit h = omega arith
-soon-due t (Starting timed d) h = soon-within t d h .near
-soon-due t (Timed d) h = soon-within t d h .near
-soon-due t (Warning d) h = soon-within t d h .near
-soon-due t (Ending d) h = soon-within t d h .near
+soon-due t phase h = by (deadline phase) h
+  where
+    by : (x : Deadline) → soon t x ≡ true → moment x ≤ t + longestDelay
+    by Never h = omega arith
+    by (At d) h = soon-within t d h .near
 
 -- the number of a deadline is the deadline
 pub due-is : (phase : Phase) (d : ℕ) → deadline phase ≡ At d → due phase ≡ d
-due-is Dark d e = cc
-due-is Lit d e = cc
-due-is (Starting timed x) d e = cc
-due-is (Timed x) d e = cc
-due-is (Warning x) d e = cc
-due-is (Ending x) d e = cc
+due-is phase d e = ap moment e
 
 -- and 0 where there is none
 pub due-none : (phase : Phase) → deadline phase ≡ Never → due phase ≡ 0
-due-none Dark e = refl
-due-none Lit e = refl
-due-none (Starting timed x) e = cc
-due-none (Timed x) e = cc
-due-none (Warning x) e = cc
-due-none (Ending x) e = cc
+due-none phase e = ap moment e

@@ -15,7 +15,7 @@ use Rattle.rules.specs.declared.input.Input.the-variants.{SwitchOnOff, T
 use Rattle.rules.specs.declared.state.State.{State}
 use Rattle.rules.specs.declared.barrier.Barrier.{Barrier}
 use Rattle.rules.specs.declared.barrier.Barrier.the-variants.{Open, Notes, Stopped}
-use Rattle.base.specs.Time.{lastStamp}
+use Rattle.base.specs.Time.{lastStamp, longestDelay}
 use Rattle.rules.specs.Inputs.{sceneNumber}
 use Rattle.rules.specs.Forms.{formOf, isVersion}
 use Rattle.rules.specs.Parameters.{timeInRange, timesInRange, modesInRange, paramsInRange}
@@ -67,7 +67,7 @@ pub due-near : (s : State) → sound s ≡ true → due (s .phase) ≤ s .clock 
 due-near s h = soon-due (s .clock) (s .phase) (sound-view s h .soon)
 
 -- the clock is at most 864,000
-pub due-bounded : (s : State) → sound s ≡ true → due (s .phase) ≤ 1_519_350
+pub due-bounded : (s : State) → sound s ≡ true → due (s .phase) ≤ lastStamp + longestDelay
 due-bounded s h = omega (arith, due-near s h, sound-view s h .clock)
 
 -- ---- the start

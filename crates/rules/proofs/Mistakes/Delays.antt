@@ -25,7 +25,7 @@ use Rattle.rules.specs.declared.barrier.Barrier.the-variants.{Open, Note
 use Rattle.rules.specs.Scenes.{recalled, learnt}
 use Rattle.rules.specs.Phases.{output, deadline, atDeadline, ownEnd}
 use Rattle.rules.specs.Orders.{earliestEnd, off, timedStop, nightFalls, withPhase, withNight, withScenes, standing, held, switch, timed, recall, learn, scene, nightMode, forced, lockDevice, bus, power, order}
-use Rattle.rules.specs.Barriers.{row, rows, rowOf, setsValue, firstBarrier, outranked, orNoted, barrierTo, barrier}
+use Rattle.rules.specs.Barriers.{row, rows, rowOf, setsValue, outranked, firstBarrier, barrierTo, barrier}
 use Rattle.rules.specs.Said.{NotedWhere}
 use Rattle.rules.specs.Steps.{fresh, atMoment, tickAt, tick, ticked, clockMove, step, Quiet}
 use Rattle.rules.specs.Lists.{Cue, cue, Played, plays}
@@ -200,8 +200,8 @@ asking-is-not-noted s i value asks way = go i asks (noted-where s i way)
     go (NightMode night) asks w = no cc
 
 -- where one is taken no lock and no force stands, and the link is up
-nothing-stands : (link : Link) (lock : Bool) (force : Force) → orNoted false (firstBarrier (row true true true true) link lock force) ≡ Open → (lock ≡ false) × (force ≡ Free) × (link ≡ Up)
-unfolding firstBarrier outranked orNoted
+nothing-stands : (link : Link) (lock : Bool) (force : Force) → firstBarrier (row true true true true) false link lock force ≡ Open → (lock ≡ false) × (force ≡ Free) × (link ≡ Up)
+unfolding outranked firstBarrier
 nothing-stands Up false Free way = (refl, refl, refl)
 nothing-stands Up false Off way = (cc, cc, cc)
 nothing-stands Up false On way = (cc, cc, cc)
