@@ -7,6 +7,7 @@ pub mod Written
 pub mod BadOctets
 pub mod Inputs
 pub mod Ends
+pub mod Making
 pub mod Phases
 pub mod Holding
 pub mod Scenes

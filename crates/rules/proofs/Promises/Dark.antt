@@ -2,6 +2,7 @@
 use Prim.Native.Nat.{ℕ, _+_, _-_, _≤_, _<_}
 use mathlib.Core.Bool.{Bool, true, false, not, _&&_}
 use mathlib.Core.Path.{_≡_, refl, sym, subst, _∙_}
+use mathlib.Core.Logic.{inl, inr}
 use mathlib.Core.List.{List, [], _∷_}
 use native.Mathlib.Omega.{arith}
 use Rattle.rules.specs.declared.parameters.Params.{Params}
@@ -17,10 +18,11 @@ use Rattle.rules.specs.Promises.{Rises, turn, turns, Each, stateAt, ligh
 use Rattle.base.proofs.Tests.{no}
 use Rattle.base.proofs.Codes.{failed}
 use Rattle.rules.proofs.Laws.Ends.{still-ahead}
+use Rattle.rules.proofs.Laws.Making.{lighting, busIsOn, fromLock, fromForce, fromPowerDown}
 use Rattle.rules.proofs.Promises.Lasting.{OverBy, over-ends}
 use Rattle.rules.proofs.Laws.Steps.{three-are-enough}
 use Rattle.rules.proofs.Laws.Soundness.{move-keeps, step-params}
-use Rattle.rules.proofs.Promises.Prolonging.{Over, move-over, Prolongs, lighting, busIsOn, byDay, fromLock, fromForce, fromPowerDown, step-over}
+use Rattle.rules.proofs.Promises.Prolonging.{Over, move-over, Prolongs, step-over}
 use Rattle.rules.proofs.Laws.Moments.{at-case, at-the-end}
 
 -- ---- night rules
@@ -36,12 +38,12 @@ night-before s t =
 
 -- where night rules, only an order that lights and a bus event with mode On prolong the light
 night-prolongs-nothing : (s : State) (i : Input) → NightRules s → lights s i ≡ false → busOn s i ≡ false → Prolongs s i → ⊥
-night-prolongs-nothing s i n unlit keeps (lighting e) = no (sym unlit ∙ e)
-night-prolongs-nothing s i n unlit keeps (busIsOn e) = no (sym keeps ∙ e)
-night-prolongs-nothing s i n unlit keeps (byDay e) = no (sym e ∙ n .night)
-night-prolongs-nothing s i n unlit keeps (fromLock e) = no (sym (n .unlocked) ∙ e)
-night-prolongs-nothing s i n unlit keeps (fromForce e) = no (rw (n .unforced) at e)
-night-prolongs-nothing s i n unlit keeps (fromPowerDown e) = no (sym (n .powered) ∙ e)
+night-prolongs-nothing s i n unlit keeps (inl (lighting e)) = no (sym unlit ∙ e)
+night-prolongs-nothing s i n unlit keeps (inl (busIsOn e)) = no (sym keeps ∙ e)
+night-prolongs-nothing s i n unlit keeps (inr e) = no (sym e ∙ n .night)
+night-prolongs-nothing s i n unlit keeps (inl (fromLock e)) = no (sym (n .unlocked) ∙ e)
+night-prolongs-nothing s i n unlit keeps (inl (fromForce e)) = no (rw (n .unforced) at e)
+night-prolongs-nothing s i n unlit keeps (inl (fromPowerDown e)) = no (sym (n .powered) ∙ e)
 
 -- light that is over by t, with no timer due at t any more, is off
 over-is-off : (p : Params) (ruled : Bool) (t : ℕ) (phase : Phase) → ruled ≡ true → OverBy p ruled t phase → Quiet t (deadline phase) → output phase ≡ false

@@ -1,18 +1,21 @@
 -- How long the light of a phase lasts: where night rules it is over by m, the timers hand that moment on, and only orders that
 -- light, and nightfall, need room for more.
 use Prim.Native.Nat.{ℕ, _+_, _≤_}
-use mathlib.Core.Bool.{Bool, true, false, not, _&&_}
+use mathlib.Core.Bool.{Bool, true, false}
+use mathlib.Core.Logic.{_⊎_, inl, inr}
 use mathlib.Core.Path.{_≡_, refl, sym, _∙_}
 use native.Mathlib.Omega.{arith}
 use lib.Dec.{eqb}
 use Rattle.rules.specs.declared.parameters.Params.{Params}
 use Rattle.rules.specs.declared.phase.Phase.{Phase}
 use Rattle.rules.specs.declared.phase.Phase.the-variants.{Dark, Lit, Starting, Timed, Warning, Ending}
-use Rattle.rules.specs.Phases.{output, litAt, atDeadline, ownEnd, setOn}
-use Rattle.rules.specs.Orders.{on, timedStart, off, timedStop, nightFalls}
+use Rattle.rules.specs.Phases.{output, litAt, atDeadline, ownEnd}
+use Rattle.rules.specs.Orders.{on}
 use Rattle.rules.specs.Promises.{longestLight}
 use Rattle.base.proofs.Tests.{no, either-way}
-use Rattle.rules.proofs.Laws.Ends.{ComesBy, earliest-by, off-case}
+use Rattle.base.proofs.Codes.{failed}
+use Rattle.rules.proofs.Laws.Ends.{ComesBy, earliest-by}
+use Rattle.rules.proofs.Laws.Making.{mayLast, Makes, keeps, darkens, steadies, times, begins, awaits, ends, night-times, night-ends}
 
 module _ (p : Params) where
   -- left to itself, the light of a phase is over by m where night rules; where it does not, Lit and Ending may last. Light that is awaited
@@ -51,57 +54,24 @@ module _ (p : Params) where
   timer-over ruled night m (Warning d) day h = tt
   timer-over ruled night m (Ending d) day h = tt
 
-  -- an Off takes the earlier of two moments
-  pub off-over : (ruled : Bool) (t m : ℕ) (phase : Phase) → OverBy ruled m phase → OverBy ruled m (off p t phase)
-  off-over ruled t m phase h = off-case (OverBy ruled m) p t phase tt (λ lit some night. earliest-by _ m (ownEnd p phase) (over-ends ruled m phase night lit h))
+  -- what is kept is over as soon as it was, where night ruled already or finds nothing that lasts
+  kept-over : (before now : Bool) (m : ℕ) (phase : Phase) → (mayLast phase ≡ true → now ≡ true → before ≡ true) → OverBy before m phase → OverBy now m phase
+  kept-over before now m Dark e h = tt
+  kept-over before now m Lit e h = failed now (λ on. no (sym h ∙ e refl on))
+  kept-over before now m (Starting timed d) e h = h
+  kept-over before now m (Timed d) e h = h
+  kept-over before now m (Warning d) e h = h
+  kept-over before now m (Ending d) e h = λ on. h (e refl on)
 
-  pub timed-stop-over : (ruled : Bool) (t m : ℕ) (phase : Phase) → OverBy ruled m phase → OverBy ruled m (timedStop p t phase)
-  unfolding timedStop
-  timed-stop-over ruled t m Dark h = tt
-  timed-stop-over ruled t m Lit h = h
-  timed-stop-over ruled t m (Starting timed d) h = either-way (OverBy ruled m) timed (off p t (Starting timed d)) (Starting timed d) (off-over ruled t m (Starting timed d) h) h
-  timed-stop-over ruled t m (Timed d) h = off-over ruled t m (Timed d) h
-  timed-stop-over ruled t m (Warning d) h = off-over ruled t m (Warning d) h
-  timed-stop-over ruled t m (Ending d) h = h
-
-  -- night that ends rules no more
-  pub night-ends-over : (ruled : Bool) (m : ℕ) (phase : Phase) → OverBy ruled m phase → OverBy false m phase
-  night-ends-over ruled m Dark h = tt
-  night-ends-over ruled m Lit h = refl
-  night-ends-over ruled m (Starting timed d) h = h
-  night-ends-over ruled m (Timed d) h = h
-  night-ends-over ruled m (Warning d) h = h
-  night-ends-over ruled m (Ending d) h = no
-
-  -- the orders that prolong light, where the longest light from t on is over by m
-  module _ (t m : ℕ) (room : t + longestLight p ≤ m) where
-    pub set-on-over : (night held : Bool) → OverBy (night && not held) m (setOn p night held t)
-    unfolding setOn
-    set-on-over night held = lit-over (night && not held) (night && not held) t m (λ e. e) (omega arith)
-
-    pub on-over : (night held : Bool) (phase : Phase) → OverBy (night && not held) m phase → OverBy (night && not held) m (on p night held t phase)
-    unfolding on
-    on-over night held Dark h = either-way (OverBy (night && not held) m) (eqb (p .ondelay) 0) (litAt p night t) (Starting false (t + p .ondelay)) (lit-over (night && not held) night t m (λ day. rw day) (omega arith)) (omega arith)
-    on-over night held (Starting timed d) h = omega arith
-    on-over night held Lit h = h
-    on-over night held (Timed d) h = set-on-over night held
-    on-over night held (Warning d) h = set-on-over night held
-    on-over night held (Ending d) h = set-on-over night held
-
-    pub timed-start-over : (ruled : Bool) (phase : Phase) → OverBy ruled m phase → OverBy ruled m (timedStart p t phase)
-    unfolding timedStart
-    timed-start-over ruled Dark h = either-way (OverBy ruled m) (eqb (p .ondelay) 0) (Timed (t + p .timedon)) (Starting true (t + p .ondelay)) (omega arith) (omega arith)
-    timed-start-over ruled (Starting timed d) h = h
-    timed-start-over ruled Lit h = omega arith
-    timed-start-over ruled (Timed d) h = omega arith
-    timed-start-over ruled (Warning d) h = omega arith
-    timed-start-over ruled (Ending d) h = omega arith
-
-    pub night-falls-over : (ruled after : Bool) (phase : Phase) → OverBy ruled m phase → OverBy after m (nightFalls p t phase)
-    unfolding nightFalls
-    night-falls-over ruled after Dark h = tt
-    night-falls-over ruled after Lit h = omega arith
-    night-falls-over ruled after (Starting timed d) h = h
-    night-falls-over ruled after (Timed d) h = omega arith
-    night-falls-over ruled after (Warning d) h = h
-    night-falls-over ruled after (Ending d) h = λ night. omega arith
+  -- an order leaves light as long as it was, or shorter, but for what brings light and nightfall: these have room for the longest light
+  pub made-over : {t : ℕ} {night before now : Bool} {Bright Holds : Type 0} {phase after : Phase} (m : ℕ) → (Bright ⊎ (night ≡ false) → t + longestLight p ≤ m) → OverBy before m phase →
+      Makes p t night before now Bright Holds phase after → OverBy now m after
+  made-over {before = before} {now = now} {phase = phase} m room h (keeps e) = kept-over before now m phase e h
+  made-over m room h darkens = tt
+  made-over m room h (steadies e b) = e
+  made-over m room h (times b) = omega (arith, room (inl b))
+  made-over m room h (begins timed b some) = omega (arith, room (inl b))
+  made-over m room h (awaits was timed d e) = rw e at h
+  made-over {before = before} {phase = phase} m room h (ends same lit some) = λ on. earliest-by _ m (ownEnd p phase) (over-ends before m phase (same on) lit h)
+  made-over m room h (night-times e day) = omega (arith, room (inr day))
+  made-over m room h (night-ends d e day) = λ on. omega (arith, room (inr day))

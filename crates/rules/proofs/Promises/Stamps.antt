@@ -1,41 +1,32 @@
 -- No record is stamped before its time: an order sets no deadline before the clock, a timer none before its own, so whatever is
 -- played from a state on is stamped at its clock or later.
 use Prim.Native.Nat.{ℕ, _+_, _≤_}
-use mathlib.Core.Bool.{Bool, true, false, _&&_, _||_, not}
+use mathlib.Core.Bool.{Bool, _||_}
 use mathlib.Core.Path.{_≡_, refl}
 use mathlib.Core.List.{List, [], _∷_, _++_, append-nil}
 use native.Mathlib.Omega.{arith}
 use lib.Dec.{eqb}
 use Rattle.rules.specs.declared.parameters.Params.{Params}
-use Rattle.rules.specs.declared.parameters.Recalled.{Recalled}
-use Rattle.rules.specs.declared.parameters.Recalled.the-variants.{Nothing, Output}
 use Rattle.rules.specs.declared.phase.Phase.{Phase}
 use Rattle.rules.specs.declared.phase.Phase.the-variants.{Dark, Lit, Starting, Timed, Warning, Ending}
 use Rattle.rules.specs.declared.phase.Deadline.{Deadline}
 use Rattle.rules.specs.declared.phase.Deadline.the-variants.{Never, At}
-use Rattle.rules.specs.declared.input.Force.{Force}
-use Rattle.rules.specs.declared.input.Force.the-variants.{Free, Off, On}
-use Rattle.rules.specs.declared.input.Event.{Event}
-use Rattle.rules.specs.declared.input.Event.the-variants.{Failure, Return}
 use Rattle.rules.specs.declared.input.Input.{Input}
-use Rattle.rules.specs.declared.input.Input.the-variants.{SwitchOnOff, TimedStartStop, NumberedSceneControl, SwitchOnOffForced, LockDevice, NightMode, Bus, Power}
-use Rattle.rules.specs.declared.state.Link.{Link}
-use Rattle.rules.specs.declared.state.Link.the-variants.{Up, BusDown, PowerDown}
 use Rattle.rules.specs.declared.state.State.{State}
 use Rattle.rules.specs.declared.barrier.Barrier.{Barrier}
 use Rattle.rules.specs.declared.barrier.Barrier.the-variants.{Open, Notes, Stopped}
 use Rattle.rules.specs.declared.record.Record.{Record}
 use Rattle.rules.specs.Inputs.{kind}
-use Rattle.rules.specs.Scenes.{recalled}
-use Rattle.rules.specs.Phases.{output, deadline, litAt, atDeadline, ownEnd, setOn}
-use Rattle.rules.specs.Orders.{on, timedStart, off, timedStop, nightFalls, plain, withForce, withLink, withLock, standing, held, settle, byMode, switch, timed, recall, learn, scene, nightMode, forced, locked, unlocked, lockDevice, busMode, bus, powerFails, powerReturns, power, order}
+use Rattle.rules.specs.Phases.{deadline, litAt, atDeadline, ownEnd}
+use Rattle.rules.specs.Orders.{timed}
 use Rattle.rules.specs.Status.{recordOf, byItself, sameStatus, written}
 use Rattle.rules.specs.Steps.{Moved, ticked, clockMove, counted, meet, act, step, Quiet, fired, Moves, rest, fire}
 use Rattle.rules.specs.Lists.{Cue, cue, plays, playsTo}
 use Rattle.rules.specs.Promises.{Rises}
-use Rattle.base.proofs.Tests.{cond-zero, either-way}
+use Rattle.base.proofs.Tests.{either-way}
 use Rattle.rules.proofs.Laws.Steps.{three-are-enough}
-use Rattle.rules.proofs.Laws.Ends.{DueFrom, earliest-from, own-end-from, off-case}
+use Rattle.rules.proofs.Laws.Ends.{DueFrom, earliest-from, own-end-from}
+use Rattle.rules.proofs.Laws.Making.{Makes, keeps, darkens, steadies, times, begins, awaits, ends, night-times, night-ends, order-makes}
 use Rattle.rules.proofs.Laws.Soundness.{move-clock, move-params, step-phase-case, step-clock}
 use Rattle.rules.proofs.Laws.Timers.{alike-writes-nothing, clock-moves}
 use Rattle.rules.proofs.Laws.Lists.{plays-to-next}
@@ -70,139 +61,17 @@ timer-ahead p t night (Ending d) h = tt
 
 -- An order at t keeps a deadline, or sets one from t on; one after t, where TimedOn is not 0. (The other delays are taken only
 -- where they are not 0.) Both are said at once, of an f that is t or t + 1.
-module _ (p : Params) (t f : ℕ) (near : f ≤ t + 1) (by-timed-on : f ≤ t + p .timedon) where
-  lit-ahead : (timed : Bool) → Ahead f (litAt p timed t)
-  unfolding litAt
-  lit-ahead timed = either-way (Ahead f) timed _ _ by-timed-on tt
-
-  set-on-ahead : (night held : Bool) → Ahead f (setOn p night held t)
-  unfolding setOn
-  set-on-ahead night held = lit-ahead (night && not held)
-
-  on-ahead : (night held : Bool) (phase : Phase) → Ahead f phase → Ahead f (on p night held t phase)
-  unfolding on
-  on-ahead night held Dark h = cond-zero (Ahead f) (p .ondelay) _ _ (lit-ahead night) (λ some. omega (arith, near))
-  on-ahead night held Lit h = tt
-  on-ahead night held (Starting timed d) h = h
-  on-ahead night held (Timed d) h = set-on-ahead night held
-  on-ahead night held (Warning d) h = set-on-ahead night held
-  on-ahead night held (Ending d) h = set-on-ahead night held
-
-  timed-start-ahead : (phase : Phase) → Ahead f phase → Ahead f (timedStart p t phase)
-  unfolding timedStart
-  timed-start-ahead Dark h = cond-zero (Ahead f) (p .ondelay) _ _ by-timed-on (λ some. omega (arith, near))
-  timed-start-ahead Lit h = by-timed-on
-  timed-start-ahead (Starting timed d) h = h
-  timed-start-ahead (Timed d) h = by-timed-on
-  timed-start-ahead (Warning d) h = by-timed-on
-  timed-start-ahead (Ending d) h = by-timed-on
-
-  off-ahead : (phase : Phase) → Ahead f phase → Ahead f (off p t phase)
-  off-ahead phase h = off-case (Ahead f) p t phase tt (λ lit some. earliest-from _ f (ownEnd p phase) (omega (arith, near)) (own-end-from p f phase h))
-
-  timed-stop-ahead : (phase : Phase) → Ahead f phase → Ahead f (timedStop p t phase)
-  unfolding timedStop
-  timed-stop-ahead Dark h = tt
-  timed-stop-ahead Lit h = tt
-  timed-stop-ahead (Starting timed d) h = either-way (Ahead f) timed _ _ (off-ahead (Starting timed d) h) h
-  timed-stop-ahead (Timed d) h = off-ahead (Timed d) h
-  timed-stop-ahead (Warning d) h = off-ahead (Warning d) h
-  timed-stop-ahead (Ending d) h = h
-
-  night-falls-ahead : (phase : Phase) → Ahead f phase → Ahead f (nightFalls p t phase)
-  unfolding nightFalls
-  night-falls-ahead Dark h = tt
-  night-falls-ahead Lit h = by-timed-on
-  night-falls-ahead (Starting timed d) h = h
-  night-falls-ahead (Timed d) h = omega (arith, near)
-  night-falls-ahead (Warning d) h = h
-  night-falls-ahead (Ending d) h = omega (arith, by-timed-on)
-
-plain-ahead : (f : ℕ) (output : Bool) → Ahead f (plain output)
-plain-ahead f true = tt
-plain-ahead f false = tt
-
--- ---- states
-
--- no timer of the state is due before f
-abbrev OnTime : ℕ → State → Type 0
-OnTime f s = Ahead f (s .phase)
-
-settle-on-time : (f : ℕ) (s : State) (output : Bool) → f ≤ s .clock + 1 → f ≤ s .clock + s .params .timedon → OnTime f (settle s output)
-unfolding settle
-settle-on-time f s true near by-timed-on = set-on-ahead (s .params) (s .clock) f near by-timed-on (s .night) (held s)
-settle-on-time f s false near by-timed-on = tt
-
-module _ (f : ℕ) (s : State) (near : f ≤ s .clock + 1) (by-timed-on : f ≤ s .clock + s .params .timedon) (h : OnTime f s) where
-  switch-on-time : (value : Bool) → OnTime f (switch s value)
-  unfolding switch
-  switch-on-time true = on-ahead (s .params) (s .clock) f near by-timed-on (s .night) (held s) (s .phase) h
-  switch-on-time false = off-ahead (s .params) (s .clock) f near by-timed-on (s .phase) h
-
-  timed-on-time : (value : Bool) → OnTime f (timed s value)
-  unfolding timed
-  timed-on-time true = timed-start-ahead (s .params) (s .clock) f near by-timed-on (s .phase) h
-  timed-on-time false = timed-stop-ahead (s .params) (s .clock) f near by-timed-on (s .phase) h
-
-  recall-on-time : (found : Recalled) → OnTime f (recall s found)
-  unfolding recall
-  recall-on-time Nothing = h
-  recall-on-time (Output value) = switch-on-time value
-
-  night-on-time : (value : Bool) → OnTime f (nightMode s value)
-  unfolding nightMode
-  night-on-time true = either-way (OnTime f) (s .night) _ _ h (night-falls-ahead (s .params) (s .clock) f near by-timed-on (s .phase) h)
-  night-on-time false = h
-
-  forced-on-time : (force : Force) → OnTime f (forced s force)
-  unfolding forced
-  forced-on-time Off = tt
-  forced-on-time On = tt
-  forced-on-time Free = either-way (OnTime f) (standing (s .force)) _ _ (settle-on-time f (withForce s Free) _ near by-timed-on) h
-
-  unlocked-on-time : (force : Force) → OnTime f (unlocked s force)
-  unfolding unlocked
-  unlocked-on-time Off = tt
-  unlocked-on-time On = tt
-  unlocked-on-time Free = settle-on-time f (withLock s false (s .atlocking)) _ near by-timed-on
-
-  lock-on-time : (value : Bool) → OnTime f (lockDevice s value)
-  unfolding lockDevice locked
-  lock-on-time true = either-way (OnTime f) (s .lock) _ _ h (plain-ahead f (byMode (s .params .locking) (output (s .phase))))
-  lock-on-time false = either-way (OnTime f) (s .lock) _ _ (unlocked-on-time (s .force)) h
-
-  bus-mode-on-time : (link : Link) (mode : ℕ) → OnTime f (busMode (withLink s link) mode)
-  unfolding busMode
-  bus-mode-on-time link mode = either-way (OnTime f) (held (withLink s link) || eqb mode 0) _ _ h (settle-on-time f (withLink s link) _ near by-timed-on)
-
-  bus-on-time : (link : Link) (event : Event) → OnTime f (bus s link event)
-  unfolding bus
-  bus-on-time Up Failure = bus-mode-on-time BusDown _
-  bus-on-time Up Return = h
-  bus-on-time BusDown Failure = h
-  bus-on-time BusDown Return = bus-mode-on-time Up _
-  bus-on-time PowerDown event = h
-
-  power-on-time : (link : Link) (event : Event) → OnTime f (power s link event)
-  unfolding power powerFails powerReturns
-  power-on-time Up Failure = tt
-  power-on-time Up Return = h
-  power-on-time BusDown Failure = tt
-  power-on-time BusDown Return = h
-  power-on-time PowerDown Failure = h
-  power-on-time PowerDown Return = settle-on-time f (withLink s Up) _ near by-timed-on
-
-  order-on-time : (i : Input) → OnTime f (order s i)
-  unfolding order scene learn
-  order-on-time (SwitchOnOff value) = switch-on-time value
-  order-on-time (TimedStartStop value) = timed-on-time value
-  order-on-time (NumberedSceneControl true number) = either-way (OnTime f) (s .params .learning) _ _ h h
-  order-on-time (NumberedSceneControl false number) = recall-on-time (recalled (s .scenes) number)
-  order-on-time (SwitchOnOffForced force) = forced-on-time force
-  order-on-time (LockDevice value) = lock-on-time value
-  order-on-time (NightMode value) = night-on-time value
-  order-on-time (Bus event) = bus-on-time (s .link) event
-  order-on-time (Power event) = power-on-time (s .link) event
+made-ahead : {p : Params} {t : ℕ} {night before now : Bool} {Bright Holds : Type 0} {phase after : Phase} (f : ℕ) → f ≤ t + 1 → f ≤ t + p .timedon → Ahead f phase →
+    Makes p t night before now Bright Holds phase after → Ahead f after
+made-ahead f near by-timed-on h (keeps e) = h
+made-ahead f near by-timed-on h darkens = tt
+made-ahead f near by-timed-on h (steadies e b) = tt
+made-ahead f near by-timed-on h (times b) = by-timed-on
+made-ahead f near by-timed-on h (begins timed b some) = omega (arith, near)
+made-ahead f near by-timed-on h (awaits was timed d e) = rw e at h
+made-ahead {p} {phase = phase} f near by-timed-on h (ends same lit some) = earliest-from _ f (ownEnd p phase) (omega (arith, near)) (own-end-from p f phase h)
+made-ahead f near by-timed-on h (night-times e day) = by-timed-on
+made-ahead f near by-timed-on h (night-ends d e day) = omega (arith, by-timed-on, rw e at h)
 
 -- a clock move leaves nothing due
 pub moved-on-time : (s : State) (t : ℕ) → DueFrom (t + 1) (deadline (clockMove s t .state .phase))
@@ -210,11 +79,11 @@ unfolding clockMove ticked
 moved-on-time s t = quiet-is-later t (deadline (clockMove s t .state .phase)) (three-are-enough s t)
 
 -- and an order sets nothing before that, whatever state a step starts from
-step-ahead : (s : State) (i : Input) (t f : ℕ) → f ≤ t + 1 → f ≤ t + s .params .timedon → OnTime f (step s i t .state)
+step-ahead : (s : State) (i : Input) (t f : ℕ) → f ≤ t + 1 → f ≤ t + s .params .timedon → Ahead f (step s i t .state .phase)
 step-ahead s i t f near by-timed-on =
     let met : State = clockMove s t .state in
     let early = due-from-earlier f (t + 1) (deadline (met .phase)) near (moved-on-time s t) in
-    step-phase-case (Ahead f) s i t (λ way. order-on-time f met (rw (move-clock s t) near) (rw (move-clock s t, move-params s t) by-timed-on) early i) early
+    step-phase-case (Ahead f) s i t (λ way. made-ahead f (rw (move-clock s t) near) (rw (move-clock s t, move-params s t) by-timed-on) early (order-makes met i)) early
 
 -- so nothing is due before its stamp
 step-on-time : (s : State) (i : Input) (t : ℕ) → DueFrom t (deadline (step s i t .state .phase))
