@@ -136,13 +136,23 @@ pub within-soon : (t d : ℕ) → Within t d → soon t (At d) ≡ true
 unfolding soon
 within-soon t d w = simp (lt-ltb t d (w .after), le-leb (d - t) longestDelay (omega arith))
 
+-- if it ever comes
+abbrev pub Near : ℕ → Deadline → Type 0
+Near t Never = Unit {0}
+Near t (At d) = Within t d
+
+pub soon-near : (t : ℕ) (x : Deadline) → soon t x ≡ true → Near t x
+soon-near t Never h = tt
+soon-near t (At d) h = soon-within t d h
+
+pub near-soon : (t : ℕ) (x : Deadline) → Near t x → soon t x ≡ true
+near-soon t Never h = unfold soon in refl
+near-soon t (At d) h = within-soon t d h
+
 -- (a phase without a deadline has the number 0 for it)
-pub soon-due : (t : ℕ) (phase : Phase) → soon t (deadline phase) ≡ true → due phase ≤ t + longestDelay
-soon-due t phase h = by (deadline phase) h
-  where
-    by : (x : Deadline) → soon t x ≡ true → moment x ≤ t + longestDelay
-    by Never h = omega arith
-    by (At d) h = soon-within t d h .near
+pub near-due : (t : ℕ) (x : Deadline) → Near t x → moment x ≤ t + longestDelay
+near-due t Never h = omega arith
+near-due t (At d) h = h .near
 
 -- the number of a deadline is the deadline
 pub due-is : (phase : Phase) (d : ℕ) → deadline phase ≡ At d → due phase ≡ d

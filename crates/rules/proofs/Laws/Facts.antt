@@ -135,10 +135,10 @@ sound-exactly-when s = (view, whole)
           scenes = scenes-exactly-when _ .0 (v .scenes);
           clock = v .clock;
           soon = soon-exactly-when _ _ .0 (v .soon);
-          steady = steady-exactly-when _ _ _ .0 (f .steady);
-          decided = decides-exactly-when _ _ _ .0 (f .decided);
+          steady = steady-exactly-when _ _ _ .0 (f .stands .steady);
+          decided = decides-exactly-when _ _ _ .0 (f .stands .decided);
           ends = ends-exactly-when _ _ _ _ .0 (f .ends);
-          clear = clear-exactly-when _ _ _ _ _ .0 (f .clear);
+          clear = clear-exactly-when _ _ _ _ _ .0 (f .stands .clear);
         }
 
     whole : SoundState s → sound s ≡ true
@@ -152,9 +152,11 @@ sound-exactly-when s = (view, whole)
           soon = soon;
           consistent = fits-consistent s record {
             soon = soon;
-            steady = steady-exactly-when _ _ _ .1 (r .steady);
-            decided = decides-exactly-when _ _ _ .1 (r .decided);
             ends = ends-exactly-when _ _ _ _ .1 (r .ends);
-            clear = clear-exactly-when _ _ _ _ _ .1 (r .clear);
+            stands = record {
+              steady = steady-exactly-when _ _ _ .1 (r .steady);
+              decided = decides-exactly-when _ _ _ .1 (r .decided);
+              clear = clear-exactly-when _ _ _ _ _ .1 (r .clear);
+            };
           };
         }

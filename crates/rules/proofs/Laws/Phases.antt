@@ -1,17 +1,22 @@
--- What the timers and the orders make of a phase that nothing holds: its deadline stays soon, and night leaves no Lit.
+-- What the timers and the orders make of a phase: its deadline stays soon, and a night that rules leaves no Lit.
 use Prim.Native.Nat.{ℕ, _+_}
-use mathlib.Core.Bool.{Bool, true, false, _||_}
-use mathlib.Core.Path.{_≡_, refl}
+use mathlib.Core.Bool.{Bool, true, false}
+use mathlib.Core.Path.{_≡_, refl, sym, _∙_}
 use native.Mathlib.Omega.{arith}
 use Rattle.rules.specs.declared.parameters.Params.{Params}
 use Rattle.rules.specs.declared.phase.Phase.{Phase}
 use Rattle.rules.specs.declared.phase.Phase.the-variants.{Dark, Lit, Starting, Timed, Warning, Ending}
-use Rattle.rules.specs.Phases.{deadline, litAt, atDeadline, ownEnd, setOn}
-use Rattle.rules.specs.Orders.{on, timedStart, off, timedStop, nightFalls}
+use Rattle.rules.specs.declared.phase.Deadline.{Deadline}
+use Rattle.rules.specs.declared.phase.Deadline.the-variants.{Never, At}
+use Rattle.rules.specs.Phases.{deadline, litAt, atDeadline, ownEnd}
+use Rattle.rules.specs.Orders.{on}
 use Rattle.rules.specs.Answers.{due}
-use Rattle.base.proofs.Tests.{cond-zero}
-use Rattle.rules.proofs.Laws.Deadlines.{Times, Within}
-use Rattle.rules.proofs.Laws.Ends.{DueFrom, earliest-within, earliest-from, own-end-from, off-case}
+use Rattle.rules.specs.Soundness.{isLit}
+use Rattle.base.proofs.Tests.{no, cond-zero}
+use Rattle.base.proofs.Codes.{failed}
+use Rattle.rules.proofs.Laws.Deadlines.{Times, Near}
+use Rattle.rules.proofs.Laws.Ends.{DueFrom, earliest-within, earliest-from, own-end-from}
+use Rattle.rules.proofs.Laws.Making.{mayLast, Makes, keeps, darkens, steadies, times, begins, awaits, ends, night-times, night-ends}
 
 -- what holds of each phase holds of every phase
 pub each-phase : (P : Phase → Type 0) → P Dark → P Lit → ((timed : Bool) (d : ℕ) → P (Starting timed d)) → ((d : ℕ) → P (Timed d)) → ((d : ℕ) → P (Warning d)) → ((d : ℕ) → P (Ending d)) →
@@ -23,84 +28,43 @@ each-phase P dark lit starting timed warning ending (Timed d) = timed d
 each-phase P dark lit starting timed warning ending (Warning d) = warning d
 each-phase P dark lit starting timed warning ending (Ending d) = ending d
 
--- what a sound state asks of its phase where neither lock nor force stands and power is not down
-abbrev pub Unheld : Bool → ℕ → Phase → Type 0
-Unheld night t Dark = Unit {0}
-Unheld night t Lit = night ≡ false
-Unheld night t (Starting timed d) = Within t d
-Unheld night t (Timed d) = Within t d
-Unheld night t (Warning d) = Within t d
-Unheld night t (Ending d) = Within t d
+lit-may-last : (phase : Phase) → isLit phase ≡ true → mayLast phase ≡ true
+lit-may-last = each-phase (λ phase. isLit phase ≡ true → mayLast phase ≡ true) (λ e. e) (λ e. e) (λ timed d e. e) (λ d e. e) (λ d e. e) (λ d e. refl)
+
+near-from : (t : ℕ) (x : Deadline) → Near t x → DueFrom (t + 1) x
+near-from t Never h = tt
+near-from t (At d) h = omega arith
+
+-- What a sound state asks of its phase, where night rules or not: its deadline, if it has one, is soon, and it is not Lit in a night that rules.
+abbrev pub Sits : Bool → ℕ → Phase → Type 0
+Sits ruled t phase = Near t (deadline phase) × (isLit phase ≡ true → ruled ≡ false)
 
 module _ (p : Params) (n : Times p) where
-  lit-unheld : (night timed : Bool) (t : ℕ) → Unheld night t (litAt p (timed || night) t)
+  lit-sits : (ruled timed : Bool) (t : ℕ) → (timed ≡ false → ruled ≡ false) → Sits ruled t (litAt p timed t)
   unfolding litAt
-  lit-unheld night true t = omega arith
-  lit-unheld true false t = omega arith
-  lit-unheld false false t = refl
-
-  pub set-on-unheld : (night : Bool) (t : ℕ) → Unheld night t (setOn p night false t)
-  unfolding setOn
-  set-on-unheld true t = lit-unheld true true t
-  set-on-unheld false t = lit-unheld false false t
+  lit-sits ruled true t steady = (omega arith, no)
+  lit-sits ruled false t steady = (tt, λ lit. steady refl)
 
   -- a timer sets its next deadline from its own moment (a phase without a deadline stays as it was)
-  pub timer-unheld : (night : Bool) (t : ℕ) (phase : Phase) → Unheld night t phase → Unheld night (due phase) (atDeadline p night phase)
+  pub timer-sits : (ruled night : Bool) (t : ℕ) (phase : Phase) → (night ≡ false → ruled ≡ false) → Sits ruled t phase → Sits ruled (due phase) (atDeadline p night phase)
   unfolding atDeadline
-  timer-unheld night t Dark h = tt
-  timer-unheld night t Lit h = h
-  timer-unheld night t (Starting timed d) h = lit-unheld night timed d
-  timer-unheld night t (Timed d) h = cond-zero (Unheld night d) (p .prewarning) _ _ tt (λ some. omega arith)
-  timer-unheld night t (Warning d) h = tt
-  timer-unheld night t (Ending d) h = tt
+  timer-sits ruled night t Dark day h = (tt, no)
+  timer-sits ruled night t Lit day h = (tt, h .1)
+  timer-sits ruled night t (Starting true d) day h = lit-sits ruled true d (λ e. cc)
+  timer-sits ruled night t (Starting false d) day h = lit-sits ruled night d day
+  timer-sits ruled night t (Timed d) day h = cond-zero (Sits ruled d) (p .prewarning) _ _ (tt, no) (λ some. (omega arith, no))
+  timer-sits ruled night t (Warning d) day h = (tt, no)
+  timer-sits ruled night t (Ending d) day h = (tt, no)
 
-  pub on-unheld : (night : Bool) (t : ℕ) (phase : Phase) → Unheld night t phase → Unheld night t (on p night false t phase)
-  unfolding on
-  on-unheld night t Dark h = cond-zero (Unheld night t) (p .ondelay) _ _ (lit-unheld night false t) (λ some. omega arith)
-  on-unheld night t (Starting timed d) h = omega arith
-  on-unheld night t Lit h = h
-  on-unheld night t (Timed d) h = set-on-unheld night t
-  on-unheld night t (Warning d) h = set-on-unheld night t
-  on-unheld night t (Ending d) h = set-on-unheld night t
-
-  pub timed-start-unheld : (night : Bool) (t : ℕ) (phase : Phase) → Unheld night t phase → Unheld night t (timedStart p t phase)
-  unfolding timedStart
-  timed-start-unheld night t Dark h = cond-zero (Unheld night t) (p .ondelay) _ _ (omega arith) (λ some. omega arith)
-  timed-start-unheld night t (Starting timed d) h = h
-  timed-start-unheld night t Lit h = omega arith
-  timed-start-unheld night t (Timed d) h = omega arith
-  timed-start-unheld night t (Warning d) h = omega arith
-  timed-start-unheld night t (Ending d) h = omega arith
-
-  -- an Off takes the earlier of two moments, and neither is past
-  unheld-from : (night : Bool) (t : ℕ) (phase : Phase) → Unheld night t phase → DueFrom (t + 1) (deadline phase)
-  unheld-from night t Dark h = tt
-  unheld-from night t Lit h = tt
-  unheld-from night t (Starting timed d) h = omega arith
-  unheld-from night t (Timed d) h = omega arith
-  unheld-from night t (Warning d) h = omega arith
-  unheld-from night t (Ending d) h = omega arith
-
-  pub off-unheld : (night : Bool) (t : ℕ) (phase : Phase) → Unheld night t phase → Unheld night t (off p t phase)
-  off-unheld night t phase h =
-      off-case (Unheld night t) p t phase tt
-      (λ lit some. omega (arith, earliest-within (t + p .offdelay) (ownEnd p phase), earliest-from (t + p .offdelay) (t + 1) (ownEnd p phase) (omega arith) (own-end-from p (t + 1) phase (unheld-from night t phase h))))
-
-  pub timed-stop-unheld : (night : Bool) (t : ℕ) (phase : Phase) → Unheld night t phase → Unheld night t (timedStop p t phase)
-  unfolding timedStop
-  timed-stop-unheld night t Dark h = tt
-  timed-stop-unheld night t Lit h = h
-  timed-stop-unheld night t (Starting true d) h = off-unheld night t (Starting true d) h
-  timed-stop-unheld night t (Starting false d) h = h
-  timed-stop-unheld night t (Timed d) h = off-unheld night t (Timed d) h
-  timed-stop-unheld night t (Warning d) h = off-unheld night t (Warning d) h
-  timed-stop-unheld night t (Ending d) h = h
-
-  pub night-falls-unheld : (night : Bool) (t : ℕ) (phase : Phase) → Unheld night t phase → Unheld true t (nightFalls p t phase)
-  unfolding nightFalls
-  night-falls-unheld night t Dark h = tt
-  night-falls-unheld night t Lit h = omega arith
-  night-falls-unheld night t (Starting timed d) h = h
-  night-falls-unheld night t (Timed d) h = omega arith
-  night-falls-unheld night t (Warning d) h = h
-  night-falls-unheld night t (Ending d) h = omega arith
+  -- an order keeps a deadline or sets one that is soon, and leaves Lit only where night does not rule
+  pub made-sits : {t : ℕ} {night before now : Bool} {Bright Holds : Type 0} {phase after : Phase} → Sits before t phase → Makes p t night before now Bright Holds phase after → Sits now t after
+  made-sits {now = now} {phase = phase} h (keeps e) = (h .0, λ lit. failed now (λ on. no (sym (h .1 lit) ∙ e (lit-may-last phase lit) on)))
+  made-sits h darkens = (tt, no)
+  made-sits h (steadies e b) = (tt, λ lit. e)
+  made-sits h (times b) = (omega arith, no)
+  made-sits h (begins timed b some) = (omega arith, no)
+  made-sits h (awaits was timed d e) = (rw e at (h .0), no)
+  made-sits {t} {phase = phase} h (ends same lit some) =
+      (omega (arith, earliest-within (t + p .offdelay) (ownEnd p phase), earliest-from (t + p .offdelay) (t + 1) (ownEnd p phase) (omega arith) (own-end-from p (t + 1) phase (near-from t (deadline phase) (h .0)))), no)
+  made-sits h (night-times e day) = (omega arith, no)
+  made-sits h (night-ends d e day) = (omega (arith, rw e at (h .0)), no)

@@ -21,17 +21,18 @@ use Rattle.rules.specs.Forms.{formOf, isVersion}
 use Rattle.rules.specs.Parameters.{timeInRange, timesInRange, modesInRange, paramsInRange}
 use Rattle.rules.specs.Scenes.{entryInRange, scenesInRange}
 use Rattle.rules.specs.Phases.{output, deadline}
-use Rattle.rules.specs.Orders.{order, noted}
+use Rattle.rules.specs.Orders.{held, order, noted}
 use Rattle.rules.specs.Barriers.{barrier}
 use Rattle.rules.specs.Answers.{due}
 use Rattle.rules.specs.Steps.{fresh, atMoment, tick, Moved, ticked, clockMove, counted, meet, act, step, Quiet, fired}
 use Rattle.rules.specs.Soundness.{soon, consistent, sound}
 use Rattle.rules.specs.Calls.{leastParams, unused, noScenes, ownState}
 use Rattle.rules.specs.Said.{scenesAfter}
-use Rattle.base.proofs.Tests.{both, either-way}
-use Rattle.rules.proofs.Laws.Deadlines.{times-bounded, soon-within, within-soon, soon-due, due-is}
-use Rattle.rules.proofs.Laws.Phases.{timer-unheld}
-use Rattle.rules.proofs.Laws.Holding.{Fits, fits-view, fits-consistent, waiting-is-loose, fits-unheld, unheld-fits}
+use Rattle.base.proofs.Tests.{no, both, either-way}
+use Rattle.rules.proofs.Laws.Deadlines.{times-bounded, soon-near, soon-within, within-soon, near-due, due-is}
+use Rattle.rules.proofs.Laws.Making.{ruled}
+use Rattle.rules.proofs.Laws.Phases.{timer-sits}
+use Rattle.rules.proofs.Laws.Holding.{Fits, fits-view, fits-consistent, fits-sits, sits-fits, waiting-is-loose, loose-stands}
 use Rattle.rules.proofs.Laws.Steps.{tick-case, tick-keeps, three-are-enough}
 use Rattle.rules.proofs.Laws.Scenes.{learnt-in-range}
 use Rattle.rules.proofs.Laws.Fitting.{order-fits, noted-fits}
@@ -64,7 +65,7 @@ fits s h = fits-view s (h .soon) (h .consistent)
 
 -- a deadline lies at most 655,350 after the clock, and where there is none its number is 0
 pub due-near : (s : State) → sound s ≡ true → due (s .phase) ≤ s .clock + 655_350
-due-near s h = soon-due (s .clock) (s .phase) (sound-view s h .soon)
+due-near s h = near-due (s .clock) (deadline (s .phase)) (soon-near _ _ (sound-view s h .soon))
 
 -- the clock is at most 864,000
 pub due-bounded : (s : State) → sound s ≡ true → due (s .phase) ≤ lastStamp + longestDelay
@@ -76,7 +77,7 @@ due-bounded s h = omega (arith, due-near s h, sound-view s h .clock)
 pub fresh-is-sound : (p : Params) (k : List Scene) → paramsInRange p ≡ true → scenesInRange k ≡ true → sound (fresh p k) ≡ true
 unfolding fresh
 fresh-is-sound p k params scenes =
-    let f = unheld-fits (fresh p k) record { free = refl; powered = refl } tt in
+    let f = sits-fits (fresh p k) (tt, no) (loose-stands (fresh p k) record { free = refl; powered = refl }) in
     sound-whole (fresh p k) record { params = params; scenes = scenes; clock = omega arith; soon = f .soon; consistent = fits-consistent _ f }
 
 pub own-state-is-sound : sound ownState ≡ true
@@ -89,7 +90,8 @@ own-state-is-sound = fresh-is-sound leastParams noScenes refl refl
 fired-is-sound : (s : State) (t d : ℕ) → t ≤ lastStamp → Sound s → deadline (s .phase) ≡ At d → d ≤ t → Sound (fired s d)
 fired-is-sound s t d end h e past =
     let l = waiting-is-loose s d e (fits s h) in
-    let f = unheld-fits (fired s d) l (rw (due-is (s .phase) d e) at (timer-unheld (s .params) (times-bounded (s .params) (h .params)) (s .night) (s .clock) (s .phase) (fits-unheld s l (fits s h)))) in
+    let next = timer-sits (s .params) (times-bounded (s .params) (h .params)) (ruled s) (s .night) (s .clock) (s .phase) (λ day. rw day) (fits-sits s (fits s h)) in
+    let f = sits-fits (fired s d) (unfold held in rw (due-is (s .phase) d e) at next) (loose-stands (fired s d) l) in
     record { params = h .params; scenes = h .scenes; clock = omega arith; soon = f .soon; consistent = fits-consistent _ f }
 
 pub tick-is-sound : (s : State) (t : ℕ) → sound s ≡ true → t ≤ 864_000 → sound (tick s t) ≡ true
@@ -165,7 +167,7 @@ pub order-is-sound : (s : State) (i : Input) → sceneNumber i ≤ 63 → sound 
 order-is-sound s i small h way =
     let view = sound-view s h in
     let k = order-leaves s i in
-    let f = order-fits s (times-bounded (s .params) (view .params)) (fits s view) i way in
+    let f = order-fits s (fits s view) (times-bounded (s .params) (view .params)) i way in
     sound-whole (order s i)
     record {
       params = rw (k .params) (view .params);
@@ -180,7 +182,7 @@ pub noted-is-sound : (s : State) (i : Input) → sound s ≡ true → barrier s 
 noted-is-sound s i h way =
     let view = sound-view s h in
     let k = noted-leaves s i in
-    let f = noted-fits s (times-bounded (s .params) (view .params)) (fits s view) i way in
+    let f = noted-fits s (fits s view) i way in
     sound-whole (noted s i)
     record { params = rw (k .params) (view .params); scenes = rw (k .scenes) (view .scenes); clock = rw (k .clock) (view .clock); soon = f .soon; consistent = fits-consistent _ f }
 
