@@ -4,13 +4,14 @@
 use Prim.Native.Nat.{ℕ, _+_, _≤_}
 use mathlib.Core.Bool.{Bool, true, false}
 use mathlib.Core.Path.{_≡_, refl, sym, ap, subst, _∙_}
+use mathlib.Core.Logic.{⊎-elim}
+use lib.Dec.{T}
 use mathlib.Core.List.{List, [], _∷_, _++_, append-assoc}
 use native.Mathlib.Omega.{arith}
 use borrow.Author.Tests.{ne-eqb}
 use Rattle.rules.specs.declared.parameters.Params.{Params}
 use Rattle.rules.specs.declared.parameters.Scene.{Scene}
-use Rattle.rules.specs.declared.parameters.Recalled.{Recalled}
-use Rattle.rules.specs.declared.parameters.Recalled.the-variants.{Nothing, Output}
+use Rattle.rules.specs.declared.parameters.Recalled.the-variants.{Output}
 use Rattle.rules.specs.declared.phase.Phase.{Phase}
 use Rattle.rules.specs.declared.phase.Phase.the-variants.{Dark, Lit, Starting, Timed, Warning, Ending}
 use Rattle.rules.specs.declared.input.Force.{Force}
@@ -22,18 +23,19 @@ use Rattle.rules.specs.declared.state.Link.{Link}
 use Rattle.rules.specs.declared.state.Link.the-variants.{Up, BusDown, PowerDown}
 use Rattle.rules.specs.declared.state.State.{State}
 use Rattle.rules.specs.declared.barrier.Barrier.the-variants.{Open, Notes}
-use Rattle.rules.specs.Scenes.{recalled, learnt}
 use Rattle.rules.specs.Phases.{output, deadline, atDeadline, ownEnd}
-use Rattle.rules.specs.Orders.{earliestEnd, off, timedStop, nightFalls, withPhase, withNight, withScenes, standing, held, switch, timed, recall, learn, scene, nightMode, forced, lockDevice, bus, power, order}
+use Rattle.rules.specs.Orders.{earliestEnd, off, withPhase, held, switch, timed, recall, scene, order}
 use Rattle.rules.specs.Barriers.{row, rows, rowOf, setsValue, outranked, firstBarrier, barrierTo, barrier}
-use Rattle.rules.specs.Said.{NotedWhere}
+use Rattle.rules.specs.Said.{Flags, flagsAfter, NotedWhere}
 use Rattle.rules.specs.Steps.{fresh, atMoment, tickAt, tick, ticked, clockMove, step, Quiet}
 use Rattle.rules.specs.Lists.{Cue, cue, Played, plays}
-use Rattle.rules.specs.Promises.{Rises, turn, turns, Each, stateAt, Taken, recallsOn}
-use Rattle.rules.specs.Mistakes.{LeavesNoTrace, asksFor, stirs, OffIsHeard, AskingAgainIsIdle}
-use Rattle.base.proofs.Tests.{no, cond-case, either-way}
+use Rattle.rules.specs.Promises.{Rises, turn, turns, Each, stateAt, Taken, lights, busOn}
+use Rattle.rules.specs.Mistakes.{LeavesNoTrace, asksFor, overrides, stirs, OffIsHeard, AskingAgainIsIdle}
+use Rattle.base.proofs.Tests.{no, neither-left}
 use Rattle.rules.proofs.Laws.Steps.{tick-case, three-are-enough}
 use Rattle.rules.proofs.Laws.Ends.{ComesBy, earliest-within, earliest-by, ends-by-itself, off-case}
+use Rattle.rules.proofs.Laws.Making.{Brightens, lighting, busIsOn, fromLock, fromForce, fromPowerDown, Makes, keeps, darkens, steadies, times, begins, awaits, ends, night-times, night-ends, order-makes}
+use Rattle.rules.proofs.Laws.Orders.{order-leaves}
 use Rattle.rules.proofs.Laws.Barriers.{noted-where, noted-is-held}
 use Rattle.rules.proofs.Laws.Soundness.{move-clock, move-params, step-case, taken-is-the-order, step-params}
 use Rattle.rules.proofs.Laws.Lists.{plays-append, plays-keep-params}
@@ -65,26 +67,28 @@ unfolding off earliestEnd
 repeated-off-changes-nothing p m u Dark later h quiet = refl
 repeated-off-changes-nothing p m u (Ending d) later h quiet = rw (ne-eqb (p .offdelay) 0 (λ none. omega arith)) (ap Ending (omega arith))
 
--- the timers and the orders that do not stir keep it so
-
+-- a timer keeps it so
 timer-fades : (p : Params) (night : Bool) (m : ℕ) (phase : Phase) → Fades m phase → Fades m (atDeadline p night phase)
 unfolding atDeadline
 timer-fades p night m Dark h = tt
 timer-fades p night m (Ending d) h = tt
 
-off-fades : (p : Params) (t m : ℕ) (phase : Phase) → Fades m phase → Fades m (off p t phase)
-off-fades p t m Dark h = unfold off in tt
-off-fades p t m (Ending d) h = off-is-never-later p t m (Ending d) (h)
+-- and so does an order that neither brings light nor overrides: what fades has no light left to wait for, and ends by itself
+fading-ends : (p : Params) (m : ℕ) (phase : Phase) → output phase ≡ true → Fades m phase → ComesBy m (ownEnd p phase)
+fading-ends p m Dark lit h = no lit
+fading-ends p m (Ending d) lit h = h
 
-timed-stop-fades : (p : Params) (t m : ℕ) (phase : Phase) → Fades m phase → Fades m (timedStop p t phase)
-unfolding timedStop
-timed-stop-fades p t m Dark h = tt
-timed-stop-fades p t m (Ending d) h = h
-
-night-falls-fades : (p : Params) (t m : ℕ) (phase : Phase) → Fades m phase → Fades m (nightFalls p t phase)
-unfolding nightFalls
-night-falls-fades p t m Dark h = tt
-night-falls-fades p t m (Ending d) h = omega arith
+made-fades : {p : Params} {t : ℕ} {night before now : Bool} {Bright Holds : Type 0} {phase after : Phase} (m : ℕ) → (Bright → ⊥) → (Holds → ⊥) → Fades m phase →
+    Makes p t night before now Bright Holds phase after → Fades m after
+made-fades m unlit free h (keeps e) = h
+made-fades m unlit free h darkens = tt
+made-fades m unlit free h (steadies e b) = ⊎-elim unlit free b
+made-fades m unlit free h (times b) = unlit b
+made-fades m unlit free h (begins timed b some) = absurd (unlit b)
+made-fades m unlit free h (awaits was timed d e) = rw e at h
+made-fades {p} {phase = phase} m unlit free h (ends same lit some) = earliest-by _ m (ownEnd p phase) (fading-ends p m phase lit h)
+made-fades m unlit free h (night-times e day) = rw e at h
+made-fades m unlit free h (night-ends d e day) = omega (arith, rw e at h)
 
 -- ---- Off, of a state
 
@@ -118,53 +122,45 @@ heard-is-dark s m u later h = ap output (fading-is-dark s m u (s .phase) later (
 
 -- every order that does not stir keeps it so
 module _ (s : State) (m : ℕ) (h : Heard m s) where
-  in-phase : (phase : Phase) → Fades m phase → Heard m (withPhase s phase)
-  in-phase phase fades = record { fades = fades; unlocked = h .unlocked; unforced = h .unforced; linked = h .linked }
+  -- a bus that returns finds it up
+  bus-is-up : (i : Input) → overrides i ≡ false → T (busOn s i) → ⊥
+  bus-is-up (Bus Failure) calm on = no (sym calm)
+  bus-is-up (Bus Return) calm on = rw (h .linked) at on
 
-  switch-heard : (value : Bool) → value ≡ false → Heard m (switch s value)
-  unfolding switch
-  switch-heard true lit = no (sym lit)
-  switch-heard false unlit = in-phase _ (off-fades (s .params) (s .clock) m (s .phase) (h .fades))
+  unlit : (i : Input) → overrides i ≡ false → lights s i ≡ false → Brightens s i → ⊥
+  unlit i calm dark (lighting e) = no (sym dark ∙ e)
+  unlit i calm dark (busIsOn e) = bus-is-up i calm (subst T (sym e) tt)
+  unlit i calm dark (fromLock e) = no (sym (h .unlocked) ∙ e)
+  unlit i calm dark (fromForce e) = no (rw (h .unforced) at e)
+  unlit i calm dark (fromPowerDown e) = no (rw (h .linked) at e)
 
-  timed-heard : (value : Bool) → value ≡ false → Heard m (timed s value)
-  unfolding timed
-  timed-heard true lit = no (sym lit)
-  timed-heard false unlit = in-phase _ (timed-stop-fades (s .params) (s .clock) m (s .phase) (h .fades))
-
-  recall-heard : (found : Recalled) → recallsOn found ≡ false → Heard m (recall s found)
-  unfolding recall
-  recall-heard Nothing unlit = h
-  recall-heard (Output value) unlit = switch-heard value unlit
-
-  learn-heard : (number : ℕ) → Heard m (learn s number)
-  unfolding learn
-  learn-heard number =
-      either-way (Heard m) (s .params .learning) (withScenes s (learnt (s .scenes) number (output (s .phase)))) s
-      (record { fades = h .fades; unlocked = h .unlocked; unforced = h .unforced; linked = h .linked }) h
-
-  night-heard : (value : Bool) → Heard m (nightMode s value)
-  unfolding nightMode
-  night-heard true =
-      either-way (Heard m) (s .night) s (withPhase (withNight s true) (nightFalls (s .params) (s .clock) (s .phase))) h
-      (record { fades = night-falls-fades (s .params) (s .clock) m (s .phase) (h .fades); unlocked = h .unlocked; unforced = h .unforced; linked = h .linked })
-  night-heard false = record { fades = h .fades; unlocked = h .unlocked; unforced = h .unforced; linked = h .linked }
+  -- it leaves lock, force and link as they are
+  calm-flags : (i : Input) → overrides i ≡ false → (flagsAfter s i .lock ≡ false) × (flagsAfter s i .force ≡ Free) × (flagsAfter s i .link ≡ Up)
+  calm-flags (SwitchOnOff value) calm = (h .unlocked, h .unforced, h .linked)
+  calm-flags (TimedStartStop value) calm = (h .unlocked, h .unforced, h .linked)
+  calm-flags (NumberedSceneControl learns number) calm = (h .unlocked, h .unforced, h .linked)
+  calm-flags (SwitchOnOffForced Free) calm = (h .unlocked, refl, h .linked)
+  calm-flags (SwitchOnOffForced Off) calm = no (sym calm)
+  calm-flags (SwitchOnOffForced On) calm = no (sym calm)
+  calm-flags (LockDevice true) calm = no (sym calm)
+  calm-flags (LockDevice false) calm = (refl, h .unforced, h .linked)
+  calm-flags (NightMode value) calm = (h .unlocked, h .unforced, h .linked)
+  calm-flags (Bus Failure) calm = no (sym calm)
+  calm-flags (Bus Return) calm = (h .unlocked, h .unforced, rw (h .linked) refl)
+  calm-flags (Power Failure) calm = no (sym calm)
+  calm-flags (Power Return) calm = rw (h .linked) (h .unlocked, h .unforced, refl)
 
   order-heard : (i : Input) → stirs s i ≡ false → Heard m (order s i)
-  unfolding order scene forced lockDevice bus power
-  order-heard (SwitchOnOff value) calm = switch-heard value calm
-  order-heard (TimedStartStop value) calm = timed-heard value calm
-  order-heard (NumberedSceneControl true number) calm = learn-heard number
-  order-heard (NumberedSceneControl false number) calm = recall-heard (recalled (s .scenes) number) calm
-  order-heard (SwitchOnOffForced Free) calm = cond-case (Heard m) (standing (s .force)) _ _ (λ stood. no (rw (h .unforced) at stood)) (λ none. h)
-  order-heard (SwitchOnOffForced Off) calm = no (sym calm)
-  order-heard (SwitchOnOffForced On) calm = no (sym calm)
-  order-heard (LockDevice true) calm = no (sym calm)
-  order-heard (LockDevice false) calm = cond-case (Heard m) (s .lock) _ _ (λ stood. no (sym (h .unlocked) ∙ stood)) (λ none. h)
-  order-heard (NightMode value) calm = night-heard value
-  order-heard (Bus Failure) calm = no (sym calm)
-  order-heard (Bus Return) calm = subst (λ (l : Link). Heard m (bus s l Return)) (sym (h .linked)) h
-  order-heard (Power Failure) calm = no (sym calm)
-  order-heard (Power Return) calm = subst (λ (l : Link). Heard m (power s l Return)) (sym (h .linked)) h
+  order-heard i calm =
+      let free = neither-left (overrides i) (lights s i) calm in
+      let flags = calm-flags i free in
+      let same = order-leaves s i .flags in
+      record {
+        fades = made-fades m (unlit i free (rw free at calm)) (λ holds. no (sym free ∙ holds)) (h .fades) (order-makes s i);
+        unlocked = ap (λ (f : Flags). f .lock) same ∙ flags .0;
+        unforced = ap (λ (f : Flags). f .force) same ∙ flags .1;
+        linked = ap (λ (f : Flags). f .link) same ∙ flags .2;
+      }
 
 -- with neither lock nor force, nothing is noted
 heard-notes-nothing : (s : State) (m : ℕ) → Heard m s → (i : Input) → barrier s i ≡ Notes → ⊥
