@@ -440,7 +440,7 @@ run-in-two p scenes before later end rest e =
 pub only-the-newest-count : (p : Params) (scenes : List Scene) → OnlyTheNewestCount p scenes
 only-the-newest-count p scenes before one other d =
     let s : State = plays before (fresh p scenes) .state in
-    let same = newest-from s (plays-steady before (fresh p scenes) (λ holds. unfold fresh in inl refl)) one other d in
+    let same = newest-from s (plays-steady p scenes before) one other d in
     let there : (list : List Cue) → plays (before ++ list) (fresh p scenes) .state ≡ plays list s .state = λ list. ap (λ (x : Played). x .state) (plays-append before list (fresh p scenes)) in (
       same,
       λ later end. record {

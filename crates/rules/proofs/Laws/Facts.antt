@@ -77,7 +77,7 @@ agrees-exactly-when On phase = (λ h. (λ e. no cc, λ e. lit-exactly-when phase
 -- ---- the four rules on flags and phase
 
 module _ (lock : Bool) (force : Force) (phase : Phase) where
-  steady-exactly-when : (heldIsSteady lock force phase ≡ true) ↔ (Held lock force → (phase ≡ Dark) ⊎ (phase ≡ Lit))
+  pub steady-exactly-when : (heldIsSteady lock force phase ≡ true) ↔ (Held lock force → (phase ≡ Dark) ⊎ (phase ≡ Lit))
   unfolding heldIsSteady
   steady-exactly-when =
       let test = guarded (lock || standing force) (isDark phase || isLit phase) in (

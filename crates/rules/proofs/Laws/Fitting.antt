@@ -32,7 +32,7 @@ unfolding settle
 settle-stands s true l = loose-stands (withPhase s _) l
 settle-stands s false l = loose-stands (withPhase s _) l
 
-module _ (s : State) (f : Fits s) where
+module _ (s : State) (h : Stands s) where
   -- an order that leaves neither lock nor force, nor power down, may leave any phase
   loosely : (i : Input) → Loose (flagsAfter s i .lock) (flagsAfter s i .force) (flagsAfter s i .link) → Stands (order s i)
   loosely i l = loose-stands (order s i) (subst (λ (x : Flags). Loose (x .lock) (x .force) (x .link)) (sym (order-leaves s i .flags)) l)
@@ -56,24 +56,24 @@ module _ (s : State) (f : Fits s) where
 
   lock-stands : powerDown (s .link) ≡ false → (value : Bool) → Stands (lockDevice s value)
   unfolding lockDevice locked held forceDecides
-  lock-stands powered true = cond-case Stands (s .lock) _ _ (λ already. f .stands) (λ free. held-stands (withLock s true (output (s .phase))) (byMode (s .params .locking) (output (s .phase))) refl refl powered)
-  lock-stands powered false = cond-case Stands (s .lock) _ _ (λ stood. unlocked-stands powered (s .force) refl) (λ free. f .stands)
+  lock-stands powered true = cond-case Stands (s .lock) _ _ (λ already. h) (λ free. held-stands (withLock s true (output (s .phase))) (byMode (s .params .locking) (output (s .phase))) refl refl powered)
+  lock-stands powered false = cond-case Stands (s .lock) _ _ (λ stood. unlocked-stands powered (s .force) refl) (λ free. h)
 
   -- the link changes, then the mode acts unless lock or force stands
   bus-mode-stands : (link : Link) (mode : ℕ) → powerDown link ≡ false → Stands (busMode (withLink s link) mode)
   unfolding busMode held powerDownIsClear
   bus-mode-stands link mode powered =
       cond-case Stands (held s || eqb mode 0) (withLink s link) (settle (withLink s link) (eqb mode 2))
-      (λ keep. record { steady = f .stands .steady; decided = f .stands .decided; clear = rw powered })
+      (λ keep. record { steady = h .steady; decided = h .decided; clear = rw powered })
       (λ acts. settle-stands (withLink s link) (eqb mode 2) record { free = neither-left (held s) (eqb mode 0) acts; powered = powered })
 
   bus-stands : (link : Link) (event : Event) → Stands (bus s link event)
   unfolding bus
   bus-stands Up Failure = bus-mode-stands BusDown _ refl
-  bus-stands Up Return = f .stands
-  bus-stands BusDown Failure = f .stands
+  bus-stands Up Return = h
+  bus-stands BusDown Failure = h
   bus-stands BusDown Return = bus-mode-stands Up _ refl
-  bus-stands PowerDown event = f .stands
+  bus-stands PowerDown event = h
 
   -- Dark with nothing standing fits every rule
   fails-stands : Stands (powerFails s)
@@ -83,14 +83,14 @@ module _ (s : State) (f : Fits s) where
   power-stands : (link : Link) → s .link ≡ link → (event : Event) → Stands (power s link event)
   unfolding power powerReturns
   power-stands Up e Failure = fails-stands
-  power-stands Up e Return = f .stands
+  power-stands Up e Return = h
   power-stands BusDown e Failure = fails-stands
-  power-stands BusDown e Return = f .stands
-  power-stands PowerDown e Failure = f .stands
-  power-stands PowerDown e Return = settle-stands (withLink s Up) _ record { free = power-down-is-free s e f; powered = refl }
+  power-stands BusDown e Return = h
+  power-stands PowerDown e Failure = h
+  power-stands PowerDown e Return = settle-stands (withLink s Up) _ record { free = power-down-is-free s e h; powered = refl }
 
   -- each kind of input by what its row of barriers has left standing
-  order-stands : (i : Input) → barrier s i ≡ Open → Stands (order s i)
+  pub order-stands : (i : Input) → barrier s i ≡ Open → Stands (order s i)
   unfolding rowOf rows
   order-stands (SwitchOnOff value) way = loosely (SwitchOnOff value) (freely (open-is-unstopped s (SwitchOnOff value) way))
   order-stands (TimedStartStop value) way = loosely (TimedStartStop value) (freely (open-is-unstopped s (TimedStartStop value) way))
@@ -101,20 +101,23 @@ module _ (s : State) (f : Fits s) where
   order-stands (Bus event) way = unfold order in bus-stands (s .link) event
   order-stands (Power event) way = unfold order in power-stands (s .link) refl event
 
-  pub order-fits : Times (s .params) → (i : Input) → barrier s i ≡ Open → Fits (order s i)
-  order-fits n i way =
-      sits-fits (order s i) (subst (λ (t : ℕ). Sits (ruled (order s i)) t (order s i .phase)) (sym (order-leaves s i .clock)) (made-sits (s .params) n (fits-sits s f) (order-makes s i))) (order-stands i way)
-
   -- a value that is noted leaves the phase, and lock or force holds it still: the lock stands where a force is noted
-  noted-stands : (i : Input) → NotedWhere s i → Stands (noted s i)
+  pub noted-stands : (i : Input) → barrier s i ≡ Notes → Stands (noted s i)
   unfolding noted heldIsSteady forceDecides powerDownIsClear
-  noted-stands (SwitchOnOffForced force) w = record { steady = rw (w .locked) (rw (w .locked) at (f .stands .steady)); decided = rw (w .locked); clear = rw (w .linked) }
-  noted-stands (NightMode value) w = record { steady = f .stands .steady; decided = f .stands .decided; clear = rw (w .linked) }
+  noted-stands i way = go i (noted-where s i way)
+    where
+      go : (i : Input) → NotedWhere s i → Stands (noted s i)
+      go (SwitchOnOffForced force) w = record { steady = rw (w .locked) (rw (w .locked) at (h .steady)); decided = rw (w .locked); clear = rw (w .linked) }
+      go (NightMode value) w = record { steady = h .steady; decided = h .decided; clear = rw (w .linked) }
 
-  pub noted-fits : (i : Input) → barrier s i ≡ Notes → Fits (noted s i)
-  noted-fits i way =
-      let k = noted-leaves s i in
-      let sits = fits-sits s f in
-      sits-fits (noted s i)
-      (rw (k .clock, noted-phase s i) (sits .0), λ lit. rw (noted-is-held s i way .1) (and-false (noted s i .night)))
-      (noted-stands i (noted-where s i way))
+pub order-fits : (s : State) → Times (s .params) → Fits s → (i : Input) → barrier s i ≡ Open → Fits (order s i)
+order-fits s n f i way =
+    sits-fits (order s i)
+    (subst (λ (t : ℕ). Sits (ruled (order s i)) t (order s i .phase)) (sym (order-leaves s i .clock)) (made-sits (s .params) n (fits-sits s f) (order-makes s i)))
+    (order-stands s (f .stands) i way)
+
+pub noted-fits : (s : State) → Fits s → (i : Input) → barrier s i ≡ Notes → Fits (noted s i)
+noted-fits s f i way =
+    sits-fits (noted s i)
+    (rw (noted-leaves s i .clock, noted-phase s i) (fits-sits s f .0), λ lit. rw (noted-is-held s i way .1) (and-false (noted s i .night)))
+    (noted-stands s (f .stands) i way)

@@ -85,11 +85,11 @@ waiting-is-not-steady (Warning x) d e = (refl, refl)
 waiting-is-not-steady (Ending x) d e = (refl, refl)
 
 -- lock, force and power down leave only Dark or Lit
-pub waiting-is-loose : (s : State) (d : ℕ) → deadline (s .phase) ≡ At d → Fits s → LooseIn s
+pub waiting-is-loose : (s : State) (d : ℕ) → deadline (s .phase) ≡ At d → Stands s → LooseIn s
 unfolding heldIsSteady powerDownIsClear
-waiting-is-loose s d e f =
+waiting-is-loose s d e h =
     let n = waiting-is-not-steady (s .phase) d e in
-    record { free = unguarded _ _ (f .stands .steady) (rw (n .0, n .1)); powered = unguarded _ _ (f .stands .clear) (rw (n .0)) }
+    record { free = unguarded _ _ (h .steady) (rw (n .0, n .1)); powered = unguarded _ _ (h .clear) (rw (n .0)) }
 
 free-is-decided : (lock : Bool) (force : Force) (phase : Phase) → (lock || standing force) ≡ false → forceDecides lock force phase ≡ true
 unfolding forceDecides
@@ -108,9 +108,9 @@ none-of true b c h = no h
 none-of false b c h = not-true (b || c) h
 
 -- power down has cleared lock and force
-pub power-down-is-free : (s : State) → s .link ≡ PowerDown → Fits s → (s .lock || standing (s .force)) ≡ false
+pub power-down-is-free : (s : State) → s .link ≡ PowerDown → Stands s → (s .lock || standing (s .force)) ≡ false
 unfolding powerDownIsClear
-power-down-is-free s e f = none-of (s .night) (s .lock) (standing (s .force)) (both (isDark (s .phase)) _ (rw e at (f .stands .clear)) .1)
+power-down-is-free s e h = none-of (s .night) (s .lock) (standing (s .force)) (both (isDark (s .phase)) _ (rw e at (h .clear)) .1)
 
 -- ---- where lock or force holds it
 

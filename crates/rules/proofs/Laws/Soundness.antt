@@ -32,10 +32,10 @@ use Rattle.base.proofs.Tests.{no, both, either-way}
 use Rattle.rules.proofs.Laws.Deadlines.{times-bounded, soon-near, soon-within, within-soon, near-due, due-is}
 use Rattle.rules.proofs.Laws.Making.{ruled}
 use Rattle.rules.proofs.Laws.Phases.{timer-sits}
-use Rattle.rules.proofs.Laws.Holding.{Fits, fits-view, fits-consistent, fits-sits, sits-fits, waiting-is-loose, loose-stands}
+use Rattle.rules.proofs.Laws.Holding.{Stands, Fits, fits-view, fits-consistent, fits-sits, sits-fits, waiting-is-loose, loose-stands}
 use Rattle.rules.proofs.Laws.Steps.{tick-case, tick-keeps, three-are-enough}
 use Rattle.rules.proofs.Laws.Scenes.{learnt-in-range}
-use Rattle.rules.proofs.Laws.Fitting.{order-fits, noted-fits}
+use Rattle.rules.proofs.Laws.Fitting.{order-stands, noted-stands, order-fits, noted-fits}
 use Rattle.rules.proofs.Laws.Orders.{order-leaves, noted-leaves, noted-phase}
 
 -- ---- the rules of a sound state by name
@@ -89,7 +89,7 @@ own-state-is-sound = fresh-is-sound leastParams noScenes refl refl
 -- a phase with a deadline is one that nothing holds, and its timer leads to another that may stand so
 fired-is-sound : (s : State) (t d : ℕ) → t ≤ lastStamp → Sound s → deadline (s .phase) ≡ At d → d ≤ t → Sound (fired s d)
 fired-is-sound s t d end h e past =
-    let l = waiting-is-loose s d e (fits s h) in
+    let l = waiting-is-loose s d e (fits s h .stands) in
     let next = timer-sits (s .params) (times-bounded (s .params) (h .params)) (ruled s) (s .night) (s .clock) (s .phase) (λ day. rw day) (fits-sits s (fits s h)) in
     let f = sits-fits (fired s d) (unfold held in rw (due-is (s .phase) d e) at next) (loose-stands (fired s d) l) in
     record { params = h .params; scenes = h .scenes; clock = omega arith; soon = f .soon; consistent = fits-consistent _ f }
@@ -167,7 +167,7 @@ pub order-is-sound : (s : State) (i : Input) → sceneNumber i ≤ 63 → sound 
 order-is-sound s i small h way =
     let view = sound-view s h in
     let k = order-leaves s i in
-    let f = order-fits s (fits s view) (times-bounded (s .params) (view .params)) i way in
+    let f = order-fits s (times-bounded (s .params) (view .params)) (fits s view) i way in
     sound-whole (order s i)
     record {
       params = rw (k .params) (view .params);
@@ -210,6 +210,16 @@ noted-is-the-note s i t way = rw way
 pub taken-is-the-order : (s : State) (i : Input) (t : ℕ) → barrier (clockMove s t .state) i ≡ Open → step s i t .state ≡ order (clockMove s t .state) i
 unfolding step act meet counted
 taken-is-the-order s i t way = rw way
+
+-- what lock, force and power ask of a phase needs no more of a state than that they were asked it before
+tick-stands : (s : State) (t : ℕ) → Stands s → Stands (tick s t)
+tick-stands s t h = tick-case Stands s t (λ d e past. loose-stands (fired s d) (waiting-is-loose s d e h)) (λ quiet. h)
+
+pub step-stands : (s : State) (i : Input) (t : ℕ) → Stands s → Stands (step s i t .state)
+step-stands s i t h = step-case Stands s i t (order-stands (clockMove s t .state) there i) (noted-stands (clockMove s t .state) there i) there
+  where
+    there : Stands (clockMove s t .state)
+    there = let c = tick-stands _ t (tick-stands _ t (tick-stands s t h)) in unfold clockMove ticked in record { steady = c .steady; decided = c .decided; clear = c .clear }
 
 pub step-is-sound : (s : State) (i : Input) (t : ℕ) → sceneNumber i ≤ 63 → sound s ≡ true → s .clock ≤ t → t ≤ 864_000 → sound (step s i t .state) ≡ true
 step-is-sound s i t small h later end =
