@@ -91,17 +91,18 @@ noted-exactly-when s i = first-that-fits s i Notes
 
 -- ---- what an open way says of the flags
 
--- none of these three stands, as far as the row names it
-pub record Unstopped (power lock force : Bool) : Type 0 where
+-- none of the four stands, as far as the row names it
+pub record Unstopped (power bus lock force : Bool) : Type 0 where
   pub powered : power ≡ false
+  pub connected : bus ≡ false
   pub unlocked : lock ≡ false
   pub unforced : force ≡ false
 
-unstopped-view : (power bus lock force value : Bool) → T (fits Open power bus lock force value) → Unstopped power lock force
-unstopped-view false false false false value h = record { powered = refl; unlocked = refl; unforced = refl }
+unstopped-view : (power bus lock force value : Bool) → T (fits Open power bus lock force value) → Unstopped power bus lock force
+unstopped-view false false false false value h = record { powered = refl; connected = refl; unlocked = refl; unforced = refl }
 
-pub open-is-unstopped : (s : State) (i : Input) → barrier s i ≡ Open → Unstopped (powerStops s i) (lockStops s i) (forceStops s i)
-open-is-unstopped s i way = unstopped-view _ (busStops s i) _ _ (isValue i) (taken-exactly-when s i .0 way)
+pub open-is-unstopped : (s : State) (i : Input) → barrier s i ≡ Open → Unstopped (powerStops s i) (busStops s i) (lockStops s i) (forceStops s i)
+open-is-unstopped s i way = unstopped-view _ _ _ _ (isValue i) (taken-exactly-when s i .0 way)
 
 -- ---- and a way on which an input is only noted
 
@@ -118,7 +119,7 @@ held-back-view false false false true true h = record { powered = refl; connecte
 pub noted-is-held-back : (s : State) (i : Input) → barrier s i ≡ Notes → HeldBack (powerStops s i) (busStops s i) (lockStops s i || forceStops s i) (isValue i)
 noted-is-held-back s i way = held-back-view _ _ (lockStops s i) (forceStops s i) _ (noted-exactly-when s i .0 way)
 
-neither-down : (link : Link) → powerDown link ≡ false → busDown link ≡ false → link ≡ Up
+pub neither-down : (link : Link) → powerDown link ≡ false → busDown link ≡ false → link ≡ Up
 neither-down Up power bus = refl
 neither-down BusDown power bus = cc
 neither-down PowerDown power bus = cc

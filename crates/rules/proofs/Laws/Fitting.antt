@@ -15,7 +15,7 @@ use Rattle.rules.specs.declared.state.State.{State}
 use Rattle.rules.specs.declared.barrier.Barrier.the-variants.{Open, Notes}
 use Rattle.rules.specs.Phases.{output}
 use Rattle.rules.specs.Orders.{withPhase, withForce, withLink, withLock, standing, held, settle, byMode, forced, locked, unlocked, lockDevice, busMode, bus, powerFails, powerReturns, power, order, noted}
-use Rattle.rules.specs.Barriers.{powerDown, rows, rowOf, barrier}
+use Rattle.rules.specs.Barriers.{powerDown, busDown, rows, rowOf, barrier}
 use Rattle.rules.specs.Said.{Flags, flagsAfter, NotedWhere}
 use Rattle.rules.specs.Soundness.{heldIsSteady, forceDecides, powerDownIsClear}
 use Rattle.base.proofs.Tests.{neither-left, cond-case}
@@ -38,7 +38,7 @@ module _ (s : State) (h : Stands s) where
   loosely i l = loose-stands (order s i) (subst (λ (x : Flags). Loose (x .lock) (x .force) (x .link)) (sym (order-leaves s i .flags)) l)
 
   -- neither stands where both would have stopped the input
-  freely : Unstopped (powerDown (s .link)) (s .lock) (standing (s .force)) → LooseIn s
+  freely : Unstopped (powerDown (s .link)) (busDown (s .link)) (s .lock) (standing (s .force)) → LooseIn s
   freely c = record { free = rw (c .unlocked) (c .unforced); powered = c .powered }
 
   forced-stands : s .lock ≡ false → powerDown (s .link) ≡ false → (force : Force) → Stands (order s (SwitchOnOffForced force))

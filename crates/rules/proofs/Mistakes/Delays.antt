@@ -14,19 +14,18 @@ use Rattle.rules.specs.declared.parameters.Scene.{Scene}
 use Rattle.rules.specs.declared.parameters.Recalled.the-variants.{Output}
 use Rattle.rules.specs.declared.phase.Phase.{Phase}
 use Rattle.rules.specs.declared.phase.Phase.the-variants.{Dark, Lit, Starting, Timed, Warning, Ending}
-use Rattle.rules.specs.declared.input.Force.{Force}
 use Rattle.rules.specs.declared.input.Force.the-variants.{Free, Off, On}
 use Rattle.rules.specs.declared.input.Event.the-variants.{Failure, Return}
 use Rattle.rules.specs.declared.input.Input.{Input}
 use Rattle.rules.specs.declared.input.Input.the-variants.{SwitchOnOff, TimedStartStop, NumberedSceneControl, SwitchOnOffForced, LockDevice, NightMode, Bus, Power}
-use Rattle.rules.specs.declared.state.Link.{Link}
-use Rattle.rules.specs.declared.state.Link.the-variants.{Up, BusDown, PowerDown}
+use Rattle.rules.specs.declared.state.Link.the-variants.{Up}
 use Rattle.rules.specs.declared.state.State.{State}
 use Rattle.rules.specs.declared.barrier.Barrier.the-variants.{Open, Notes}
+use Rattle.rules.specs.Scenes.{recalled}
 use Rattle.rules.specs.Phases.{output, deadline, atDeadline, ownEnd}
-use Rattle.rules.specs.Orders.{earliestEnd, off, withPhase, held, switch, timed, recall, scene, order}
-use Rattle.rules.specs.Barriers.{row, rows, rowOf, setsValue, outranked, firstBarrier, barrierTo, barrier}
-use Rattle.rules.specs.Said.{Flags, flagsAfter, NotedWhere}
+use Rattle.rules.specs.Orders.{standing, earliestEnd, off, withPhase, held, switch, timed, recall, scene, order}
+use Rattle.rules.specs.Barriers.{powerDown, busDown, rows, rowOf, barrier}
+use Rattle.rules.specs.Said.{Flags, flagsAfter}
 use Rattle.rules.specs.Steps.{fresh, atMoment, tickAt, tick, ticked, clockMove, step, Quiet}
 use Rattle.rules.specs.Lists.{Cue, cue, Played, plays}
 use Rattle.rules.specs.Promises.{Rises, turn, turns, Each, stateAt, Taken, lights, busOn}
@@ -35,8 +34,8 @@ use Rattle.base.proofs.Tests.{no, neither-left}
 use Rattle.rules.proofs.Laws.Steps.{tick-case, three-are-enough}
 use Rattle.rules.proofs.Laws.Ends.{ComesBy, earliest-within, earliest-by, ends-by-itself, off-case}
 use Rattle.rules.proofs.Laws.Making.{Brightens, lighting, busIsOn, fromLock, fromForce, fromPowerDown, Makes, keeps, darkens, steadies, times, begins, awaits, ends, night-times, night-ends, order-makes}
-use Rattle.rules.proofs.Laws.Orders.{order-leaves}
-use Rattle.rules.proofs.Laws.Barriers.{noted-where, noted-is-held}
+use Rattle.rules.proofs.Laws.Orders.{none-stands-exactly-when, order-leaves}
+use Rattle.rules.proofs.Laws.Barriers.{Unstopped, open-is-unstopped, neither-down, noted-where, noted-is-held}
 use Rattle.rules.proofs.Laws.Soundness.{move-clock, move-params, step-case, taken-is-the-order, step-params}
 use Rattle.rules.proofs.Laws.Lists.{plays-append, plays-keep-params}
 use Rattle.rules.proofs.Laws.Moments.{at-case, at-the-end, rises-from, rises-to, at-after}
@@ -174,47 +173,37 @@ step-heard s i t m h calm =
 
 -- ---- an Off or scene-off
 
--- what asks for an output switches, On or Off
+-- On or Off asks for an output, or a scene that is recalled
+asking-case : (P : Input → Type 0) (s : State) (i : Input) (value : Bool) → asksFor s i ≡ Output value → P (SwitchOnOff value) →
+    ((number : ℕ) → recalled (s .scenes) number ≡ Output value → P (NumberedSceneControl false number)) → P i
+asking-case P s (SwitchOnOff on) value asks switched found = let same : on ≡ value = cc in rw same switched
+asking-case P s (TimedStartStop start) value asks switched found = no cc
+asking-case P s (NumberedSceneControl true number) value asks switched found = no cc
+asking-case P s (NumberedSceneControl false number) value asks switched found = found number asks
+asking-case P s (SwitchOnOffForced force) value asks switched found = no cc
+asking-case P s (LockDevice lock) value asks switched found = no cc
+asking-case P s (NightMode night) value asks switched found = no cc
+asking-case P s (Bus event) value asks switched found = no cc
+asking-case P s (Power event) value asks switched found = no cc
+
+-- which switches, On or Off
 pub asking-switches : (s : State) (i : Input) (value : Bool) → asksFor s i ≡ Output value → order s i ≡ switch s value
 unfolding order scene recall
-asking-switches s (SwitchOnOff on) value asks = let same : on ≡ value = cc in rw same
-asking-switches s (TimedStartStop start) value asks = cc
-asking-switches s (NumberedSceneControl true number) value asks = cc
-asking-switches s (NumberedSceneControl false number) value asks = rw asks
-asking-switches s (SwitchOnOffForced force) value asks = cc
-asking-switches s (LockDevice lock) value asks = cc
-asking-switches s (NightMode night) value asks = cc
-asking-switches s (Bus event) value asks = cc
-asking-switches s (Power event) value asks = cc
+asking-switches s i value asks = asking-case (λ (i : Input). order s i ≡ switch s value) s i value asks refl (λ number found. rw found)
 
 -- and sets no value, so that it is not noted
 pub asking-is-not-noted : (s : State) (i : Input) (value : Bool) → asksFor s i ≡ Output value → barrier s i ≡ Notes → ⊥
-asking-is-not-noted s i value asks way = go i asks (noted-where s i way)
-  where
-    go : (i : Input) → asksFor s i ≡ Output value → NotedWhere s i → ⊥
-    go (SwitchOnOffForced force) asks w = no cc
-    go (NightMode night) asks w = no cc
+asking-is-not-noted s i value asks = asking-case (λ (i : Input). barrier s i ≡ Notes → ⊥) s i value asks (noted-where s (SwitchOnOff value)) (λ number found. noted-where s (NumberedSceneControl false number))
 
 -- where one is taken no lock and no force stands, and the link is up
-nothing-stands : (link : Link) (lock : Bool) (force : Force) → firstBarrier (row true true true true) false link lock force ≡ Open → (lock ≡ false) × (force ≡ Free) × (link ≡ Up)
-unfolding outranked firstBarrier
-nothing-stands Up false Free way = (refl, refl, refl)
-nothing-stands Up false Off way = (cc, cc, cc)
-nothing-stands Up false On way = (cc, cc, cc)
-nothing-stands Up true force way = (cc, cc, cc)
-nothing-stands BusDown lock force way = (cc, cc, cc)
-nothing-stands PowerDown lock force way = (cc, cc, cc)
+nothing-stands : (s : State) → Unstopped (powerDown (s .link)) (busDown (s .link)) (s .lock) (standing (s .force)) → (s .lock ≡ false) × (s .force ≡ Free) × (s .link ≡ Up)
+nothing-stands s c = (c .unlocked, none-stands-exactly-when (s .force) .0 (c .unforced), neither-down (s .link) (c .powered) (c .connected))
 
-taken-finds-nothing : (s : State) (i : Input) → asksFor s i ≡ Output false → barrier s i ≡ Open → (s .lock ≡ false) × (s .force ≡ Free) × (s .link ≡ Up)
-unfolding barrier barrierTo rowOf rows setsValue
-taken-finds-nothing s (SwitchOnOff value) off way = nothing-stands (s .link) (s .lock) (s .force) way
-taken-finds-nothing s (TimedStartStop value) off way = (cc, cc, cc)
-taken-finds-nothing s (NumberedSceneControl learns number) off way = nothing-stands (s .link) (s .lock) (s .force) way
-taken-finds-nothing s (SwitchOnOffForced force) off way = (cc, cc, cc)
-taken-finds-nothing s (LockDevice value) off way = (cc, cc, cc)
-taken-finds-nothing s (NightMode value) off way = (cc, cc, cc)
-taken-finds-nothing s (Bus event) off way = (cc, cc, cc)
-taken-finds-nothing s (Power event) off way = (cc, cc, cc)
+taken-finds-nothing : (s : State) (i : Input) (value : Bool) → asksFor s i ≡ Output value → barrier s i ≡ Open → (s .lock ≡ false) × (s .force ≡ Free) × (s .link ≡ Up)
+unfolding rowOf rows
+taken-finds-nothing s i value asks =
+    asking-case (λ (i : Input). barrier s i ≡ Open → (s .lock ≡ false) × (s .force ≡ Free) × (s .link ≡ Up)) s i value asks
+    (λ way. nothing-stands s (open-is-unstopped s (SwitchOnOff value) way)) (λ number found way. nothing-stands s (open-is-unstopped s (NumberedSceneControl false number) way))
 
 -- it is heard
 off-heard : (s : State) → (s .lock ≡ false) × (s .force ≡ Free) × (s .link ≡ Up) → Heard (s .clock + s .params .offdelay) (switch s false)
@@ -224,7 +213,7 @@ off-heard s free = record { fades = off-within-its-delay (s .params) (s .clock) 
 taken-is-heard : (s : State) (i : Input) (t : ℕ) → Taken (turn s t i) → asksFor (clockMove s t .state) i ≡ Output false → Heard (t + s .params .offdelay) (step s i t .state)
 taken-is-heard s i t way off =
     let met : State = clockMove s t .state in
-    rw (taken-is-the-order s i t way ∙ asking-switches met i false off) (rw (move-clock s t, move-params s t) at (off-heard met (taken-finds-nothing met i off way)))
+    rw (taken-is-the-order s i t way ∙ asking-switches met i false off) (rw (move-clock s t, move-params s t) at (off-heard met (taken-finds-nothing met i false off way)))
 
 -- and a later one, taken or not, leaves what the clock move alone leaves
 asking-again-leaves-no-trace : (s : State) (i : Input) (m u : ℕ) → Heard m s → m ≤ u + s .params .offdelay → asksFor (clockMove s u .state) i ≡ Output false → LeavesNoTrace s i u
