@@ -57,12 +57,12 @@ module _ (p : Params) (n : Times p) where
   timer-sits ruled night t (Ending d) day h = (tt, no)
 
   -- an order keeps a deadline or sets one that is soon, and leaves Lit only where night does not rule
-  pub made-sits : {t : ℕ} {night before now : Bool} {Bright Holds : Type 0} {phase after : Phase} → Sits before t phase → Makes p t night before now Bright Holds phase after → Sits now t after
+  pub made-sits : {t : ℕ} {night before now : Bool} {Bright Holds Dims : Type 0} {phase after : Phase} → Sits before t phase → Makes p t night before now Bright Holds Dims phase after → Sits now t after
   made-sits {now = now} {phase = phase} h (keeps e) = (h .0, λ lit. failed now (λ on. no (sym (h .1 lit) ∙ e (lit-may-last phase lit) on)))
-  made-sits h darkens = (tt, no)
-  made-sits h (steadies e b) = (tt, λ lit. e)
-  made-sits h (times b) = (omega arith, no)
-  made-sits h (begins timed b some) = (omega arith, no)
+  made-sits h (darkens x) = (tt, no)
+  made-sits h (steadies e b x) = (tt, λ lit. e)
+  made-sits h (times b x) = (omega arith, no)
+  made-sits h (begins timed dark b some) = (omega arith, no)
   made-sits h (awaits was timed d e) = (rw e at (h .0), no)
   made-sits {t} {phase = phase} h (ends same lit some) =
       (omega (arith, earliest-within (t + p .offdelay) (ownEnd p phase), earliest-from (t + p .offdelay) (t + 1) (ownEnd p phase) (omega arith) (own-end-from p (t + 1) phase (near-from t (deadline phase) (h .0)))), no)

@@ -77,13 +77,13 @@ fading-ends : (p : Params) (m : ℕ) (phase : Phase) → output phase ≡ true �
 fading-ends p m Dark lit h = no lit
 fading-ends p m (Ending d) lit h = h
 
-made-fades : {p : Params} {t : ℕ} {night before now : Bool} {Bright Holds : Type 0} {phase after : Phase} (m : ℕ) → (Bright → ⊥) → (Holds → ⊥) → Fades m phase →
-    Makes p t night before now Bright Holds phase after → Fades m after
+made-fades : {p : Params} {t : ℕ} {night before now : Bool} {Bright Holds Dims : Type 0} {phase after : Phase} (m : ℕ) → (Bright → ⊥) → (Holds → ⊥) → Fades m phase →
+    Makes p t night before now Bright Holds Dims phase after → Fades m after
 made-fades m unlit free h (keeps e) = h
-made-fades m unlit free h darkens = tt
-made-fades m unlit free h (steadies e b) = ⊎-elim unlit free b
-made-fades m unlit free h (times b) = unlit b
-made-fades m unlit free h (begins timed b some) = absurd (unlit b)
+made-fades m unlit free h (darkens x) = tt
+made-fades m unlit free h (steadies e b x) = ⊎-elim unlit free b
+made-fades m unlit free h (times b x) = unlit b
+made-fades m unlit free h (begins timed dark b some) = absurd (unlit b)
 made-fades m unlit free h (awaits was timed d e) = rw e at h
 made-fades {p} {phase = phase} m unlit free h (ends same lit some) = earliest-by _ m (ownEnd p phase) (fading-ends p m phase lit h)
 made-fades m unlit free h (night-times e day) = rw e at h

@@ -64,13 +64,13 @@ module _ (p : Params) where
   kept-over before now m (Ending d) e h = λ on. h (e refl on)
 
   -- an order leaves light as long as it was, or shorter, but for what brings light and nightfall: these have room for the longest light
-  pub made-over : {t : ℕ} {night before now : Bool} {Bright Holds : Type 0} {phase after : Phase} (m : ℕ) → (Bright ⊎ (night ≡ false) → t + longestLight p ≤ m) → OverBy before m phase →
-      Makes p t night before now Bright Holds phase after → OverBy now m after
+  pub made-over : {t : ℕ} {night before now : Bool} {Bright Holds Dims : Type 0} {phase after : Phase} (m : ℕ) → (Bright ⊎ (night ≡ false) → t + longestLight p ≤ m) → OverBy before m phase →
+      Makes p t night before now Bright Holds Dims phase after → OverBy now m after
   made-over {before = before} {now = now} {phase = phase} m room h (keeps e) = kept-over before now m phase e h
-  made-over m room h darkens = tt
-  made-over m room h (steadies e b) = e
-  made-over m room h (times b) = omega (arith, room (inl b))
-  made-over m room h (begins timed b some) = omega (arith, room (inl b))
+  made-over m room h (darkens x) = tt
+  made-over m room h (steadies e b x) = e
+  made-over m room h (times b x) = omega (arith, room (inl b))
+  made-over m room h (begins timed dark b some) = omega (arith, room (inl b))
   made-over m room h (awaits was timed d e) = rw e at h
   made-over {before = before} {phase = phase} m room h (ends same lit some) = λ on. earliest-by _ m (ownEnd p phase) (over-ends before m phase (same on) lit h)
   made-over m room h (night-times e day) = omega (arith, room (inr day))

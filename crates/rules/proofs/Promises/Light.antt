@@ -18,12 +18,13 @@ use Rattle.rules.specs.declared.input.Input.the-variants.{SwitchOnOff, T
 use Rattle.rules.specs.declared.state.State.{State}
 use Rattle.rules.specs.Scenes.{recalled}
 use Rattle.rules.specs.Phases.{output, deadline, litAt, atDeadline, setOn}
-use Rattle.rules.specs.Orders.{on, timedStart, nightFalls, held, switch, timed, recall, learn, scene, nightMode, order}
+use Rattle.rules.specs.Orders.{on, timedStart, held, switch, timed, recall, scene, order}
 use Rattle.rules.specs.Steps.{fresh, ticked, clockMove, step, Quiet, fired}
 use Rattle.rules.specs.Lists.{Cue, cue, plays}
 use Rattle.rules.specs.Promises.{Rises, Turn, turn, turns, Each, stateAt, Taken, recallsOn, recallsOff, lights, dims, longestLight, NotBefore, ShowsLight, turnAfter, LightDue, LightPromise, StrongLightPromise}
-use Rattle.base.proofs.Tests.{no, cond-zero, either-way, by-order}
+use Rattle.base.proofs.Tests.{no, cond-zero, by-order}
 use Rattle.rules.proofs.Promises.Lasting.{OverBy}
+use Rattle.rules.proofs.Laws.Making.{awaited, Makes, keeps, darkens, steadies, times, begins, awaits, ends, night-times, night-ends, order-makes}
 use Rattle.rules.proofs.Laws.Steps.{three-are-enough}
 use Rattle.rules.proofs.Laws.Soundness.{move-clock, move-params, step-phase-case, taken-is-the-order, step-clock, step-params}
 use Rattle.rules.proofs.Laws.Timers.{the-first-timer-first, no-timer-due-no-move}
@@ -58,54 +59,20 @@ Waits d (Timed e) = ⊥
 Waits d (Warning e) = ⊥
 Waits d (Ending e) = ⊥
 
-on-waits : (p : Params) (night held : Bool) (t d : ℕ) (phase : Phase) → Waits d phase → Waits d (on p night held t phase)
-unfolding on
-on-waits p night held t d (Starting timed e) h = h
+waits-awaited : (d : ℕ) (phase : Phase) → Waits d phase → (awaited phase ≡ true) × (output phase ≡ false)
+waits-awaited d (Starting timed e) h = (refl, refl)
 
-timed-start-waits : (p : Params) (t d : ℕ) (phase : Phase) → Waits d phase → Waits d (timedStart p t phase)
-unfolding timedStart
-timed-start-waits p t d (Starting timed e) h = h
-
-night-falls-waits : (p : Params) (t d : ℕ) (phase : Phase) → Waits d phase → Waits d (nightFalls p t phase)
-unfolding nightFalls
-night-falls-waits p t d (Starting timed e) h = h
-
-module _ (s : State) (d : ℕ) (waits : Waits d (s .phase)) where
-  switch-waits : (value : Bool) → not value ≡ false → Waits d (switch s value .phase)
-  unfolding switch
-  switch-waits true e = on-waits (s .params) (s .night) (held s) (s .clock) d (s .phase) waits
-  switch-waits false e = no (sym e)
-
-  timed-waits : (value : Bool) → not value ≡ false → Waits d (timed s value .phase)
-  unfolding timed
-  timed-waits true e = timed-start-waits (s .params) (s .clock) d (s .phase) waits
-  timed-waits false e = no (sym e)
-
-  recall-waits : (found : Recalled) → recallsOff found ≡ false → Waits d (recall s found .phase)
-  unfolding recall
-  recall-waits Nothing e = waits
-  recall-waits (Output value) e = switch-waits value e
-
-  learn-waits : (number : ℕ) → Waits d (learn s number .phase)
-  unfolding learn
-  learn-waits number = either-way (λ (u : State). Waits d (u .phase)) (s .params .learning) _ _ waits waits
-
-  night-waits : (value : Bool) → Waits d (nightMode s value .phase)
-  unfolding nightMode
-  night-waits true = either-way (λ (u : State). Waits d (u .phase)) (s .night) _ _ waits (night-falls-waits (s .params) (s .clock) d (s .phase) waits)
-  night-waits false = waits
-
-  order-waits : (i : Input) → dims s i ≡ false → Waits d (order s i .phase)
-  unfolding order scene
-  order-waits (SwitchOnOff value) e = switch-waits value e
-  order-waits (TimedStartStop value) e = timed-waits value e
-  order-waits (NumberedSceneControl true number) e = learn-waits number
-  order-waits (NumberedSceneControl false number) e = recall-waits (recalled (s .scenes) number) e
-  order-waits (NightMode value) e = night-waits value
-  order-waits (SwitchOnOffForced force) e = no (sym e)
-  order-waits (LockDevice value) e = no (sym e)
-  order-waits (Bus event) e = no (sym e)
-  order-waits (Power event) e = no (sym e)
+made-waits : {p : Params} {t : ℕ} {night before now : Bool} {Bright Holds Dims : Type 0} {phase after : Phase} (d : ℕ) → (Dims → ⊥) → Waits d phase →
+    Makes p t night before now Bright Holds Dims phase after → Waits d after
+made-waits d undimmed h (keeps e) = h
+made-waits d undimmed h (darkens x) = undimmed x
+made-waits {phase = phase} d undimmed h (steadies e b x) = undimmed (x (waits-awaited d phase h .0))
+made-waits {phase = phase} d undimmed h (times b x) = undimmed (x (waits-awaited d phase h .0))
+made-waits d undimmed h (begins timed dark b some) = absurd (rw dark at h)
+made-waits d undimmed h (awaits was timed x e) = rw e at h
+made-waits {phase = phase} d undimmed h (ends same lit some) = no (sym (waits-awaited d phase h .1) ∙ lit)
+made-waits d undimmed h (night-times e day) = rw e at h
+made-waits d undimmed h (night-ends x e day) = rw e at h
 
 not-yet-due : (t d : ℕ) (phase : Phase) → t < d → Waits d phase → Quiet t (deadline phase)
 not-yet-due t d (Starting timed e) early h = omega arith
@@ -113,7 +80,7 @@ not-yet-due t d (Starting timed e) early h = omega arith
 step-waits : (s : State) (i : Input) (t d : ℕ) → t < d → Waits d (s .phase) → (Taken (turn s t i) → dims (clockMove s t .state) i ≡ false) → Waits d (step s i t .state .phase)
 step-waits s i t d early waits undimmed =
     let there : Waits d (clockMove s t .state .phase) = rw (no-timer-due-no-move s t (not-yet-due t d (s .phase) early waits)) waits in
-    step-phase-case (Waits d) s i t (λ way. order-waits (clockMove s t .state) d there i (undimmed way)) there
+    step-phase-case (Waits d) s i t (λ way. made-waits d (λ dims. no (sym (undimmed way) ∙ dims)) there (order-makes (clockMove s t .state) i)) there
 
 -- it ends in light
 
@@ -278,81 +245,24 @@ light p scenes cues end rises some before a i later whole due =
 
 -- ---- a lamp that is lit when the order is taken
 
-lit-is-on : (p : Params) (timed : Bool) (t : ℕ) → output (litAt p timed t) ≡ true
-unfolding litAt
-lit-is-on p true t = refl
-lit-is-on p false t = refl
-
-on-stays-lit : (p : Params) (night held : Bool) (t : ℕ) (phase : Phase) → output phase ≡ true → output (on p night held t phase) ≡ true
-unfolding on setOn
-on-stays-lit p night held t Dark lit = no lit
-on-stays-lit p night held t (Starting timed d) lit = no lit
-on-stays-lit p night held t Lit lit = refl
-on-stays-lit p night held t (Timed d) lit = lit-is-on p (night && not held) t
-on-stays-lit p night held t (Warning d) lit = lit-is-on p (night && not held) t
-on-stays-lit p night held t (Ending d) lit = lit-is-on p (night && not held) t
-
-timed-start-stays-lit : (p : Params) (t : ℕ) (phase : Phase) → output phase ≡ true → output (timedStart p t phase) ≡ true
-unfolding timedStart
-timed-start-stays-lit p t Dark lit = no lit
-timed-start-stays-lit p t (Starting timed d) lit = no lit
-timed-start-stays-lit p t Lit lit = refl
-timed-start-stays-lit p t (Timed d) lit = refl
-timed-start-stays-lit p t (Warning d) lit = refl
-timed-start-stays-lit p t (Ending d) lit = refl
-
-night-falls-stays-lit : (p : Params) (t : ℕ) (phase : Phase) → output phase ≡ true → output (nightFalls p t phase) ≡ true
-unfolding nightFalls
-night-falls-stays-lit p t Dark lit = no lit
-night-falls-stays-lit p t (Starting timed d) lit = no lit
-night-falls-stays-lit p t Lit lit = refl
-night-falls-stays-lit p t (Timed d) lit = refl
-night-falls-stays-lit p t (Warning d) lit = refl
-night-falls-stays-lit p t (Ending d) lit = refl
-
-module _ (s : State) (lit : output (s .phase) ≡ true) where
-  switch-stays-lit : (value : Bool) → not value ≡ false → output (switch s value .phase) ≡ true
-  unfolding switch
-  switch-stays-lit true e = on-stays-lit (s .params) (s .night) (held s) (s .clock) (s .phase) lit
-  switch-stays-lit false e = no (sym e)
-
-  timed-stays-lit : (value : Bool) → not value ≡ false → output (timed s value .phase) ≡ true
-  unfolding timed
-  timed-stays-lit true e = timed-start-stays-lit (s .params) (s .clock) (s .phase) lit
-  timed-stays-lit false e = no (sym e)
-
-  recall-stays-lit : (found : Recalled) → recallsOff found ≡ false → output (recall s found .phase) ≡ true
-  unfolding recall
-  recall-stays-lit Nothing e = lit
-  recall-stays-lit (Output value) e = switch-stays-lit value e
-
-  learn-stays-lit : (number : ℕ) → output (learn s number .phase) ≡ true
-  unfolding learn
-  learn-stays-lit number = either-way (λ (u : State). output (u .phase) ≡ true) (s .params .learning) _ _ lit lit
-
-  night-stays-lit : (value : Bool) → output (nightMode s value .phase) ≡ true
-  unfolding nightMode
-  night-stays-lit true = either-way (λ (u : State). output (u .phase) ≡ true) (s .night) _ _ lit (night-falls-stays-lit (s .params) (s .clock) (s .phase) lit)
-  night-stays-lit false = lit
-
-  -- no order but one that dims puts it out
-  order-stays-lit : (i : Input) → dims s i ≡ false → output (order s i .phase) ≡ true
-  unfolding order scene
-  order-stays-lit (SwitchOnOff value) e = switch-stays-lit value e
-  order-stays-lit (TimedStartStop value) e = timed-stays-lit value e
-  order-stays-lit (NumberedSceneControl true number) e = learn-stays-lit number
-  order-stays-lit (NumberedSceneControl false number) e = recall-stays-lit (recalled (s .scenes) number) e
-  order-stays-lit (NightMode value) e = night-stays-lit value
-  order-stays-lit (SwitchOnOffForced force) e = no (sym e)
-  order-stays-lit (LockDevice value) e = no (sym e)
-  order-stays-lit (Bus event) e = no (sym e)
-  order-stays-lit (Power event) e = no (sym e)
+-- no order but one that dims puts it out
+made-stays-lit : {p : Params} {t : ℕ} {night before now : Bool} {Bright Holds Dims : Type 0} {phase after : Phase} → (Dims → ⊥) → output phase ≡ true →
+    Makes p t night before now Bright Holds Dims phase after → output after ≡ true
+made-stays-lit undimmed lit (keeps e) = lit
+made-stays-lit undimmed lit (darkens x) = absurd (undimmed x)
+made-stays-lit undimmed lit (steadies e b x) = refl
+made-stays-lit undimmed lit (times b x) = refl
+made-stays-lit undimmed lit (begins timed dark b some) = no (sym (ap output dark) ∙ lit)
+made-stays-lit undimmed lit (awaits was timed d e) = no (sym (ap output e) ∙ lit)
+made-stays-lit undimmed lit (ends same was some) = refl
+made-stays-lit undimmed lit (night-times e day) = refl
+made-stays-lit undimmed lit (night-ends d e day) = refl
 
 -- and no step leaves a timer due at its own stamp, so that it stays lit while the clock stands
 step-stays-lit : (s : State) (i : Input) (t : ℕ) → 1 ≤ s .params .timedon → output (clockMove s t .state .phase) ≡ true → (Taken (turn s t i) → dims (clockMove s t .state) i ≡ false) →
     LitAt t (step s i t .state .phase)
 step-stays-lit s i t some lit undimmed =
-    (step-phase-case (λ (x : Phase). output x ≡ true) s i t (λ way. order-stays-lit (clockMove s t .state) lit i (undimmed way)) lit, nothing-due-after-a-step s i t some)
+    (step-phase-case (λ (x : Phase). output x ≡ true) s i t (λ way. made-stays-lit (λ dims. no (sym (undimmed way) ∙ dims)) lit (order-makes (clockMove s t .state) i)) lit, nothing-due-after-a-step s i t some)
 
 -- an order that lights does not dim
 recalls-one-way : (found : Recalled) → recallsOn found ≡ true → recallsOff found ≡ false

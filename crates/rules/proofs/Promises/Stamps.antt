@@ -61,13 +61,13 @@ timer-ahead p t night (Ending d) h = tt
 
 -- An order at t keeps a deadline, or sets one from t on; one after t, where TimedOn is not 0. (The other delays are taken only
 -- where they are not 0.) Both are said at once, of an f that is t or t + 1.
-made-ahead : {p : Params} {t : ℕ} {night before now : Bool} {Bright Holds : Type 0} {phase after : Phase} (f : ℕ) → f ≤ t + 1 → f ≤ t + p .timedon → Ahead f phase →
-    Makes p t night before now Bright Holds phase after → Ahead f after
+made-ahead : {p : Params} {t : ℕ} {night before now : Bool} {Bright Holds Dims : Type 0} {phase after : Phase} (f : ℕ) → f ≤ t + 1 → f ≤ t + p .timedon → Ahead f phase →
+    Makes p t night before now Bright Holds Dims phase after → Ahead f after
 made-ahead f near by-timed-on h (keeps e) = h
-made-ahead f near by-timed-on h darkens = tt
-made-ahead f near by-timed-on h (steadies e b) = tt
-made-ahead f near by-timed-on h (times b) = by-timed-on
-made-ahead f near by-timed-on h (begins timed b some) = omega (arith, near)
+made-ahead f near by-timed-on h (darkens x) = tt
+made-ahead f near by-timed-on h (steadies e b x) = tt
+made-ahead f near by-timed-on h (times b x) = by-timed-on
+made-ahead f near by-timed-on h (begins timed dark b some) = omega (arith, near)
 made-ahead f near by-timed-on h (awaits was timed d e) = rw e at h
 made-ahead {p} {phase = phase} f near by-timed-on h (ends same lit some) = earliest-from _ f (ownEnd p phase) (omega (arith, near)) (own-end-from p f phase h)
 made-ahead f near by-timed-on h (night-times e day) = by-timed-on
