@@ -9,25 +9,19 @@
 //! The buffers are as long as the header asks, and are not cleared between calls: either side writes all that it answers for. A show
 //! that is played live starts each time from the same image, which is copied anew.
 
-#[path = "../tests/model.rs"]
-mod model;
-
-#[path = "../tests/wall.rs"]
-mod wall;
-
-#[path = "../tests/live.rs"]
-mod live;
-
 #[path = "../tests/files.rs"]
 mod files;
-
 #[path = "../tests/images.rs"]
 mod images;
-
+#[path = "../tests/live.rs"]
+mod live;
+#[path = "../tests/model.rs"]
+mod model;
+mod shows;
+#[path = "../tests/wall.rs"]
+mod wall;
 #[path = "../tests/walls.rs"]
 mod walls;
-
-mod shows;
 
 use std::time::Instant;
 

@@ -3,16 +3,9 @@
 //! Usage: compare BRIDGE.. where BRIDGE.. is a command that speaks the protocol of bridge.c on its standard input and output;
 //! calls.rs says how the archive is reached. SEED=n in the environment gives other files, FILES=n another number of them.
 
-#[path = "model.rs"]
-mod model;
-
-#[path = "files.rs"]
-mod files;
-
-#[path = "calls.rs"]
 mod calls;
-
-#[path = "noted_met.rs"]
+mod files;
+mod model;
 mod noted_met;
 
 use calls::{damaged, lent, number_named, of_lengths, AnswersMet, Call, Case, Claims, Codes, Comparison, Outcome};

@@ -5,28 +5,13 @@
 //! calls.rs says how the archive is reached. After the calls of live_cases.rs and live_scripts.rs come CALLS=n calls at random, with
 //! SEED=n in the environment others.
 
-#[path = "model.rs"]
-mod model;
-
-#[path = "live.rs"]
-mod live;
-
-#[path = "files.rs"]
-mod files;
-
-#[path = "images.rs"]
-mod images;
-
-#[path = "calls.rs"]
 mod calls;
-
-#[path = "live_cases.rs"]
+mod files;
+mod images;
+mod live;
 mod live_cases;
-
-#[path = "live_scripts.rs"]
 mod live_scripts;
-
-#[path = "noted_met.rs"]
+mod model;
 mod noted_met;
 
 use calls::{number_named, room, AnswersMet, Call, Case, Claims, Comparison, Outcome};

@@ -3,23 +3,12 @@
 //! Usage: compare_walls BRIDGE.. where BRIDGE.. is a command that speaks the protocol of bridge.c on its standard input and output;
 //! calls.rs says how the archive is reached. SEED=n in the environment gives other lists, WALLS=n another number of them.
 
-#[path = "model.rs"]
-mod model;
-
-#[path = "wall.rs"]
-mod wall;
-
-#[path = "files.rs"]
-mod files;
-
-#[path = "walls.rs"]
-mod walls;
-
-#[path = "calls.rs"]
 mod calls;
-
-#[path = "noted_met.rs"]
+mod files;
+mod model;
 mod noted_met;
+mod wall;
+mod walls;
 
 use calls::{damaged, lent, number_named, of_lengths, AnswersMet, Call, Case, Claims, Codes, Comparison, Outcome};
 use files::{CueFile, Layout, Rng, LAYOUTS};

@@ -2,20 +2,11 @@
 //! reading, the noted values of its request 4 in an image, and the four calls for C.
 //!
 //!     rustc --edition 2021 --test -O live_tests.rs -o t && ./t
-#[path = "model.rs"]
-mod model;
-
-#[path = "live.rs"]
-mod live;
-
-#[path = "cases.rs"]
 mod cases;
-
-#[path = "files.rs"]
 mod files;
-
-#[path = "images.rs"]
 mod images;
+mod live;
+mod model;
 
 use cases::*;
 use files::{CueFile, Rng, LAYOUTS};

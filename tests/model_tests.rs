@@ -2,11 +2,8 @@
 //! of document 02, request 2, under that request.
 //!
 //!     rustc --edition 2021 --test -O model_tests.rs -o t && ./t
-#[path = "model.rs"]
-mod model;
-
-#[path = "cases.rs"]
 mod cases;
+mod model;
 
 use cases::*;
 use model::*;

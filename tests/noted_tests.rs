@@ -2,20 +2,11 @@
 //! form in which a list is played; what holds of every list; and the customer's example.
 //!
 //!     rustc --edition 2021 --test -O noted_tests.rs -o t && ./t
-#[path = "model.rs"]
-mod model;
-
-#[path = "live.rs"]
-mod live;
-
-#[path = "wall.rs"]
-mod wall;
-
-#[path = "cases.rs"]
 mod cases;
-
-#[path = "files.rs"]
 mod files;
+mod live;
+mod model;
+mod wall;
 
 use cases::*;
 use files::{CueFile, Rng};

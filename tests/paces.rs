@@ -4,13 +4,8 @@
 //!     rustc --edition 2021 -O paces.rs -o paces && ./paces <../crates/paces/stdin
 //!
 //! The forms of the steps and of the lines stand at the top of crates/paces/src/main.rt.
-#[path = "model.rs"]
-mod model;
-
-#[path = "live.rs"]
 mod live;
-
-#[path = "wall.rs"]
+mod model;
 mod wall;
 
 use live::{flag_of, force_of, link_of, phase_of, Image, STATE_OCTETS};

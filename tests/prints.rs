@@ -2,23 +2,12 @@
 //! Usage: prints [--wall] [--phases | --words] PROGRAM.. where PROGRAM.. is the command that prints a list on standard input: with --wall
 //! a wall list, with --phases with its phases, with --words in words.
 
-#[path = "model.rs"]
-mod model;
-
-#[path = "wall.rs"]
-mod wall;
-
-#[path = "files.rs"]
 mod files;
-
-#[path = "walls.rs"]
-mod walls;
-
-#[path = "live.rs"]
 mod live;
-
-#[path = "told.rs"]
+mod model;
 mod told;
+mod wall;
+mod walls;
 
 use files::{CueFile, Layout, Rng, LAYOUTS};
 use std::io::Write;

@@ -3,19 +3,10 @@
 //! values of request 4, as the pair meets them; and what holds of every wall list.
 //!
 //!     rustc --edition 2021 --test -O wall_tests.rs -o t && ./t
-#[path = "model.rs"]
-mod model;
-
-#[path = "wall.rs"]
-mod wall;
-
-#[path = "cases.rs"]
 mod cases;
-
-#[path = "files.rs"]
 mod files;
-
-#[path = "walls.rs"]
+mod model;
+mod wall;
 mod walls;
 
 use cases::*;

@@ -1,13 +1,11 @@
 //! The second model behind the calls of include/house.h, under other names, for the fuzz tests to compare with. A static library.
 
-#[path = "../model.rs"]
-mod model;
-
-#[path = "../wall.rs"]
-mod wall;
-
 #[path = "../live.rs"]
 mod live;
+#[path = "../model.rs"]
+mod model;
+#[path = "../wall.rs"]
+mod wall;
 
 use std::slice::{from_raw_parts, from_raw_parts_mut};
 

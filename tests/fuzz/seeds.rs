@@ -3,23 +3,18 @@
 //!
 //! Usage: seeds FOLDER, from the repository's root. They go to FOLDER/TARGET, those whose first call is refused to FOLDER/TARGET-refused.
 
-#[path = "../model.rs"]
-mod model;
-
-#[path = "../wall.rs"]
-mod wall;
-
-#[path = "../live.rs"]
-mod live;
-
 #[path = "../files.rs"]
 mod files;
-
-#[path = "../walls.rs"]
-mod walls;
-
 #[path = "../images.rs"]
 mod images;
+#[path = "../live.rs"]
+mod live;
+#[path = "../model.rs"]
+mod model;
+#[path = "../wall.rs"]
+mod wall;
+#[path = "../walls.rs"]
+mod walls;
 
 use files::{CueFile, Layout, Rng, LAYOUTS};
 use images::Fields;
