@@ -12,8 +12,9 @@ mod walls;
 
 use calls::{damaged, lent, number_named, of_lengths, AnswersMet, Call, Case, Claims, Codes, Comparison, Outcome};
 use files::{CueFile, Layout, Rng, LAYOUTS};
+use model::Run;
 use noted_met::Noted;
-use wall::WallRun;
+use wall::Pair;
 use walls::WallList;
 
 /// What accepted lists met.
@@ -47,7 +48,7 @@ fn is_edge(item: &[u8]) -> bool {
 }
 
 impl Met {
-    fn note(&mut self, list: &[u8], run: &WallRun) {
+    fn note(&mut self, list: &[u8], run: &Run<Pair>) {
         let (cues, actions) = list.split_at(list.len() - 4);
         let items: Vec<&[u8]> = cues[cues.len() - 8 * run.answers.len()..].chunks_exact(8).collect();
         let mut sends = run.sends.iter().peekable();
@@ -159,7 +160,7 @@ impl Tally {
 
     fn check_case(&mut self, case: Case, sample: bool) {
         let run = wall::wall_run(&case.list, case.records_len, case.answers_len);
-        let expected = Outcome::of_model(&case, wall::wall_number(&run), &run.records, &run.answers);
+        let expected = Outcome::of_model(&case, model::number(&run), &run.records, &run.answers);
         self.codes.note(&case.list, expected.code());
         match run.code {
             0 => {

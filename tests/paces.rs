@@ -8,8 +8,8 @@ mod live;
 mod model;
 mod wall;
 
-use live::{flag_of, force_of, link_of, phase_of, Image, STATE_OCTETS};
-use model::{record_octets, u32_at, Params, Record, Scene, State};
+use live::{flag_of, Image, STATE_OCTETS};
+use model::{record_octets, u32_at, Record, State};
 use std::io::{Read, Write};
 use wall::{Action, Pair, Sensor, EDGES};
 
@@ -40,43 +40,9 @@ impl Steps {
     }
 }
 
-/// The state that an image says, sound or not; none where an octet has no meaning. (The model's own
-/// reading, live::state_of, takes those of sound states alone.)
-fn any_state(o: &Image) -> Option<State> {
-    let params = Params {
-        version: o[40],
-        on_delay: u32_at(o, 0),
-        off_delay: u32_at(o, 4),
-        timed_on: u32_at(o, 8),
-        prewarning: u32_at(o, 12),
-        behaviour_at_locking: o[16],
-        behaviour_at_unlocking: o[17],
-        bus_failure_mode: o[18],
-        bus_return_mode: o[19],
-        power_return_mode: o[20],
-        scene_learning_mode_enable: u8::from(flag_of(o[21])?),
-    };
-    let mut scenes = [Scene { number: 0, flags: 0 }; 8];
-    for (scene, entry) in scenes.iter_mut().zip(o[24..40].chunks_exact(2)) {
-        *scene = Scene { number: entry[0], flags: entry[1] & 3 };
-    }
-    Some(State {
-        clock: u32_at(o, 48),
-        phase: phase_of(o[47], u32_at(o, 52))?,
-        night: flag_of(o[41])?,
-        lock: flag_of(o[42])?,
-        force: force_of(o[43])?,
-        link: link_of(o[44])?,
-        output_at_locking: flag_of(o[45])?,
-        output_at_power_failure: flag_of(o[46])?,
-        scenes,
-        params,
-    })
-}
-
 /// The state of an image, which must say nothing that a state does not hold.
 fn state_in(octets: Image) -> State {
-    let state = any_state(&octets).expect("an image of a state, sound or not");
+    let state = live::said_by(&octets).expect("an image of a state, sound or not");
     assert_eq!(live::image(&state), octets);
     state
 }

@@ -39,7 +39,7 @@ fn wall_list(params: &Params, end: u32, items: &[Cue], actions: &[u8; 4]) -> Vec
     list
 }
 
-fn play(list: &[u8]) -> WallRun {
+fn play(list: &[u8]) -> Run<Pair> {
     let run = wall_run(list, usize::MAX, usize::MAX);
     assert_eq!((run.code, run.place), (0, 0));
     run
@@ -53,7 +53,7 @@ fn refused(list: &[u8], code: u8, place: u16) {
 }
 
 /// What the edges send, in order.
-fn sends(run: &WallRun) -> Vec<bool> {
+fn sends(run: &Run<Pair>) -> Vec<bool> {
     run.sends.iter().map(|sent| sent.on).collect()
 }
 
@@ -61,7 +61,7 @@ const ON: bool = true;
 const OFF: bool = false;
 
 /// The records after the start record, what is sent, and the answers.
-fn expect(list: &[u8], records: &[(u32, u8, u8, u8)], sent: &[bool], answers: &[u8]) -> WallRun {
+fn expect(list: &[u8], records: &[(u32, u8, u8, u8)], sent: &[bool], answers: &[u8]) -> Run<Pair> {
     let run = play(list);
     let mut wanted = vec![record((0, 0, 1, 0))];
     wanted.extend(records.iter().map(|r| record(*r)));
@@ -485,7 +485,7 @@ fn short_buffers() {
     }
     // an input's refusal comes before
     let list = wall_list(&worked(), 10, &[press(3), press(2)], &TOGGLE);
-    assert_eq!(wall_number(&wall_run(&list, 0, 0)), 7 << 48 | 1 << 32);
+    assert_eq!(number(&wall_run(&list, 0, 0)), 7 << 48 | 1 << 32);
 }
 
 #[test]
@@ -651,7 +651,7 @@ fn the_same_times_give_the_same_in_either_version() {
         let octets = list.octets();
         let plain = play(&octets);
         let twin = play(&WallList { cues: list.cues.in_version(new), ..list }.octets());
-        assert_eq!(wall_number(&plain), wall_number(&twin));
+        assert_eq!(number(&plain), number(&twin));
         assert_eq!((&plain.records, &plain.answers), (&twin.records, &twin.answers));
         assert_eq!((&plain.records_before, &plain.sends), (&twin.records_before, &twin.sends));
         let params = in_version(2, &plain.end.actuator.params);
@@ -743,7 +743,7 @@ fn a_cue_file_before_any_actions_is_the_plain_run() {
             if has_edge {
                 continue;
             }
-            assert_eq!(number(&plain), wall_number(&joined));
+            assert_eq!(number(&plain), number(&joined));
             assert_eq!((&plain.records, &plain.answers), (&joined.records, &joined.answers));
             assert_eq!(plain.records_before, joined.records_before);
             assert_eq!(plain.end, joined.end.actuator);
@@ -882,7 +882,7 @@ fn lent_buffers_hold_what_the_run_gives() {
             wanted_records[8 * index..8 * index + 8].copy_from_slice(&record_octets(record));
         }
         wanted_answers[..run.answers.len()].copy_from_slice(&run.answers);
-        assert_eq!(wall_run_into(list, &mut records, &mut answers), wall_number(&run));
+        assert_eq!(wall_run_into(list, &mut records, &mut answers), number(&run));
         assert_eq!((records, answers), (wanted_records, wanted_answers));
     });
 }
