@@ -113,13 +113,14 @@ struct Given {
 impl Stage {
     fn new(show: &str, n: usize) -> Stage {
         let image = shows::image(show, n);
+        let (records, answers) = files::enough(n);
         Stage {
             show: show.to_string(),
             list: shows::octets(show, n),
             state: image.clone(),
             image,
-            records: vec![0; 8 * (3 * n + 3)],
-            answers: vec![0; n],
+            records: vec![0; records],
+            answers: vec![0; answers],
         }
     }
 

@@ -5,7 +5,7 @@
 //! bridge too; without it everything goes by the bridge.
 #![allow(dead_code)]
 
-use crate::files::{Rng, LAYOUTS};
+use crate::files::{enough, inputs_in, Rng, LAYOUTS};
 use crate::model::{record_octets, Record};
 use std::collections::HashMap;
 use std::io::{BufReader, BufWriter, Read, Write};
@@ -58,7 +58,7 @@ pub struct Case {
 
 impl Case {
     /// A run over a list, into buffers of these lengths.
-    pub fn run(call: Call, list: Vec<u8>, records_len: usize, answers_len: usize) -> Case {
+    pub fn run(call: Call, list: Vec<u8>, (records_len, answers_len): (usize, usize)) -> Case {
         Case { call, list, state: Vec::new(), stamp: 0, records_len, answers_len, null: false }
     }
 }
@@ -302,19 +302,19 @@ impl Comparison {
 
 /// Buffers as long as the list's n asks for, one too short, or longer.
 pub fn lent(call: Call, list: Vec<u8>, rng: &mut Rng) -> Case {
-    let n = if list.len() >= 12 { u32::from_be_bytes([list[8], list[9], list[10], list[11]]) } else { 0 };
-    let (records_len, answers_len) = room(n.min(4096) as usize, rng);
-    Case { null: rng.chance(50), ..Case::run(call, list, records_len, answers_len) }
+    let room = room(inputs_in(&list).min(4096), rng);
+    Case { null: rng.chance(50), ..Case::run(call, list, room) }
 }
 
 /// As many octets of records and of answers as n inputs ask for, one too few, none, or more.
 pub fn room(n: usize, rng: &mut Rng) -> (usize, usize) {
+    let (records, answers) = enough(n);
     match rng.below(16) {
-        0 => (8 * (3 * n + 3) - 1, n),
-        1 => (8 * (3 * n + 3), n.saturating_sub(1)),
+        0 => (records - 1, answers),
+        1 => (records, answers.saturating_sub(1)),
         2 => (0, 0),
-        3..=9 => (8 * (3 * n + 3) + rng.below(20) as usize, n + rng.below(5) as usize),
-        _ => (8 * (3 * n + 3), n),
+        3..=9 => (records + rng.below(20) as usize, answers + rng.below(5) as usize),
+        _ => (records, answers),
     }
 }
 

@@ -1,16 +1,10 @@
 //! Writing cue files and reading what they give, for the tests of the model.
 #![allow(dead_code)]
 
-use crate::model::*;
+pub use crate::files::kinds::*;
 
-pub const ON_OFF: u8 = 1;
-pub const TIMED: u8 = 2;
-pub const SCENE: u8 = 3;
-pub const FORCED: u8 = 4;
-pub const LOCK: u8 = 5;
-pub const NIGHT: u8 = 6;
-pub const BUS: u8 = 7;
-pub const POWER: u8 = 8;
+use crate::files::{self, cue_file, rest_of, u32_at, HEADER, LAYOUTS};
+use crate::model::*;
 
 pub type Cue = (u32, u8, u8);
 
@@ -45,37 +39,28 @@ pub fn in_version(version: u8, params: &Params) -> Params {
 
 /// The parameters as they stand in a file of their version: 32 octets, or 40 in every other than 1.
 pub fn parameter_octets(p: &Params, scenes: &[Scene; 8]) -> Vec<u8> {
-    let mut octets = Vec::new();
-    for time in [p.on_delay, p.off_delay, p.timed_on, p.prewarning] {
-        match p.version {
-            1 => octets.extend(((time / 10) as u16).to_be_bytes()),
-            _ => octets.extend(time.to_be_bytes()),
-        }
-    }
-    octets.extend([p.behaviour_at_locking, p.behaviour_at_unlocking]);
-    octets.extend([p.bus_failure_mode, p.bus_return_mode, p.power_return_mode]);
-    octets.extend([p.scene_learning_mode_enable, 0, 0]);
-    for scene in scenes {
-        octets.extend([scene.number, scene.flags]);
-    }
-    octets
+    let layout = &LAYOUTS[usize::from(p.version != 1)];
+    let modes = [
+        p.behaviour_at_locking,
+        p.behaviour_at_unlocking,
+        p.bus_failure_mode,
+        p.bus_return_mode,
+        p.power_return_mode,
+    ];
+    let scenes = scenes.map(|scene| (scene.number, scene.flags));
+    let rest = rest_of(modes, p.scene_learning_mode_enable, &scenes);
+    files::parameters(layout, [p.on_delay, p.off_delay, p.timed_on, p.prewarning], &rest)
 }
 
-pub fn input(cue: Cue) -> [u8; 8] {
-    let s = cue.0.to_be_bytes();
-    [s[0], s[1], s[2], s[3], cue.1, cue.2, 0, 0]
+pub fn input((stamp, kind, value): Cue) -> [u8; 8] {
+    files::input(stamp, kind, value)
 }
 
 pub fn file_of(version: u8, parameters: &[u8], end: u32, cues: &[Cue]) -> Vec<u8> {
-    let mut file = vec![0, version, 0, 1];
-    for number in [20, cues.len() as u32, 20 + parameters.len() as u32, end] {
-        file.extend(number.to_be_bytes());
-    }
-    file.extend(parameters);
-    for cue in cues {
-        file.extend(input(*cue));
-    }
-    file
+    let inputs: Vec<[u8; 8]> = cues.iter().copied().map(input).collect();
+    let inputs_at = HEADER + parameters.len();
+    let numbers = [HEADER as u32, inputs.len() as u32, inputs_at as u32, end];
+    cue_file([version.into(), 1], numbers, parameters, &inputs)
 }
 
 pub fn file(params: &Params, end: u32, cues: &[Cue]) -> Vec<u8> {
@@ -84,12 +69,12 @@ pub fn file(params: &Params, end: u32, cues: &[Cue]) -> Vec<u8> {
 
 /// Where the inputs of a file start, by its header.
 pub fn inputs_at(file: &[u8]) -> usize {
-    u32::from_be_bytes([file[12], file[13], file[14], file[15]]) as usize
+    u32_at(file, 12) as usize
 }
 
 /// The parameters of a file.
 pub fn parameters_in(file: &[u8]) -> &[u8] {
-    &file[20..inputs_at(file)]
+    &file[HEADER..inputs_at(file)]
 }
 
 /// The fresh state of these parameters, without scenes.

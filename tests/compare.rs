@@ -9,7 +9,7 @@ mod model;
 mod noted_met;
 
 use calls::{damaged, lent, number_named, of_lengths, AnswersMet, Call, Case, Claims, Codes, Comparison, Outcome};
-use files::{CueFile, Layout, Rng, LAYOUTS};
+use files::{enough, CueFile, Layout, Rng, LAYOUTS};
 use noted_met::Noted;
 
 /// The codes that a cue file can have.
@@ -52,7 +52,7 @@ impl Tally {
     fn ends(&mut self, layout: &'static Layout, rng: &mut Rng) {
         for n in [0, 1, 2, 255, 256, 2047, 2048] {
             let list = CueFile::random_in(layout, rng, n).octets();
-            self.check_case(Case::run(Call::Run, list, 8 * (3 * n + 3), n), true);
+            self.check_case(Case::run(Call::Run, list, enough(n)), true);
         }
         let small = CueFile::random_in(layout, rng, 2).octets();
         for (i, other) in damaged(&small).into_iter().enumerate() {

@@ -15,9 +15,9 @@ mod model;
 mod noted_met;
 
 use calls::{number_named, room, AnswersMet, Call, Case, Claims, Comparison, Outcome};
-use files::{stamp_of, CueFile, Layout, Rng, LAYOUTS};
+use files::{stamp_of, CueFile, Layout, Rng, HEADER, LAST, LAYOUTS};
 use images::{broken, Fields, OCTETS, PHASES, RULES, STARTING};
-use live_cases::{clock_move, LAST, MOVE_ROOM};
+use live_cases::{clock_move, MOVE_ROOM};
 use noted_met::Noted;
 
 /// The calls that are compared, and the codes that each can give: for a version that is played, and for what has no such version.
@@ -58,13 +58,11 @@ fn expected(case: &Case) -> Outcome {
 
 /// The row of a call's version, as the call itself tells it.
 fn row(case: &Case) -> usize {
-    let version = match case.call {
-        Call::Fresh => [32, 40].iter().position(|length| *length == case.list.len()).map(|row| row as u16 + 1),
-        Call::Change | Call::Move if case.state.len() == OCTETS => Some(u16::from(case.state[40])),
-        Call::RunTo if case.list.len() >= 2 => Some(u16::from_be_bytes([case.list[0], case.list[1]])),
-        _ => None,
+    let known = |layout: &Layout| match case.call {
+        Call::Fresh => case.list.len() == layout.parameters(),
+        Call::RunTo => case.list.starts_with(&layout.version.to_be_bytes()),
+        _ => case.state.len() == OCTETS && u16::from(case.state[40]) == layout.version,
     };
-    let known = |layout: &Layout| version == Some(layout.version);
     LAYOUTS.iter().position(known).unwrap_or(LAYOUTS.len())
 }
 
@@ -334,7 +332,7 @@ impl Tally {
         for _ in 0..if rng.chance(15) { 1 + rng.below(3) } else { 0 } {
             show.spoil(rng);
         }
-        let parameters = show.octets()[20..].to_vec();
+        let parameters = show.octets()[HEADER..].to_vec();
         let case = live_cases::fresh(parameters, state_length(rng));
         self.check(case).state
     }

@@ -11,11 +11,11 @@ mod wall;
 mod walls;
 
 use calls::{damaged, lent, number_named, of_lengths, AnswersMet, Call, Case, Claims, Codes, Comparison, Outcome};
-use files::{CueFile, Layout, Rng, LAYOUTS};
+use files::{enough, CueFile, Layout, Rng, LAYOUTS};
 use model::Run;
 use noted_met::Noted;
 use wall::Pair;
-use walls::WallList;
+use walls::{is_edge, WallList};
 
 /// What accepted lists met.
 #[derive(Default)]
@@ -41,10 +41,6 @@ struct Met {
     cue_after_an_edge: u64,
     /// Cues by their kind.
     kinds: [u64; 9],
-}
-
-fn is_edge(item: &[u8]) -> bool {
-    walls::BUTTONS.contains(&item[4])
 }
 
 impl Met {
@@ -194,7 +190,7 @@ impl Tally {
     fn ends(&mut self, layout: &'static Layout, rng: &mut Rng) {
         for n in [0, 1, 2, 255, 256, 2047, 2048] {
             let list = WallList::random_in(layout, rng, n).octets();
-            self.check_case(Case::run(Call::WallRun, list, 8 * (3 * n + 3), n), true);
+            self.check_case(Case::run(Call::WallRun, list, enough(n)), true);
         }
         let small = WallList::random_in(layout, rng, 2).octets();
         for (i, other) in damaged(&small).into_iter().enumerate() {

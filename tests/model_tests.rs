@@ -3,6 +3,7 @@
 //!
 //!     rustc --edition 2021 --test -O model_tests.rs -o t && ./t
 mod cases;
+mod files;
 mod model;
 
 use cases::*;

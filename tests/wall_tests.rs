@@ -10,10 +10,10 @@ mod wall;
 mod walls;
 
 use cases::*;
-use files::{CueFile, Rng, LAYOUTS};
+use files::{enough, inputs_in, stamp_of, CueFile, Rng, LAYOUTS};
 use model::*;
 use wall::*;
-use walls::WallList;
+use walls::{is_edge, WallList};
 
 // ================================================================================================
 // Writing wall lists
@@ -720,10 +720,6 @@ fn items(list: &[u8]) -> Vec<[u8; 8]> {
     list[inputs_at(list)..list.len() - 4].chunks_exact(8).map(octets).collect()
 }
 
-fn is_edge(item: &[u8; 8]) -> bool {
-    walls::BUTTONS.contains(&item[4])
-}
-
 #[test]
 fn a_cue_file_before_any_actions_is_the_plain_run() {
     let mut rng = Rng::new(101);
@@ -734,7 +730,7 @@ fn a_cue_file_before_any_actions_is_the_plain_run() {
             show.spoil(&mut rng);
         }
         let octets = show.octets();
-        let has_edge = show.inputs.iter().any(is_edge);
+        let has_edge = show.inputs.iter().any(|item| is_edge(item));
         for actions in [[0; 4], [0; 4].map(|_: u8| rng.below(4) as u8)] {
             let list = [&octets[..], &actions[..]].concat();
             let (records, answers) = (8 * (3 * n + 3) - usize::from(rng.chance(5)), n);
@@ -818,7 +814,7 @@ fn the_sensor_hears_the_records() {
                 let before = sent.map_or(run.records_before[index], |sent| sent.records_before);
                 hear_up_to(&mut sensor, before);
                 let given = sensor_input(&sensor, item);
-                let stamp = u32::from_be_bytes([item[0], item[1], item[2], item[3]]);
+                let stamp = stamp_of(item);
                 let octets = |sent: &Sent| input((stamp, ON_OFF, u8::from(sent.on)));
                 assert_eq!((given.code, given.sent), (0, sent.map_or([0; 8], octets)));
                 sensor = given.sensor;
@@ -854,8 +850,7 @@ fn by_value_step_by_step_is_the_run() {
             sends += usize::from(given.sent != [0; 8]);
             pair = given.pair;
         }
-        let end = u32::from_be_bytes([list[16], list[17], list[18], list[19]]);
-        let last = pair_clock_move(&pair, end);
+        let last = pair_clock_move(&pair, u32_at(list, 16));
         assert!(last.code == 0 && last.records.len() <= 2);
         records.extend(last.records);
         assert_eq!((&records, sends, last.pair), (&run.records, run.sends.len(), run.end));
@@ -866,9 +861,7 @@ fn by_value_step_by_step_is_the_run() {
 fn lent_buffers_hold_what_the_run_gives() {
     let mut rng = Rng::new(105);
     any_lists(106, 20_000, |list| {
-        let n = list.get(8..12).map_or(0, |n| u32::from_be_bytes(n.try_into().unwrap()));
-        let n = n.min(4096) as usize;
-        let (room, places) = (8 * (3 * n + 3), n);
+        let (room, places) = enough(inputs_in(list).min(4096));
         let (room, places) = match rng.below(10) {
             0 => (room - 1, places),
             1 => (room, places.saturating_sub(1)),

@@ -16,7 +16,7 @@ mod wall;
 #[path = "../walls.rs"]
 mod walls;
 
-use files::{CueFile, Layout, Rng, LAYOUTS};
+use files::{enough, inputs_in, CueFile, Layout, Rng, HEADER, LAYOUTS};
 use images::Fields;
 use std::fs;
 use std::path::{Path, PathBuf};
@@ -46,14 +46,12 @@ impl Seeds {
 
     /// A cue file, with rooms that differ so much from what it asks for.
     fn cues(&mut self, file: &[u8], deviations: [i8; 3]) {
-        let n = most_inputs(file);
-        let (records, answers) = (room(8 * (3 * n + 3), deviations[0]), room(n, deviations[1]));
+        let (records, answers) = rooms(file, deviations);
         self.write("cues", model::run(file, records, answers).code != 0, &with_head(b'c', deviations, file));
     }
 
     fn walls(&mut self, list: &[u8], deviations: [i8; 3]) {
-        let n = most_inputs(list);
-        let (records, answers) = (room(8 * (3 * n + 3), deviations[0]), room(n, deviations[1]));
+        let (records, answers) = rooms(list, deviations);
         self.write("walls", wall::wall_run(list, records, answers).code != 0, &with_head(b'w', deviations, list));
     }
 
@@ -68,18 +66,11 @@ impl Seeds {
     }
 }
 
-/// How many inputs a header counts, as far as there can be so many.
-fn most_inputs(file: &[u8]) -> usize {
-    let count = file.get(8..12).map_or(0, files::stamp_of) as usize;
-    if count <= 2048 {
-        count
-    } else {
-        0
-    }
-}
-
-fn room(enough: usize, deviation: i8) -> usize {
-    (enough as isize + isize::from(deviation)).max(0) as usize
+/// What as many inputs ask for as a header counts, as far as there can be so many, more or less by the deviations.
+fn rooms(list: &[u8], deviations: [i8; 3]) -> (usize, usize) {
+    let (records, answers) = enough(Some(inputs_in(list)).filter(|n| *n <= 2048).unwrap_or(0));
+    let about = |enough: usize, deviation: i8| (enough as isize + isize::from(deviation)).max(0) as usize;
+    (about(records, deviations[0]), about(answers, deviations[1]))
 }
 
 fn with_head(letter: u8, deviations: [i8; 3], file: &[u8]) -> Vec<u8> {
@@ -140,7 +131,7 @@ fn random(seeds: &mut Seeds, layout: &'static Layout, rng: &mut Rng) {
     seeds.walls(&octets, deviations(rng));
     let steps = steps(rng);
     if rng.chance(30) {
-        seeds.live(FRESH_STATE, &show.octets()[20..layout.inputs_at()], &steps);
+        seeds.live(FRESH_STATE, &show.octets()[HEADER..layout.inputs_at()], &steps);
     } else {
         let mut image = Fields::random_in(layout, rng);
         if rng.chance(20) {
@@ -163,7 +154,7 @@ fn ends(seeds: &mut Seeds, layout: &'static Layout, rng: &mut Rng) {
         seeds.live(WILD_STATE, &fresh, &step(CHANGE_AS_IS, [0, 0], &inputs[..len]));
     }
     // too little room for a move, and then for a fresh state
-    let short = [step(MOVE_IN_TIME, [-1, 0], &[0; 4]), step(FRESH_STATE, [0, -1], &show.octets()[20..])].concat();
+    let short = [step(MOVE_IN_TIME, [-1, 0], &[0; 4]), step(FRESH_STATE, [0, -1], &show.octets()[HEADER..])].concat();
     seeds.live(WILD_STATE, &fresh, &short);
 }
 
