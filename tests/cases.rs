@@ -96,8 +96,43 @@ pub fn resized(octets: &[u8], length: usize) -> Vec<u8> {
     octets
 }
 
-pub fn record(r: (u32, u8, u8, u8)) -> Record {
-    Record { stamp: r.0, value: r.1, attributes: r.2, cause: r.3 }
+/// A record: stamp, value, attributes and cause.
+pub type Written = (u32, u8, u8, u8);
+
+pub fn record((stamp, value, attributes, cause): Written) -> Record {
+    Record { stamp, value, attributes, cause }
+}
+
+/// The start record, and these.
+pub fn from_the_start(records: &[Written]) -> Vec<Record> {
+    [(0, 0, 1, 0)].iter().chain(records).copied().map(record).collect()
+}
+
+/// Two lent buffers, with records and answers written over their fronts.
+pub fn written_over(
+    lent_records: &[u8],
+    lent_answers: &[u8],
+    records: &[Record],
+    answers: &[u8],
+) -> (Vec<u8>, Vec<u8>) {
+    let over = |written: Vec<u8>, lent: &[u8]| [&written, &lent[written.len()..]].concat();
+    let octets = records.iter().flat_map(record_octets).collect();
+    (over(octets, lent_records), over(answers.to_vec(), lent_answers))
+}
+
+/// Whether there is a cue of this kind with this value.
+pub fn is_cue(kind: u8, value: u8) -> bool {
+    match kind {
+        ON_OFF | TIMED | LOCK | NIGHT | BUS | POWER => value <= 1,
+        SCENE => value & 0x40 == 0,
+        FORCED => value <= 3,
+        _ => false,
+    }
+}
+
+/// A whole file, with room enough.
+pub fn run_all(file: &[u8]) -> Run {
+    run(file, usize::MAX, usize::MAX)
 }
 
 pub fn output(state: &State) -> bool {

@@ -74,7 +74,7 @@ fn house() -> State {
 fn any_state(rng: &mut Rng) -> State {
     let n = rng.below(30) as usize;
     let octets = CueFile::random(rng, n).octets();
-    let run = run(&octets, usize::MAX, usize::MAX);
+    let run = run_all(&octets);
     assert_eq!(run.code, 0);
     run.end
 }
@@ -665,13 +665,13 @@ fn live_from_a_run_on_is_the_longer_run() {
         let n = rng.below(40) as usize;
         let layout = files::Layout::random(&mut rng);
         let show = CueFile::random_in(layout, &mut rng, n);
-        let whole = run(&show.octets(), usize::MAX, usize::MAX);
+        let whole = run_all(&show.octets());
         let cut = rng.below(n as u64 + 1) as usize;
         let at_the_cut = if cut == 0 { 0 } else { files::stamp_of(&show.inputs[cut - 1]) };
         let (first, second) = show.inputs.split_at(cut);
         let (second, end) = (second.concat(), show.end);
         let head = CueFile { inputs: first.to_vec(), count: cut as u32, end: at_the_cut, ..show };
-        let before = run(&head.octets(), usize::MAX, usize::MAX);
+        let before = run_all(&head.octets());
         let live = changed(&before.end, &second);
         let last = clock_move(&live.state, end);
         assert_eq!([before.records, live.records, last.records].concat(), whole.records);

@@ -39,14 +39,18 @@ fn wall_list(params: &Params, end: u32, items: &[Cue], actions: &[u8; 4]) -> Vec
     list
 }
 
+fn wall_run_all(list: &[u8]) -> Run<Pair> {
+    wall_run(list, usize::MAX, usize::MAX)
+}
+
 fn play(list: &[u8]) -> Run<Pair> {
-    let run = wall_run(list, usize::MAX, usize::MAX);
+    let run = wall_run_all(list);
     assert_eq!((run.code, run.place), (0, 0));
     run
 }
 
 fn refused(list: &[u8], code: u8, place: u16) {
-    let run = wall_run(list, usize::MAX, usize::MAX);
+    let run = wall_run_all(list);
     assert_eq!((run.code, run.place), (code, place));
     assert_eq!((run.records.len(), run.answers.len(), run.sends.len()), (0, 0, 0));
     assert_eq!(run.end, Pair { actuator: state_of_a_refusal(), sensor: sensor_of_a_refusal() });
@@ -61,11 +65,9 @@ const ON: bool = true;
 const OFF: bool = false;
 
 /// The records after the start record, what is sent, and the answers.
-fn expect(list: &[u8], records: &[(u32, u8, u8, u8)], sent: &[bool], answers: &[u8]) -> Run<Pair> {
+fn expect(list: &[u8], records: &[Written], sent: &[bool], answers: &[u8]) -> Run<Pair> {
     let run = play(list);
-    let mut wanted = vec![record((0, 0, 1, 0))];
-    wanted.extend(records.iter().map(|r| record(*r)));
-    assert_eq!(run.records, wanted);
+    assert_eq!(run.records, from_the_start(records));
     assert_eq!(sends(&run), sent);
     assert_eq!(run.answers, answers);
     run
@@ -73,6 +75,10 @@ fn expect(list: &[u8], records: &[(u32, u8, u8, u8)], sent: &[bool], answers: &[
 
 fn sensor(actions: &[u8; 4]) -> Sensor {
     fresh_sensor(actions).0
+}
+
+fn worked_pair() -> Pair {
+    Pair { actuator: actuator(&worked()), sensor: sensor(&TOGGLE) }
 }
 
 // ================================================================================================
@@ -141,20 +147,22 @@ fn reading_1_8_a_record_of_attributes_alone_is_a_status() {
     expect(&list, &[(5, 0, 9, 6), (20, 255, 25, 0)], &[ON, ON], &[0, 0, 1]);
 }
 
-#[test]
-fn reading_1_9_the_record_of_an_off_may_say_on() {
-    let items = [(0, NIGHT, 1), press(10), press(100), press(120)];
+/// An Off at 100 whose record says on, and a press after it.
+fn an_off_that_says_on(then: u32) {
+    let items = [(0, NIGHT, 1), press(10), press(100), press(then)];
     let list = wall_list(&delays(0, 5, 60, 10), 1000, &items, &TOGGLE);
     let records = [(0, 0, 9, 6), (10, 255, 25, 1), (100, 255, 9, 1), (150, 0, 9, 0)];
     expect(&list, &records, &[ON, OFF, OFF], &[0, 0, 0, 1]);
 }
 
 #[test]
+fn reading_1_9_the_record_of_an_off_may_say_on() {
+    an_off_that_says_on(120);
+}
+
+#[test]
 fn reading_1_10_a_tie_is_told_by_the_order_of_happening() {
-    let items = [(0, NIGHT, 1), press(10), press(100), press(100)];
-    let list = wall_list(&delays(0, 5, 60, 10), 1000, &items, &TOGGLE);
-    let records = [(0, 0, 9, 6), (10, 255, 25, 1), (100, 255, 9, 1), (150, 0, 9, 0)];
-    expect(&list, &records, &[ON, OFF, OFF], &[0, 0, 0, 1]);
+    an_off_that_says_on(100);
 }
 
 #[test]
@@ -209,7 +217,7 @@ fn reading_1_16_the_value_before_any_is_off() {
 
 #[test]
 fn reading_1_17_the_last_octets_of_an_edge_are_zero() {
-    let pair = Pair { actuator: actuator(&worked()), sensor: sensor(&TOGGLE) };
+    let pair = worked_pair();
     for place in [6, 7] {
         let mut octets = input(press(0));
         octets[place] = 5;
@@ -221,7 +229,7 @@ fn reading_1_17_the_last_octets_of_an_edge_are_zero() {
 
 #[test]
 fn reading_1_18_no_status_in_the_joined_list() {
-    let pair = Pair { actuator: actuator(&worked()), sensor: sensor(&TOGGLE) };
+    let pair = worked_pair();
     assert_eq!(pair_single(&pair, &input((0, STATUS, 1))).code, 6);
     refused(&wall_list(&worked(), 10, &[press(0), (5, STATUS, 0)], &TOGGLE), 6, 1);
 }
@@ -321,7 +329,7 @@ fn each_edge_has_its_own_action() {
 
 #[test]
 fn a_silent_edge_moves_both_clocks() {
-    let pair = Pair { actuator: actuator(&worked()), sensor: sensor(&TOGGLE) };
+    let pair = worked_pair();
     let given = pair_single(&pair, &input((30, BUTTON_1, FALLING)));
     assert_eq!((given.answer, given.sent), (1, [0; 8]));
     assert_eq!((given.pair.actuator.clock, given.pair.sensor.clock), (30, 30));
@@ -329,7 +337,7 @@ fn a_silent_edge_moves_both_clocks() {
 
 #[test]
 fn a_cue_moves_the_sensors_clock_by_its_records_alone() {
-    let pair = Pair { actuator: actuator(&worked()), sensor: sensor(&TOGGLE) };
+    let pair = worked_pair();
     let pair = pair_single(&pair, &input((5, ON_OFF, 1))).pair;
     assert_eq!((pair.actuator.clock, pair.sensor.clock, pair.sensor.value), (5, 0, OFF));
     let moved = pair_clock_move(&pair, 30);
@@ -341,7 +349,7 @@ fn a_cue_moves_the_sensors_clock_by_its_records_alone() {
 #[test]
 fn three_timers_and_the_telegram_in_one_edge() {
     // on at 20, Warning at 620, dark at 720, then the press: its On waits for the delay
-    let pair = Pair { actuator: actuator(&worked()), sensor: sensor(&TOGGLE) };
+    let pair = worked_pair();
     let pair = pair_single(&pair, &input((0, TIMED, 1))).pair;
     let given = pair_single(&pair, &input(press(720)));
     assert_eq!(given.records, [record((20, 255, 17, 0)), record((720, 0, 1, 0))]);
@@ -450,12 +458,7 @@ fn kinds_and_values_of_a_wall_list() {
     for params in VERSIONS.map(|version| in_version(version, &worked())) {
         for kind in 0..=255 {
             for value in 0..=255 {
-                let good = match kind {
-                    1 | 2 | 5 | 6 | 7 | 8 | 11 | 12 => value < 2,
-                    3 => value & 0x40 == 0,
-                    4 => value < 4,
-                    _ => false,
-                };
+                let good = is_cue(kind, value) || (matches!(kind, 11 | 12) && value < 2);
                 let list = wall_list(&params, 10, &[(0, ON_OFF, 1), (5, kind, value)], &TOGGLE);
                 let run = wall_run(&list, 1000, 1000);
                 let wanted = if good { (0, 0) } else { (6, 1) };
@@ -757,7 +760,7 @@ fn the_actuator_plays_the_telegrams() {
     // out where it sends nothing) is a cue file with the same records, answers and end state
     let mut telegrams = 0;
     any_lists(102, 20_000, |list| {
-        let run = wall_run(list, usize::MAX, usize::MAX);
+        let run = wall_run_all(list);
         if run.code != 0 {
             return;
         }
@@ -780,7 +783,7 @@ fn the_actuator_plays_the_telegrams() {
         let mut file = list[..inputs_at(list)].to_vec();
         file[8..12].copy_from_slice(&(cues.len() as u32).to_be_bytes());
         file.extend(cues.concat());
-        let plain = model::run(&file, usize::MAX, usize::MAX);
+        let plain = run_all(&file);
         assert_eq!((plain.code, &plain.records, &plain.answers), (0, &run.records, &answers));
         assert_eq!(plain.end, run.end.actuator);
     });
@@ -793,7 +796,7 @@ fn the_sensor_hears_the_records() {
     // edge after the records that precede it, sends the same
     let mut statuses = 0;
     any_lists(103, 20_000, |list| {
-        let run = wall_run(list, usize::MAX, usize::MAX);
+        let run = wall_run_all(list);
         if run.code != 0 {
             return;
         }
@@ -830,7 +833,7 @@ fn the_sensor_hears_the_records() {
 #[test]
 fn by_value_step_by_step_is_the_run() {
     any_lists(104, 20_000, |list| {
-        let run = wall_run(list, usize::MAX, usize::MAX);
+        let run = wall_run_all(list);
         if run.code != 0 {
             return;
         }
@@ -870,12 +873,8 @@ fn lent_buffers_hold_what_the_run_gives() {
         };
         let run = wall_run(list, room, places);
         let (mut records, mut answers) = (vec![0xA5; room], vec![0x5A; places]);
-        let (mut wanted_records, mut wanted_answers) = (records.clone(), answers.clone());
-        for (index, record) in run.records.iter().enumerate() {
-            wanted_records[8 * index..8 * index + 8].copy_from_slice(&record_octets(record));
-        }
-        wanted_answers[..run.answers.len()].copy_from_slice(&run.answers);
+        let wanted = written_over(&records, &answers, &run.records, &run.answers);
         assert_eq!(wall_run_into(list, &mut records, &mut answers), number(&run));
-        assert_eq!((records, answers), (wanted_records, wanted_answers));
+        assert_eq!((records, answers), wanted);
     });
 }
