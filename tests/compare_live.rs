@@ -14,7 +14,7 @@ mod live_scripts;
 mod model;
 mod noted_met;
 
-use calls::{number_named, room, AnswersMet, Call, Case, Claims, Comparison, Outcome};
+use calls::{exactly, number_named, room, row_name, AnswersMet, Call, Case, Claims, Comparison, Outcome, CODES};
 use files::{stamp_of, CueFile, Layout, Rng, HEADER, LAST, LAYOUTS};
 use images::{broken, Fields, OCTETS, PHASES, RULES, STARTING};
 use live_cases::{clock_move, MOVE_ROOM};
@@ -69,7 +69,7 @@ fn row(case: &Case) -> usize {
 /// What was met, by version.
 struct Met {
     /// By call and code.
-    codes: [[[u64; 13]; CALLS.len()]; ROWS],
+    codes: [[[u64; CODES]; CALLS.len()]; ROWS],
     /// Answers to inputs of changes, by kind, and what was noted.
     answers: [[AnswersMet; 8]; ROWS],
     noted: [Noted; ROWS],
@@ -96,7 +96,7 @@ struct Met {
 impl Met {
     fn new() -> Met {
         Met {
-            codes: [[[0; 13]; CALLS.len()]; ROWS],
+            codes: [[[0; CODES]; CALLS.len()]; ROWS],
             answers: [[AnswersMet::default(); 8]; ROWS],
             noted: Default::default(),
             phases_in: [[0; PHASES as usize]; ROWS],
@@ -184,7 +184,7 @@ impl Met {
 
     fn say(&self) {
         for row in 0..ROWS {
-            println!("{}:", name(row));
+            println!("{}:", row_name(row));
             for (call, (what, ..)) in CALLS.iter().enumerate() {
                 let met: Vec<(usize, u64)> =
                     self.codes[row][call].iter().copied().enumerate().filter(|(_, count)| *count > 0).collect();
@@ -215,9 +215,8 @@ impl Met {
         for row in 0..ROWS {
             for (call, (what, played, other)) in CALLS.iter().enumerate() {
                 let possible = if row < LAYOUTS.len() { *played } else { *other };
-                let met = &self.codes[row][call];
-                let as_possible = (0..met.len()).all(|code| possible.contains(&code) == (met[code] > 0));
-                claims.claim(&format!("{}, {:?}: codes {:?} are met, and no other", name(row), what, possible), as_possible);
+                let what = format!("{}, {:?}: codes {:?} are met, and no other", row_name(row), what, possible);
+                claims.claim(&what, exactly(&self.codes[row][call], possible));
             }
         }
         for row in 0..LAYOUTS.len() {
@@ -230,15 +229,11 @@ impl Met {
 
     /// What must be met in each version that is played.
     fn claim_version(&self, row: usize, claims: &mut Claims) {
-        let name = name(row);
+        let name = row_name(row);
         let mut claim = |what: &str, holds: bool| claims.claim(&format!("{}: {}", name, what), holds);
         let all = |counts: &[u64]| counts.iter().all(|count| *count > 0);
-        let answers = self.answers[row].iter().zip(ANSWERS);
-        let as_possible = |met: &AnswersMet, possible: &[usize]| {
-            (0..met.len()).all(|answer| possible.contains(&answer) == (met[answer] > 0))
-        };
         claim("every kind is answered in every way that it can be, and no other", {
-            answers.into_iter().all(|(met, possible)| as_possible(met, possible))
+            self.answers[row].iter().zip(ANSWERS).all(|(met, possible)| exactly(met, possible))
         });
         claim("every phase is handed in, and given", all(&self.phases_in[row]) && all(&self.phases_out[row]));
         // the last rules speak of combinations; the first of the version, and the second of version 1 alone
@@ -253,11 +248,6 @@ impl Met {
         claim("changes of 0 and of 256 inputs", all(&self.ends[row]));
         self.noted[row].claim(&format!("{}: ", name), claims);
     }
-}
-
-/// What a row of the counts is of.
-fn name(row: usize) -> String {
-    LAYOUTS.get(row).map_or("any other version".to_string(), |layout| format!("version {}", layout.version))
 }
 
 /// The comparison, and counts of what was met.
