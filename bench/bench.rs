@@ -9,6 +9,8 @@
 //! The buffers are as long as the header asks, and are not cleared between calls: either side writes all that it answers for. A show
 //! that is played live starts each time from the same image, which is copied anew.
 
+#[path = "../tests/archive.rs"]
+mod archive;
 #[path = "../tests/files.rs"]
 mod files;
 #[path = "../tests/images.rs"]
@@ -24,12 +26,6 @@ mod wall;
 mod walls;
 
 use std::time::Instant;
-
-extern "C" {
-    fn house_run(f: *const u8, fl: usize, r: *mut u8, rl: usize, a: *mut u8, al: usize) -> u64;
-    fn house_wall_run(w: *const u8, wl: usize, r: *mut u8, rl: usize, a: *mut u8, al: usize) -> u64;
-    fn house_change(s: *mut u8, sl: usize, i: *const u8, il: usize, r: *mut u8, rl: usize, a: *mut u8, al: usize) -> u64;
-}
 
 /// The second model under a name that a counting tool finds; it is compiled with this program, at its best optimisation.
 #[no_mangle]
@@ -52,19 +48,16 @@ pub fn model_change(state: &mut [u8], inputs: &[u8], records: &mut [u8], answers
     live::change_into(state, inputs, records, answers)
 }
 
-fn proved_run(file: &[u8], records: &mut [u8], answers: &mut [u8]) -> u64 {
-    unsafe { house_run(file.as_ptr(), file.len(), records.as_mut_ptr(), records.len(), answers.as_mut_ptr(), answers.len()) }
-}
+/// house_run or house_wall_run.
+type RunForC = unsafe extern "C" fn(*const u8, usize, *mut u8, usize, *mut u8, usize) -> u64;
 
-fn proved_wall_run(list: &[u8], records: &mut [u8], answers: &mut [u8]) -> u64 {
-    unsafe {
-        house_wall_run(list.as_ptr(), list.len(), records.as_mut_ptr(), records.len(), answers.as_mut_ptr(), answers.len())
-    }
+fn proved(run: RunForC, list: &[u8], records: &mut [u8], answers: &mut [u8]) -> u64 {
+    unsafe { run(list.as_ptr(), list.len(), records.as_mut_ptr(), records.len(), answers.as_mut_ptr(), answers.len()) }
 }
 
 fn proved_change(state: &mut [u8], inputs: &[u8], records: &mut [u8], answers: &mut [u8]) -> u64 {
     let ((s, sl), (i, il)) = ((state.as_mut_ptr(), state.len()), (inputs.as_ptr(), inputs.len()));
-    unsafe { house_change(s, sl, i, il, records.as_mut_ptr(), records.len(), answers.as_mut_ptr(), answers.len()) }
+    unsafe { archive::house_change(s, sl, i, il, records.as_mut_ptr(), records.len(), answers.as_mut_ptr(), answers.len()) }
 }
 
 /// The two sides of every comparison.
@@ -75,8 +68,8 @@ type Change = fn(&mut [u8], &[u8], &mut [u8], &mut [u8]) -> u64;
 
 fn run_of(show: &str, side: &str) -> Run {
     match (side, shows::is_wall(show)) {
-        ("proved", false) => proved_run,
-        ("proved", true) => proved_wall_run,
+        ("proved", false) => |list, records, answers| proved(archive::house_run, list, records, answers),
+        ("proved", true) => |list, records, answers| proved(archive::house_wall_run, list, records, answers),
         ("model", false) => model_run,
         ("model", true) => model_wall_run,
         _ => panic!("no side {side}"),

@@ -5,6 +5,10 @@
 //! bridge too; without it everything goes by the bridge.
 #![allow(dead_code)]
 
+#[cfg(linked)]
+#[path = "archive.rs"]
+mod archive;
+
 use crate::files::{enough, Rng, LAYOUTS};
 use crate::model::{number, record_octets, Run};
 use std::collections::HashMap;
@@ -104,37 +108,6 @@ impl Outcome {
 
     pub fn count(&self) -> usize {
         self.number as u32 as usize
-    }
-}
-
-/// The functions of the archives, as include/house.h declares them.
-#[cfg(linked)]
-mod archive {
-    extern "C" {
-        pub fn house_run(f: *const u8, fl: usize, r: *mut u8, rl: usize, a: *mut u8, al: usize) -> u64;
-        pub fn house_wall_run(w: *const u8, wl: usize, r: *mut u8, rl: usize, a: *mut u8, al: usize) -> u64;
-        pub fn house_fresh(p: *const u8, pl: usize, s: *mut u8, sl: usize) -> u64;
-        pub fn house_change(
-            s: *mut u8,
-            sl: usize,
-            i: *const u8,
-            il: usize,
-            r: *mut u8,
-            rl: usize,
-            a: *mut u8,
-            al: usize,
-        ) -> u64;
-        pub fn house_move(s: *mut u8, sl: usize, stamp: u32, r: *mut u8, rl: usize) -> u64;
-        pub fn house_run_to(
-            f: *const u8,
-            fl: usize,
-            s: *mut u8,
-            sl: usize,
-            r: *mut u8,
-            rl: usize,
-            a: *mut u8,
-            al: usize,
-        ) -> u64;
     }
 }
 
