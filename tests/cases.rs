@@ -3,7 +3,7 @@
 
 pub use crate::files::kinds::*;
 
-use crate::files::{self, cue_file, rest_of, u32_at, HEADER, LAYOUTS};
+use crate::files::{self, cue_file, rest_of, u32_at, CueFile, Rng, HEADER, LAYOUTS};
 use crate::model::*;
 
 pub type Cue = (u32, u8, u8);
@@ -133,6 +133,14 @@ pub fn is_cue(kind: u8, value: u8) -> bool {
 /// A whole file, with room enough.
 pub fn run_all(file: &[u8]) -> Run {
     run(file, usize::MAX, usize::MAX)
+}
+
+/// The state at the end of a random show of less than so many inputs, of either version.
+pub fn any_end(inputs: u64, rng: &mut Rng) -> State {
+    let n = rng.below(inputs) as usize;
+    let run = run_all(&CueFile::random(rng, n).octets());
+    assert_eq!(run.code, 0);
+    run.end
 }
 
 pub fn output(state: &State) -> bool {

@@ -410,8 +410,7 @@ impl Hold {
 
 /// A random state on the way through a show, with the link up and its clock not near the last stamp.
 fn any_state(rng: &mut Rng) -> Option<State> {
-    let n = rng.below(12) as usize;
-    let end = run_all(&CueFile::random(rng, n).octets()).end;
+    let end = any_end(12, rng);
     (end.link == Link::Up && end.clock < 100_000).then_some(end)
 }
 

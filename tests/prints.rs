@@ -75,15 +75,6 @@ fn sample(rng: &mut Rng, made: Made) -> Vec<Vec<u8>> {
     sample
 }
 
-/// The answers to the inputs of a list.
-fn answers(file: &[u8], walls: bool) -> Vec<u8> {
-    if walls {
-        wall::wall_run(file, usize::MAX, usize::MAX).answers
-    } else {
-        model::run(file, usize::MAX, usize::MAX).answers
-    }
-}
-
 /// Whether a word stands first; it is taken away.
 fn told_to(command: &mut Vec<String>, wanted: &str) -> bool {
     let told = command.first().map_or(false, |word| word == wanted);
@@ -106,12 +97,11 @@ fn main() {
     let mut failed = 0;
     let mut answered = [0; 7];
     for file in &sample {
-        answers(file, walls).iter().for_each(|answer| answered[usize::from(*answer)] += 1);
-        let expected = match (phases, words, walls) {
-            (true, _, _) => told::phases(file, walls),
-            (_, true, _) => told::words(file, walls),
-            (_, _, true) => wall::print_wall(file),
-            _ => model::print(file),
+        told::played(file, walls).1.iter().for_each(|answer| answered[usize::from(*answer)] += 1);
+        let expected = match (phases, words) {
+            (true, _) => told::phases(file, walls),
+            (_, true) => told::words(file, walls),
+            _ => told::printed(file, walls),
         };
         let found = printed(&command, file);
         if found == expected {
