@@ -54,11 +54,7 @@ impl Kind for Cues {
             files::noise(rng)
         } else {
             let n = files::length(rng);
-            let mut show = CueFile::random(rng, n);
-            if which < 15 {
-                show.spoil(rng);
-            }
-            show.octets()
+            CueFile::random(rng, n).spoilt_if(which < 15, rng).octets()
         };
         tally.check(file, sample, rng);
     }

@@ -298,11 +298,7 @@ impl Tally {
 
     fn run_to(&mut self, layout: &'static Layout, rng: &mut Rng) -> Vec<u8> {
         let n = if rng.chance(2) { rng.below(300) as usize } else { rng.below(16) as usize };
-        let mut show = CueFile::random_in(layout, rng, n);
-        if rng.chance(20) {
-            show.spoil(rng);
-        }
-        let mut file = show.octets();
+        let mut file = CueFile::random_in(layout, rng, n).spoilt_if(rng.chance(20), rng).octets();
         if rng.chance(3) {
             file.truncate(rng.below(70) as usize);
         }

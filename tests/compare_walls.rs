@@ -130,10 +130,7 @@ impl Kind for Met {
         let octets = match rng.below(100) {
             0..=1 => files::noise(rng),
             2..=13 => {
-                let mut show = CueFile::random(rng, n);
-                if rng.chance(30) {
-                    show.spoil(rng);
-                }
+                let show = CueFile::random(rng, n).spoilt_if(rng.chance(30), rng);
                 return check_plain(tally, &show, sample, rng);
             }
             14..=27 => WallList::random(rng, n).spoilt(rng),

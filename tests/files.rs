@@ -270,6 +270,14 @@ impl CueFile {
         CueFile { layout, version: layout.version, inputs_offset: layout.inputs_at() as u32, ..self }
     }
 
+    /// The same show, or with one thing put out of order.
+    pub fn spoilt_if(mut self, spoilt: bool, rng: &mut Rng) -> CueFile {
+        if spoilt {
+            self.spoil(rng);
+        }
+        self
+    }
+
     /// One thing is put out of order.
     pub fn spoil(&mut self, rng: &mut Rng) {
         let which = rng.below(14);

@@ -612,10 +612,7 @@ fn a_run_to_a_state_is_the_run_and_its_end() {
     let mut codes = [0; 9];
     for _ in 0..20_000 {
         let n = rng.below(20) as usize;
-        let mut show = CueFile::random(&mut rng, n);
-        if rng.chance(50) {
-            show.spoil(&mut rng);
-        }
+        let show = CueFile::random(&mut rng, n).spoilt_if(rng.chance(50), &mut rng);
         let mut file = show.octets();
         if rng.chance(2) {
             file.truncate(rng.below(60) as usize);

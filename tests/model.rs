@@ -1092,28 +1092,37 @@ pub fn single(state: &State, octets: &[u8; 8]) -> Single {
     Single { state: moved, code: 0, place: 0, answer, records: tape.records }
 }
 
-/// "a clock move the state and at most two"
+/// "a clock move the state and at most two", of an actuator or of a pair
 #[derive(Clone, Debug, PartialEq, Eq)]
-pub struct Move {
-    pub state: State,
+pub struct Move<House = State> {
+    pub state: House,
     pub code: u8,
     pub place: u16,
     pub records: Vec<Record>,
 }
 
-/// "A clock move: 9, 7."
 pub fn clock_move(state: &State, stamp: u32) -> Move {
-    let refused = |code| Move { state: *state, code, place: 0, records: Vec::new() };
-    if !sound(state) {
-        return refused(9);
+    let bad_stamp = stamp_refused(stamp, state.clock, LAST_STAMP);
+    move_of(state, sound(state), bad_stamp, |state, tape| move_clock(state, stamp, tape))
+}
+
+/// "A clock move: 9, 7."
+pub(crate) fn move_of<House: Copy>(
+    before: &House,
+    sound: bool,
+    bad_stamp: bool,
+    play: impl FnOnce(&mut House, &mut VecTape),
+) -> Move<House> {
+    let (mut state, mut tape) = (*before, VecTape::default());
+    let code = match (sound, bad_stamp) {
+        (false, _) => 9,
+        (true, true) => 7,
+        (true, false) => 0,
+    };
+    if code == 0 {
+        play(&mut state, &mut tape);
     }
-    if stamp_refused(stamp, state.clock, LAST_STAMP) {
-        return refused(7);
-    }
-    let mut moved = *state;
-    let mut tape = VecTape::default();
-    move_clock(&mut moved, stamp, &mut tape);
-    Move { state: moved, code: 0, place: 0, records: tape.records }
+    Move { state, code, place: 0, records: tape.records }
 }
 
 /// "Parameters alone give the fresh state." With it code and place.

@@ -164,7 +164,7 @@ impl Player {
 
     fn pair_clock_move(&mut self, o: [u8; 4]) {
         let given = wall::pair_clock_move(&self.now, u32::from_be_bytes(o));
-        self.now = given.pair;
+        self.now = given.state;
         let report = report_text(given.code, given.place, 0, given.records.len());
         let records = records_text(&given.records, 2);
         let pair = self.pair_text();

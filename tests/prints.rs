@@ -36,11 +36,7 @@ fn printed(command: &[String], file: &[u8]) -> String {
 
 /// A cue file of n inputs, in order or spoilt.
 fn cue_file(layout: &'static Layout, rng: &mut Rng, n: usize, spoilt: bool) -> Vec<u8> {
-    let mut show = CueFile::random_in(layout, rng, n);
-    if spoilt {
-        show.spoil(rng);
-    }
-    show.octets()
+    CueFile::random_in(layout, rng, n).spoilt_if(spoilt, rng).octets()
 }
 
 /// A wall list of n items, in order or spoilt.

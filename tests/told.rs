@@ -30,8 +30,8 @@ fn print_phase(text: &mut String, state: &State) {
 fn move_to(pair: &mut Pair, stamp: u32, text: &mut String) {
     let moved = pair_clock_move(pair, stamp);
     print_records(text, &moved.records);
-    print_phase(text, &moved.pair.actuator);
-    *pair = moved.pair;
+    print_phase(text, &moved.state.actuator);
+    *pair = moved.state;
 }
 
 /// When the next timer runs that is due by a stamp.
@@ -172,7 +172,7 @@ fn outcome(input: &[u8], one: &PairSingle, sent: Option<u8>) -> String {
 /// Every timer that is due by a stamp, told at its own moment.
 fn tell_timers(pair: &mut Pair, stamp: u32, text: &mut String) {
     while let Some(due) = next_timer(pair, stamp) {
-        *pair = pair_clock_move(pair, due).pair;
+        *pair = pair_clock_move(pair, due).state;
         let said = match pair.actuator.phase {
             Phase::Warning { deadline } => format!("warning begins, dark at {}", moment(deadline)),
             _ => house(&pair.actuator),

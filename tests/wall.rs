@@ -9,8 +9,8 @@
 
 use crate::model::{
     accept_header_and_parameters, accept_inputs, accept_room, accept_single, decode_input,
-    move_clock, number_of, printed, record_of, refuse, run_of, sound, stamp_refused,
-    state_of_a_refusal, take_input, u32_at, Cues, Input, Record, Refusal, Run, State, Tape,
+    move_clock, move_of, number_of, printed, record_of, refuse, run_of, sound, stamp_refused,
+    state_of_a_refusal, take_input, u32_at, Cues, Input, Move, Record, Refusal, Run, State, Tape,
     VecTape, CAUSE_START, INPUT, LAST_STAMP, LEAST_FILE,
 };
 
@@ -332,29 +332,13 @@ pub fn pair_single(pair: &Pair, octets: &[u8; 8]) -> PairSingle {
     PairSingle { pair: moved, code: 0, place: 0, answer, records: tape.records, sent }
 }
 
-/// What a clock move of the pair gives: at most two records.
-#[derive(Clone, Debug, PartialEq, Eq)]
-pub struct PairMove {
-    pub pair: Pair,
-    pub code: u8,
-    pub place: u16,
-    pub records: Vec<Record>,
-}
-
-/// "A clock move: 9, 7." (document 01). The sensor's clock moves by the records alone.
-pub fn pair_clock_move(pair: &Pair, stamp: u32) -> PairMove {
-    let refused = |code| PairMove { pair: *pair, code, place: 0, records: Vec::new() };
-    if !pair_sound(pair) {
-        return refused(9);
-    }
-    if stamp_refused(stamp, pair.actuator.clock, LAST_STAMP) {
-        return refused(7);
-    }
-    let mut moved = *pair;
-    let mut tape = VecTape::default();
-    let mut heard = Heard { tape: &mut tape, sensor: &mut moved.sensor };
-    move_clock(&mut moved.actuator, stamp, &mut heard);
-    PairMove { pair: moved, code: 0, place: 0, records: tape.records }
+/// A clock move of the pair. The sensor's clock moves by the records alone.
+pub fn pair_clock_move(pair: &Pair, stamp: u32) -> Move<Pair> {
+    let bad_stamp = stamp_refused(stamp, pair.actuator.clock, LAST_STAMP);
+    move_of(pair, pair_sound(pair), bad_stamp, |pair, tape| {
+        let mut heard = Heard { tape, sensor: &mut pair.sensor };
+        move_clock(&mut pair.actuator, stamp, &mut heard);
+    })
 }
 
 // ================================================================================================

@@ -342,8 +342,8 @@ fn a_cue_moves_the_sensors_clock_by_its_records_alone() {
     assert_eq!((pair.actuator.clock, pair.sensor.clock, pair.sensor.value), (5, 0, OFF));
     let moved = pair_clock_move(&pair, 30);
     assert_eq!(moved.records, [record((25, 255, 1, 0))]);
-    let sensor = moved.pair.sensor;
-    assert_eq!((moved.pair.actuator.clock, sensor.clock, sensor.value), (30, 25, ON));
+    let sensor = moved.state.sensor;
+    assert_eq!((moved.state.actuator.clock, sensor.clock, sensor.value), (30, 25, ON));
 }
 
 #[test]
@@ -553,7 +553,7 @@ fn the_pair_refuses_9_then_6_then_7() {
         refused(pair, input(press(20)), 9);
         refused(pair, input((20, ON_OFF, 1)), 9);
         for stamp in [9, 20] {
-            let wanted = PairMove { pair: *pair, code: 9, place: 0, records: vec![] };
+            let wanted = Move { state: *pair, code: 9, place: 0, records: vec![] };
             assert_eq!(pair_clock_move(pair, stamp), wanted);
         }
     }
@@ -564,7 +564,7 @@ fn the_pair_refuses_9_then_6_then_7() {
     for stamp in [0, 4, 9, LAST_STAMP + 1, u32::MAX] {
         refused(&good, input(press(stamp)), 7);
         refused(&good, input((stamp, ON_OFF, 1)), 7);
-        let wanted = PairMove { pair: good, code: 7, place: 0, records: vec![] };
+        let wanted = Move { state: good, code: 7, place: 0, records: vec![] };
         assert_eq!(pair_clock_move(&good, stamp), wanted);
     }
 }
@@ -634,7 +634,7 @@ fn the_pair_keeps_its_version_and_is_sound_by_it() {
     let pressed = pair_single(&new, &input(press(3)));
     assert_eq!((pressed.code, pressed.pair.actuator.params.version), (0, 2));
     let moved = pair_clock_move(&pressed.pair, 500);
-    assert_eq!((moved.code, moved.pair.actuator.params), (0, new.actuator.params));
+    assert_eq!((moved.code, moved.state.actuator.params), (0, new.actuator.params));
     for version in [0, 1, 3, 255] {
         let params = in_version(version, &new.actuator.params);
         let other = Pair { actuator: State { params, ..new.actuator }, ..new };
@@ -717,6 +717,16 @@ fn any_lists(seed: u64, count: usize, mut check: impl FnMut(&[u8])) {
     }
 }
 
+/// Those among them that are accepted, and what they give.
+fn any_accepted(seed: u64, count: usize, mut check: impl FnMut(&[u8], Run<Pair>)) {
+    any_lists(seed, count, |list| {
+        let run = wall_run_all(list);
+        if run.code == 0 {
+            check(list, run);
+        }
+    });
+}
+
 /// The items of an accepted list.
 fn items(list: &[u8]) -> Vec<[u8; 8]> {
     let octets = |item: &[u8]| <[u8; 8]>::try_from(item).unwrap();
@@ -728,10 +738,7 @@ fn a_cue_file_before_any_actions_is_the_plain_run() {
     let mut rng = Rng::new(101);
     for _ in 0..20_000 {
         let n = files::length(&mut rng);
-        let mut show = CueFile::random(&mut rng, n);
-        if rng.chance(30) {
-            show.spoil(&mut rng);
-        }
+        let show = CueFile::random(&mut rng, n).spoilt_if(rng.chance(30), &mut rng);
         let octets = show.octets();
         let has_edge = show.inputs.iter().any(|item| is_edge(item));
         for actions in [[0; 4], [0; 4].map(|_: u8| rng.below(4) as u8)] {
@@ -759,11 +766,7 @@ fn the_actuator_plays_the_telegrams() {
     // demand 2 over the pair, first half: the list with each edge replaced by what it sends (and taken
     // out where it sends nothing) is a cue file with the same records, answers and end state
     let mut telegrams = 0;
-    any_lists(102, 20_000, |list| {
-        let run = wall_run_all(list);
-        if run.code != 0 {
-            return;
-        }
+    any_accepted(102, 20_000, |list, run| {
         let mut cues = Vec::new();
         let mut answers = Vec::new();
         for (index, item) in items(list).iter().enumerate() {
@@ -795,11 +798,7 @@ fn the_sensor_hears_the_records() {
     // demand 2 over the pair, second half: the sensor alone, given each record as a status and each
     // edge after the records that precede it, sends the same
     let mut statuses = 0;
-    any_lists(103, 20_000, |list| {
-        let run = wall_run_all(list);
-        if run.code != 0 {
-            return;
-        }
+    any_accepted(103, 20_000, |list, run| {
         let mut sensor = fresh_sensor(&list[list.len() - 4..]).0;
         let mut heard = 0;
         let mut hear_up_to = |sensor: &mut Sensor, count: usize| {
@@ -832,11 +831,7 @@ fn the_sensor_hears_the_records() {
 
 #[test]
 fn by_value_step_by_step_is_the_run() {
-    any_lists(104, 20_000, |list| {
-        let run = wall_run_all(list);
-        if run.code != 0 {
-            return;
-        }
+    any_accepted(104, 20_000, |list, run| {
         // the start record is heard, and changes nothing of a fresh sensor
         let mut pair = Pair {
             actuator: fresh(parameters_in(list)).0,
@@ -856,7 +851,7 @@ fn by_value_step_by_step_is_the_run() {
         let last = pair_clock_move(&pair, u32_at(list, 16));
         assert!(last.code == 0 && last.records.len() <= 2);
         records.extend(last.records);
-        assert_eq!((&records, sends, last.pair), (&run.records, run.sends.len(), run.end));
+        assert_eq!((&records, sends, last.state), (&run.records, run.sends.len(), run.end));
     });
 }
 

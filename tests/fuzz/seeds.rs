@@ -121,10 +121,7 @@ fn steps(rng: &mut Rng) -> Vec<u8> {
 
 fn random(seeds: &mut Seeds, layout: &'static Layout, rng: &mut Rng) {
     let n = rng.below(16) as usize;
-    let mut show = CueFile::random_in(layout, rng, n);
-    if rng.chance(30) {
-        show.spoil(rng);
-    }
+    let show = CueFile::random_in(layout, rng, n).spoilt_if(rng.chance(30), rng);
     seeds.cues(&show.octets(), deviations(rng));
     let list = WallList::random_in(layout, rng, n);
     let octets = if rng.chance(30) { list.spoilt(rng) } else { list.octets() };
