@@ -179,7 +179,7 @@ fn mix(show: &str, n: usize) {
     // the start record of a run is no timer's
     let start = usize::from(shows::in_a_call(show).is_none());
     let (records, answers) = (given.records, given.answers);
-    let by_timers = records.chunks(8).skip(start).filter(|r| r[6] == 0).count();
+    let by_timers = records.chunks(8).skip(start).filter(|record| files::cause_of(record) == 0).count();
     let answered = |wanted: std::ops::RangeInclusive<u8>| answers.iter().filter(|a| wanted.contains(a)).count();
     let [changing, idle, noted, stopped] = [0..=0, 1..=1, 6..=6, 2..=5].map(answered);
     println!("{changing} {idle} {noted} {stopped} {} {by_timers}", records.len() / 8);

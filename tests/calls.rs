@@ -9,7 +9,7 @@
 #[path = "archive.rs"]
 mod archive;
 
-use crate::files::{enough, Rng, LAYOUTS};
+use crate::files::{enough, with, Rng, LAYOUTS};
 use crate::model::{number, record_octets, Run};
 use std::collections::HashMap;
 use std::io::{BufReader, BufWriter, Read, Write};
@@ -290,9 +290,7 @@ pub fn damaged(list: &[u8]) -> Vec<Vec<u8>> {
     for at in 0..list.len() {
         for value in 0..=255 {
             if value != list[at] {
-                let mut other = list.to_vec();
-                other[at] = value;
-                lists.push(other);
+                lists.push(with(list, at, value));
             }
         }
     }

@@ -82,20 +82,6 @@ pub fn actuator(params: &Params) -> State {
     fresh(&parameter_octets(params, &no_scenes())).0
 }
 
-/// An octet changed.
-pub fn with(octets: &[u8], octet: usize, value: u8) -> Vec<u8> {
-    let mut octets = octets.to_vec();
-    octets[octet] = value;
-    octets
-}
-
-/// Cut to this length, or prolonged with zeros.
-pub fn resized(octets: &[u8], length: usize) -> Vec<u8> {
-    let mut octets = octets.to_vec();
-    octets.resize(length, 0);
-    octets
-}
-
 /// A record: stamp, value, attributes and cause.
 pub type Written = (u32, u8, u8, u8);
 

@@ -15,7 +15,7 @@ mod model;
 mod noted_met;
 
 use calls::{exactly, number_named, room, row_name, AnswersMet, Call, Case, Claims, Comparison, Outcome, CODES};
-use files::{stamp_of, CueFile, Layout, Rng, HEADER, LAST, LAYOUTS};
+use files::{cause_of, stamp_of, CueFile, Layout, Rng, HEADER, LAST, LAYOUTS};
 use images::{broken, Fields, OCTETS, PHASES, RULES, STARTING};
 use live_cases::{clock_move, MOVE_ROOM};
 use noted_met::Noted;
@@ -143,7 +143,7 @@ impl Met {
             self.after_an_input += u64::from(index > 0 && inputs[index - 1][..4] == input[..4]);
         }
         let records = given.records[..8 * given.count()].chunks_exact(8);
-        let by_timers = records.filter(|record| record[6] == 0);
+        let by_timers = records.filter(|record| cause_of(record) == 0);
         let stamps: Vec<&[u8]> = by_timers.map(|record| &record[..4]).collect();
         self.after_a_timer += inputs[..played].iter().filter(|input| stamps.contains(&&input[..4])).count() as u64;
         if given.code() != 0 {

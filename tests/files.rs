@@ -126,6 +126,11 @@ pub fn stamp_of(octets: &[u8]) -> u32 {
     u32_at(octets, 0)
 }
 
+/// The cause with which a record was written: the kind of an input, 0 for a timer and for the start.
+pub fn cause_of(record: &[u8]) -> u8 {
+    record[6]
+}
+
 /// How many inputs a header counts; none, where it is cut off before.
 pub fn inputs_in(list: &[u8]) -> usize {
     list.get(8..12).map_or(0, |count| u32_at(count, 0) as usize)
@@ -134,6 +139,20 @@ pub fn inputs_in(list: &[u8]) -> usize {
 /// As many octets of records and of answers as n inputs ask for.
 pub fn enough(n: usize) -> (usize, usize) {
     (8 * (3 * n + 3), n)
+}
+
+/// An octet changed.
+pub fn with(octets: &[u8], octet: usize, value: u8) -> Vec<u8> {
+    let mut octets = octets.to_vec();
+    octets[octet] = value;
+    octets
+}
+
+/// Cut to this length, or prolonged with zeros.
+pub fn resized(octets: &[u8], length: usize) -> Vec<u8> {
+    let mut octets = octets.to_vec();
+    octets.resize(length, 0);
+    octets
 }
 
 /// The parts of a cue file, in the order in which they are written; the times in tenths, whatever the version.

@@ -2,7 +2,7 @@
 //! it of cue files, compare_walls.rs of wall lists.
 
 use crate::calls::{damaged, exactly, number_named, room, row_name, Call, Case, Claims, Comparison, Outcome, CODES};
-use crate::files::{enough, inputs_in, Layout, Rng, LAYOUTS};
+use crate::files::{enough, inputs_in, resized, Layout, Rng, LAYOUTS};
 use crate::model::Run;
 use std::ops::RangeInclusive;
 
@@ -129,14 +129,7 @@ pub fn lent(call: Call, list: Vec<u8>, rng: &mut Rng) -> Case {
 fn of_lengths(list: &[u8], lengths: RangeInclusive<usize>) -> Vec<Vec<u8>> {
     let mut unknown = list.to_vec();
     unknown[0..2].copy_from_slice(&(LAYOUTS.len() as u16 + 1).to_be_bytes());
-    let resized = |length: usize| {
-        [list, &unknown].map(|list| {
-            let mut list = list.to_vec();
-            list.resize(length, 0);
-            list
-        })
-    };
-    lengths.flat_map(resized).collect()
+    lengths.flat_map(|length| [list, &unknown].map(|list| resized(list, length))).collect()
 }
 
 /// How many lists met each code, by the version that their first two octets name: the played ones, then any other.

@@ -3,7 +3,7 @@
 #![allow(dead_code)]
 
 use crate::calls::{damaged, Call, Case, Outcome, STATE_PATTERN};
-use crate::files::{cue_file, enough, input, parameters, rest_of, Layout, HEADER, LAST, LONGEST, REST};
+use crate::files::{cue_file, enough, input, parameters, resized, rest_of, with, Layout, HEADER, LAST, LONGEST, REST};
 use crate::images::{Fields, DARK, LIT, OCTETS, PHASES, STARTING};
 
 /// What plays a case and says what it must give.
@@ -295,8 +295,7 @@ pub fn rooms(layout: &Layout, play: &mut Play) {
     for length in 0..=120 {
         play(fresh(good.clone(), length));
         play(run_to(empty_file(layout, &good), length, enough(0)));
-        let mut other = state.clone();
-        other.resize(length, 0);
+        let other = resized(&state, length);
         play(change(other.clone(), Vec::new(), enough(0)));
         play(clock_move(&other, LAST, MOVE_ROOM));
     }
@@ -328,8 +327,7 @@ pub fn first_refusals(layout: &Layout, play: &mut Play) {
         }
     }
     let octets = parameters(layout, fields.times, &fields.rest);
-    let mut out_of_range = octets.clone();
-    out_of_range[octets.len() - 1] = 4;
+    let out_of_range = with(&octets, octets.len() - 1, 4);
     for parameters in [octets.clone(), out_of_range.clone(), octets[1..].to_vec(), out_of_range[1..].to_vec()] {
         for length in [OCTETS, OCTETS - 1, 0] {
             play(fresh(parameters.clone(), length));
@@ -412,9 +410,7 @@ pub fn parameters_alone(layout: &Layout, play: &mut Play) {
         play(fresh(octets, OCTETS));
     }
     for length in 0..=255 {
-        let mut octets = good.clone();
-        octets.resize(length, 0);
-        play(fresh(octets, OCTETS));
+        play(fresh(resized(&good, length), OCTETS));
     }
 }
 

@@ -9,7 +9,7 @@ mod live;
 mod model;
 
 use cases::*;
-use files::{CueFile, Rng, LAYOUTS};
+use files::{resized, with, CueFile, Rng, LAYOUTS};
 use images::{broken, Fields, RULES};
 use live::*;
 use model::*;

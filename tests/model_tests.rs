@@ -7,7 +7,7 @@ mod files;
 mod model;
 
 use cases::*;
-use files::{stamp_of, CueFile, Rng};
+use files::{resized, stamp_of, with, CueFile, Rng};
 use model::*;
 
 /// The records after the start record, and the answers.

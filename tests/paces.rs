@@ -101,10 +101,9 @@ fn records_text(records: &[Record], places: usize) -> String {
     assert!(records.len() <= places);
     let mut text = String::new();
     for place in 0..places {
-        let r = records.get(place).unwrap_or(&unused);
-        let [a, b, c, d] = r.stamp.to_be_bytes();
+        let octets = record_octets(records.get(place).unwrap_or(&unused));
         text += " |";
-        text += &digits(&[a, b, c, d, r.value, r.attributes, r.cause]);
+        text += &digits(&octets[..7]);
     }
     text
 }

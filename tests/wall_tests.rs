@@ -10,7 +10,7 @@ mod wall;
 mod walls;
 
 use cases::*;
-use files::{enough, inputs_in, stamp_of, CueFile, Rng, LAYOUTS};
+use files::{enough, inputs_in, resized, stamp_of, with, CueFile, Rng, LAYOUTS};
 use model::*;
 use wall::*;
 use walls::{is_edge, WallList};
