@@ -9,33 +9,23 @@
 //! The buffers are as long as the header asks, and are not cleared between calls: either side writes all that it answers for. A show
 //! that is played live starts each time from the same image, which is copied anew.
 
-#[path = "../tests/model.rs"]
-mod model;
-
-#[path = "../tests/wall.rs"]
-mod wall;
-
-#[path = "../tests/live.rs"]
-mod live;
-
+#[path = "../tests/archive.rs"]
+mod archive;
 #[path = "../tests/files.rs"]
 mod files;
-
 #[path = "../tests/images.rs"]
 mod images;
-
+#[path = "../tests/live.rs"]
+mod live;
+#[path = "../tests/model.rs"]
+mod model;
+mod shows;
+#[path = "../tests/wall.rs"]
+mod wall;
 #[path = "../tests/walls.rs"]
 mod walls;
 
-mod shows;
-
 use std::time::Instant;
-
-extern "C" {
-    fn house_run(f: *const u8, fl: usize, r: *mut u8, rl: usize, a: *mut u8, al: usize) -> u64;
-    fn house_wall_run(w: *const u8, wl: usize, r: *mut u8, rl: usize, a: *mut u8, al: usize) -> u64;
-    fn house_change(s: *mut u8, sl: usize, i: *const u8, il: usize, r: *mut u8, rl: usize, a: *mut u8, al: usize) -> u64;
-}
 
 /// The second model under a name that a counting tool finds; it is compiled with this program, at its best optimisation.
 #[no_mangle]
@@ -58,19 +48,16 @@ pub fn model_change(state: &mut [u8], inputs: &[u8], records: &mut [u8], answers
     live::change_into(state, inputs, records, answers)
 }
 
-fn proved_run(file: &[u8], records: &mut [u8], answers: &mut [u8]) -> u64 {
-    unsafe { house_run(file.as_ptr(), file.len(), records.as_mut_ptr(), records.len(), answers.as_mut_ptr(), answers.len()) }
-}
+/// house_run or house_wall_run.
+type RunForC = unsafe extern "C" fn(*const u8, usize, *mut u8, usize, *mut u8, usize) -> u64;
 
-fn proved_wall_run(list: &[u8], records: &mut [u8], answers: &mut [u8]) -> u64 {
-    unsafe {
-        house_wall_run(list.as_ptr(), list.len(), records.as_mut_ptr(), records.len(), answers.as_mut_ptr(), answers.len())
-    }
+fn proved(run: RunForC, list: &[u8], records: &mut [u8], answers: &mut [u8]) -> u64 {
+    unsafe { run(list.as_ptr(), list.len(), records.as_mut_ptr(), records.len(), answers.as_mut_ptr(), answers.len()) }
 }
 
 fn proved_change(state: &mut [u8], inputs: &[u8], records: &mut [u8], answers: &mut [u8]) -> u64 {
     let ((s, sl), (i, il)) = ((state.as_mut_ptr(), state.len()), (inputs.as_ptr(), inputs.len()));
-    unsafe { house_change(s, sl, i, il, records.as_mut_ptr(), records.len(), answers.as_mut_ptr(), answers.len()) }
+    unsafe { archive::house_change(s, sl, i, il, records.as_mut_ptr(), records.len(), answers.as_mut_ptr(), answers.len()) }
 }
 
 /// The two sides of every comparison.
@@ -81,8 +68,8 @@ type Change = fn(&mut [u8], &[u8], &mut [u8], &mut [u8]) -> u64;
 
 fn run_of(show: &str, side: &str) -> Run {
     match (side, shows::is_wall(show)) {
-        ("proved", false) => proved_run,
-        ("proved", true) => proved_wall_run,
+        ("proved", false) => |list, records, answers| proved(archive::house_run, list, records, answers),
+        ("proved", true) => |list, records, answers| proved(archive::house_wall_run, list, records, answers),
         ("model", false) => model_run,
         ("model", true) => model_wall_run,
         _ => panic!("no side {side}"),
@@ -119,13 +106,14 @@ struct Given {
 impl Stage {
     fn new(show: &str, n: usize) -> Stage {
         let image = shows::image(show, n);
+        let (records, answers) = files::enough(n);
         Stage {
             show: show.to_string(),
             list: shows::octets(show, n),
             state: image.clone(),
             image,
-            records: vec![0; 8 * (3 * n + 3)],
-            answers: vec![0; n],
+            records: vec![0; records],
+            answers: vec![0; answers],
         }
     }
 
@@ -191,7 +179,7 @@ fn mix(show: &str, n: usize) {
     // the start record of a run is no timer's
     let start = usize::from(shows::in_a_call(show).is_none());
     let (records, answers) = (given.records, given.answers);
-    let by_timers = records.chunks(8).skip(start).filter(|r| r[6] == 0).count();
+    let by_timers = records.chunks(8).skip(start).filter(|record| files::cause_of(record) == 0).count();
     let answered = |wanted: std::ops::RangeInclusive<u8>| answers.iter().filter(|a| wanted.contains(a)).count();
     let [changing, idle, noted, stopped] = [0..=0, 1..=1, 6..=6, 2..=5].map(answered);
     println!("{changing} {idle} {noted} {stopped} {} {by_timers}", records.len() / 8);

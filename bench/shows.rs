@@ -1,7 +1,7 @@
 //! The kinds of show, so that nobody tunes the run to one of them: five cue files, a wall list, and a drag that is played live, each in
 //! every version.
 
-use crate::files::{input, CueFile, Layout, Rng, LAYOUTS};
+use crate::files::{input, CueFile, Layout, Rng, LAST, LAYOUTS};
 use crate::images::Fields;
 use crate::walls::WallList;
 
@@ -164,7 +164,7 @@ fn drag(n: usize) -> CueFile {
     }
     let stamp = |i: usize| 8 * (i - usize::from(i % 5 == 4)) as u32;
     let inputs = orders.iter().enumerate().map(|(i, (kind, value))| input(stamp(i), *kind, *value)).collect();
-    CueFile { times: DELAYS, inputs, count: n as u32, end: 864_000, ..random_show(7, 256) }
+    CueFile { times: DELAYS, inputs, count: n as u32, end: LAST, ..random_show(7, 256) }
 }
 
 /// The same kinds and values again and again, so that what a longer show costs more is what more inputs cost. An input is 42
@@ -175,5 +175,5 @@ fn repeated(n: usize, times: [u32; 4], ties: bool, block: &[[u8; 2]]) -> CueFile
         let [kind, value] = block[i % block.len()];
         input(stamp, kind, value)
     };
-    CueFile { times, inputs: (0..n).map(repeated).collect(), count: n as u32, end: 864_000, ..random_show(7, 256) }
+    CueFile { times, inputs: (0..n).map(repeated).collect(), count: n as u32, end: LAST, ..random_show(7, 256) }
 }

@@ -34,22 +34,13 @@ struct lent {
     uint32_t stamp;
 };
 
-static int read_all(uint8_t *to, size_t left) {
+/* So many octets from standard input (0) or to standard output (1). */
+static int pass(int stream, uint8_t *at, size_t left) {
     while (left > 0) {
-        long got = read(0, to, left);
-        if (got <= 0) return 0;
-        to += got;
-        left -= (size_t)got;
-    }
-    return 1;
-}
-
-static int write_all(const uint8_t *from, size_t left) {
-    while (left > 0) {
-        long put = write(1, from, left);
-        if (put <= 0) return 0;
-        from += put;
-        left -= (size_t)put;
+        long passed = stream == 0 ? read(0, at, left) : write(1, at, left);
+        if (passed <= 0) return 0;
+        at += passed;
+        left -= (size_t)passed;
     }
     return 1;
 }
@@ -83,7 +74,7 @@ static int lend(const uint8_t *head, struct lent *l) {
     l->answers = place(answers_room, l->answers_len, null);
     fill(records_room, l->records_len, head[21]);
     fill(answers_room, l->answers_len, head[22]);
-    if (!read_all(list_room, l->list_len) || !read_all(state_room, l->state_len)) return 0;
+    if (!pass(0, list_room, l->list_len) || !pass(0, state_room, l->state_len)) return 0;
     for (size_t i = 0; i < l->list_len; i++) kept[i] = list_room[i];
     return 1;
 }
@@ -111,15 +102,15 @@ static int answer(const struct lent *l, uint64_t number) {
     for (size_t i = 0; i < l->list_len; i++) {
         if (list_room[i] != kept[i]) unchanged = 0;
     }
-    return write_all(octets, 8) && write_all(state_room, l->state_len) && write_all(records_room, l->records_len) &&
-           write_all(answers_room, l->answers_len) && write_all(&unchanged, 1);
+    return pass(1, octets, 8) && pass(1, state_room, l->state_len) && pass(1, records_room, l->records_len) &&
+           pass(1, answers_room, l->answers_len) && pass(1, &unchanged, 1);
 }
 
 int main(void) {
     uint8_t head[HEAD];
     struct lent lent;
     uint64_t number;
-    while (read_all(head, HEAD)) {
+    while (pass(0, head, HEAD)) {
         if (!lend(head, &lent) || !call(head[0], &lent, &number) || !answer(&lent, number)) return 1;
     }
     return 0;

@@ -5,11 +5,14 @@
 //! bridge too; without it everything goes by the bridge.
 #![allow(dead_code)]
 
-use crate::files::{Rng, LAYOUTS};
-use crate::model::{record_octets, Record};
+#[cfg(linked)]
+#[path = "archive.rs"]
+mod archive;
+
+use crate::files::{enough, with, Rng, LAYOUTS};
+use crate::model::{number, record_octets, Run};
 use std::collections::HashMap;
 use std::io::{BufReader, BufWriter, Read, Write};
-use std::ops::RangeInclusive;
 use std::process::{Child, ChildStdin, ChildStdout, Command, Stdio};
 
 /// What stands in the lent buffers before a call, and in a lent state that is only written.
@@ -58,7 +61,7 @@ pub struct Case {
 
 impl Case {
     /// A run over a list, into buffers of these lengths.
-    pub fn run(call: Call, list: Vec<u8>, records_len: usize, answers_len: usize) -> Case {
+    pub fn run(call: Call, list: Vec<u8>, (records_len, answers_len): (usize, usize)) -> Case {
         Case { call, list, state: Vec::new(), stamp: 0, records_len, answers_len, null: false }
     }
 }
@@ -86,12 +89,12 @@ impl Outcome {
     }
 
     /// What the second model says of a run; a refused one has neither records nor answers.
-    pub fn of_model(case: &Case, number: u64, records: &[Record], answers: &[u8]) -> Outcome {
-        let mut outcome = Outcome { number, ..Outcome::before(case) };
-        for (i, record) in records.iter().enumerate() {
-            outcome.records[8 * i..8 * i + 8].copy_from_slice(&record_octets(record));
+    pub fn of_model<End>(case: &Case, run: &Run<End>) -> Outcome {
+        let mut outcome = Outcome { number: number(run), ..Outcome::before(case) };
+        for (place, record) in outcome.records.chunks_exact_mut(8).zip(&run.records) {
+            place.copy_from_slice(&record_octets(record));
         }
-        outcome.answers[..answers.len()].copy_from_slice(answers);
+        outcome.answers[..run.answers.len()].copy_from_slice(&run.answers);
         outcome
     }
 
@@ -105,37 +108,6 @@ impl Outcome {
 
     pub fn count(&self) -> usize {
         self.number as u32 as usize
-    }
-}
-
-/// The functions of the archives, as include/house.h declares them.
-#[cfg(linked)]
-mod archive {
-    extern "C" {
-        pub fn house_run(f: *const u8, fl: usize, r: *mut u8, rl: usize, a: *mut u8, al: usize) -> u64;
-        pub fn house_wall_run(w: *const u8, wl: usize, r: *mut u8, rl: usize, a: *mut u8, al: usize) -> u64;
-        pub fn house_fresh(p: *const u8, pl: usize, s: *mut u8, sl: usize) -> u64;
-        pub fn house_change(
-            s: *mut u8,
-            sl: usize,
-            i: *const u8,
-            il: usize,
-            r: *mut u8,
-            rl: usize,
-            a: *mut u8,
-            al: usize,
-        ) -> u64;
-        pub fn house_move(s: *mut u8, sl: usize, stamp: u32, r: *mut u8, rl: usize) -> u64;
-        pub fn house_run_to(
-            f: *const u8,
-            fl: usize,
-            s: *mut u8,
-            sl: usize,
-            r: *mut u8,
-            rl: usize,
-            a: *mut u8,
-            al: usize,
-        ) -> u64;
     }
 }
 
@@ -300,21 +272,15 @@ impl Comparison {
     }
 }
 
-/// Buffers as long as the list's n asks for, one too short, or longer.
-pub fn lent(call: Call, list: Vec<u8>, rng: &mut Rng) -> Case {
-    let n = if list.len() >= 12 { u32::from_be_bytes([list[8], list[9], list[10], list[11]]) } else { 0 };
-    let (records_len, answers_len) = room(n.min(4096) as usize, rng);
-    Case { null: rng.chance(50), ..Case::run(call, list, records_len, answers_len) }
-}
-
 /// As many octets of records and of answers as n inputs ask for, one too few, none, or more.
 pub fn room(n: usize, rng: &mut Rng) -> (usize, usize) {
+    let (records, answers) = enough(n);
     match rng.below(16) {
-        0 => (8 * (3 * n + 3) - 1, n),
-        1 => (8 * (3 * n + 3), n.saturating_sub(1)),
+        0 => (records - 1, answers),
+        1 => (records, answers.saturating_sub(1)),
         2 => (0, 0),
-        3..=9 => (8 * (3 * n + 3) + rng.below(20) as usize, n + rng.below(5) as usize),
-        _ => (8 * (3 * n + 3), n),
+        3..=9 => (records + rng.below(20) as usize, answers + rng.below(5) as usize),
+        _ => (records, answers),
     }
 }
 
@@ -324,76 +290,27 @@ pub fn damaged(list: &[u8]) -> Vec<Vec<u8>> {
     for at in 0..list.len() {
         for value in 0..=255 {
             if value != list[at] {
-                let mut other = list.to_vec();
-                other[at] = value;
-                lists.push(other);
+                lists.push(with(list, at, value));
             }
         }
     }
     lists
 }
 
-/// A list cut or prolonged with zeros to each of these lengths, by its own version and by one that nobody plays.
-pub fn of_lengths(list: &[u8], lengths: RangeInclusive<usize>) -> Vec<Vec<u8>> {
-    let mut unknown = list.to_vec();
-    unknown[0..2].copy_from_slice(&(LAYOUTS.len() as u16 + 1).to_be_bytes());
-    let resized = |length: usize| {
-        [list, &unknown].map(|list| {
-            let mut list = list.to_vec();
-            list.resize(length, 0);
-            list
-        })
-    };
-    lengths.flat_map(resized).collect()
-}
-
 /// One more than the greatest code.
-const CODES: usize = 13;
+pub const CODES: usize = 13;
 
 /// How often each answer was met, from 0 to the greatest: 6, noted and different.
 pub type AnswersMet = [u64; 7];
 
-/// How many lists met each code, by the version that their first two octets name: the played ones, then any other.
-pub struct Codes {
-    met: Vec<[u64; CODES]>,
+/// What a row of counts by version is of: of a version that is played, or of any other.
+pub fn row_name(row: usize) -> String {
+    LAYOUTS.get(row).map_or("any other version".to_string(), |layout| format!("version {}", layout.version))
 }
 
-impl Codes {
-    pub fn new() -> Codes {
-        Codes { met: vec![[0; CODES]; LAYOUTS.len() + 1] }
-    }
-
-    pub fn note(&mut self, list: &[u8], code: usize) {
-        let named = |version: u16| list.get(..2) == Some(&version.to_be_bytes()[..]);
-        let row = LAYOUTS.iter().position(|layout| named(layout.version)).unwrap_or(LAYOUTS.len());
-        self.met[row][code] += 1;
-    }
-
-    /// The rows by name, each with the codes that it can have: a version that is played has no 2, any other has 1 and 2.
-    fn rows<'a>(&'a self, codes: &'a [usize]) -> impl Iterator<Item = (String, Vec<usize>, &'a [u64; CODES])> {
-        self.met.iter().enumerate().map(move |(row, met)| match LAYOUTS.get(row) {
-            Some(layout) => {
-                let possible = codes.iter().copied().filter(|&code| code != 2).collect();
-                (format!("version {}", layout.version), possible, met)
-            }
-            None => ("any other version".to_string(), vec![1, 2], met),
-        })
-    }
-
-    pub fn say(&self, codes: &[usize]) {
-        for (name, possible, met) in self.rows(codes) {
-            let refused: u64 = met[1..].iter().sum();
-            let by_code: Vec<(usize, u64)> = possible.into_iter().map(|code| (code, met[code])).collect();
-            println!("{}: {} accepted, {} refused; by code: {:?}", name, met[0], refused, by_code);
-        }
-    }
-
-    pub fn claim(&self, codes: &[usize], claims: &mut Claims) {
-        for (name, possible, met) in self.rows(codes) {
-            let as_possible = (0..met.len()).all(|code| possible.contains(&code) == (met[code] > 0));
-            claims.claim(&format!("{}: codes {:?} are met, and no other", name, possible), as_possible);
-        }
-    }
+/// Whether all was met that is possible, and nothing else.
+pub fn exactly(met: &[u64], possible: &[usize]) -> bool {
+    (0..met.len()).all(|i| possible.contains(&i) == (met[i] > 0))
 }
 
 /// A number from the environment, or the default.

@@ -1,16 +1,10 @@
 //! Writing cue files and reading what they give, for the tests of the model.
 #![allow(dead_code)]
 
-use crate::model::*;
+pub use crate::files::kinds::*;
 
-pub const ON_OFF: u8 = 1;
-pub const TIMED: u8 = 2;
-pub const SCENE: u8 = 3;
-pub const FORCED: u8 = 4;
-pub const LOCK: u8 = 5;
-pub const NIGHT: u8 = 6;
-pub const BUS: u8 = 7;
-pub const POWER: u8 = 8;
+use crate::files::{self, cue_file, rest_of, u32_at, CueFile, Rng, HEADER, LAYOUTS};
+use crate::model::*;
 
 pub type Cue = (u32, u8, u8);
 
@@ -45,37 +39,28 @@ pub fn in_version(version: u8, params: &Params) -> Params {
 
 /// The parameters as they stand in a file of their version: 32 octets, or 40 in every other than 1.
 pub fn parameter_octets(p: &Params, scenes: &[Scene; 8]) -> Vec<u8> {
-    let mut octets = Vec::new();
-    for time in [p.on_delay, p.off_delay, p.timed_on, p.prewarning] {
-        match p.version {
-            1 => octets.extend(((time / 10) as u16).to_be_bytes()),
-            _ => octets.extend(time.to_be_bytes()),
-        }
-    }
-    octets.extend([p.behaviour_at_locking, p.behaviour_at_unlocking]);
-    octets.extend([p.bus_failure_mode, p.bus_return_mode, p.power_return_mode]);
-    octets.extend([p.scene_learning_mode_enable, 0, 0]);
-    for scene in scenes {
-        octets.extend([scene.number, scene.flags]);
-    }
-    octets
+    let layout = &LAYOUTS[usize::from(p.version != 1)];
+    let modes = [
+        p.behaviour_at_locking,
+        p.behaviour_at_unlocking,
+        p.bus_failure_mode,
+        p.bus_return_mode,
+        p.power_return_mode,
+    ];
+    let scenes = scenes.map(|scene| (scene.number, scene.flags));
+    let rest = rest_of(modes, p.scene_learning_mode_enable, &scenes);
+    files::parameters(layout, [p.on_delay, p.off_delay, p.timed_on, p.prewarning], &rest)
 }
 
-pub fn input(cue: Cue) -> [u8; 8] {
-    let s = cue.0.to_be_bytes();
-    [s[0], s[1], s[2], s[3], cue.1, cue.2, 0, 0]
+pub fn input((stamp, kind, value): Cue) -> [u8; 8] {
+    files::input(stamp, kind, value)
 }
 
 pub fn file_of(version: u8, parameters: &[u8], end: u32, cues: &[Cue]) -> Vec<u8> {
-    let mut file = vec![0, version, 0, 1];
-    for number in [20, cues.len() as u32, 20 + parameters.len() as u32, end] {
-        file.extend(number.to_be_bytes());
-    }
-    file.extend(parameters);
-    for cue in cues {
-        file.extend(input(*cue));
-    }
-    file
+    let inputs: Vec<[u8; 8]> = cues.iter().copied().map(input).collect();
+    let inputs_at = HEADER + parameters.len();
+    let numbers = [HEADER as u32, inputs.len() as u32, inputs_at as u32, end];
+    cue_file([version.into(), 1], numbers, parameters, &inputs)
 }
 
 pub fn file(params: &Params, end: u32, cues: &[Cue]) -> Vec<u8> {
@@ -84,12 +69,12 @@ pub fn file(params: &Params, end: u32, cues: &[Cue]) -> Vec<u8> {
 
 /// Where the inputs of a file start, by its header.
 pub fn inputs_at(file: &[u8]) -> usize {
-    u32::from_be_bytes([file[12], file[13], file[14], file[15]]) as usize
+    u32_at(file, 12) as usize
 }
 
 /// The parameters of a file.
 pub fn parameters_in(file: &[u8]) -> &[u8] {
-    &file[20..inputs_at(file)]
+    &file[HEADER..inputs_at(file)]
 }
 
 /// The fresh state of these parameters, without scenes.
@@ -97,22 +82,51 @@ pub fn actuator(params: &Params) -> State {
     fresh(&parameter_octets(params, &no_scenes())).0
 }
 
-/// An octet changed.
-pub fn with(octets: &[u8], octet: usize, value: u8) -> Vec<u8> {
-    let mut octets = octets.to_vec();
-    octets[octet] = value;
-    octets
+/// A record: stamp, value, attributes and cause.
+pub type Written = (u32, u8, u8, u8);
+
+pub fn record((stamp, value, attributes, cause): Written) -> Record {
+    Record { stamp, value, attributes, cause }
 }
 
-/// Cut to this length, or prolonged with zeros.
-pub fn resized(octets: &[u8], length: usize) -> Vec<u8> {
-    let mut octets = octets.to_vec();
-    octets.resize(length, 0);
-    octets
+/// The start record, and these.
+pub fn from_the_start(records: &[Written]) -> Vec<Record> {
+    [(0, 0, 1, 0)].iter().chain(records).copied().map(record).collect()
 }
 
-pub fn record(r: (u32, u8, u8, u8)) -> Record {
-    Record { stamp: r.0, value: r.1, attributes: r.2, cause: r.3 }
+/// Two lent buffers, with records and answers written over their fronts.
+pub fn written_over(
+    lent_records: &[u8],
+    lent_answers: &[u8],
+    records: &[Record],
+    answers: &[u8],
+) -> (Vec<u8>, Vec<u8>) {
+    let over = |written: Vec<u8>, lent: &[u8]| [&written, &lent[written.len()..]].concat();
+    let octets = records.iter().flat_map(record_octets).collect();
+    (over(octets, lent_records), over(answers.to_vec(), lent_answers))
+}
+
+/// Whether there is a cue of this kind with this value.
+pub fn is_cue(kind: u8, value: u8) -> bool {
+    match kind {
+        ON_OFF | TIMED | LOCK | NIGHT | BUS | POWER => value <= 1,
+        SCENE => value & 0x40 == 0,
+        FORCED => value <= 3,
+        _ => false,
+    }
+}
+
+/// A whole file, with room enough.
+pub fn run_all(file: &[u8]) -> Run {
+    run(file, usize::MAX, usize::MAX)
+}
+
+/// The state at the end of a random show of less than so many inputs, of either version.
+pub fn any_end(inputs: u64, rng: &mut Rng) -> State {
+    let n = rng.below(inputs) as usize;
+    let run = run_all(&CueFile::random(rng, n).octets());
+    assert_eq!(run.code, 0);
+    run.end
 }
 
 pub fn output(state: &State) -> bool {

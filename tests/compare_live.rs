@@ -5,34 +5,19 @@
 //! calls.rs says how the archive is reached. After the calls of live_cases.rs and live_scripts.rs come CALLS=n calls at random, with
 //! SEED=n in the environment others.
 
-#[path = "model.rs"]
-mod model;
-
-#[path = "live.rs"]
-mod live;
-
-#[path = "files.rs"]
-mod files;
-
-#[path = "images.rs"]
-mod images;
-
-#[path = "calls.rs"]
 mod calls;
-
-#[path = "live_cases.rs"]
+mod files;
+mod images;
+mod live;
 mod live_cases;
-
-#[path = "live_scripts.rs"]
 mod live_scripts;
-
-#[path = "noted_met.rs"]
+mod model;
 mod noted_met;
 
-use calls::{number_named, room, AnswersMet, Call, Case, Claims, Comparison, Outcome};
-use files::{stamp_of, CueFile, Layout, Rng, LAYOUTS};
+use calls::{exactly, number_named, room, row_name, AnswersMet, Call, Case, Claims, Comparison, Outcome, CODES};
+use files::{cause_of, stamp_of, CueFile, Layout, Rng, HEADER, LAST, LAYOUTS};
 use images::{broken, Fields, OCTETS, PHASES, RULES, STARTING};
-use live_cases::{clock_move, LAST, MOVE_ROOM};
+use live_cases::{clock_move, MOVE_ROOM};
 use noted_met::Noted;
 
 /// The calls that are compared, and the codes that each can give: for a version that is played, and for what has no such version.
@@ -55,7 +40,7 @@ const ANSWERS: [&[usize]; 8] = [
     &[0, 1],
 ];
 
-/// The rows of a count by version: those that are played, then whatever else.
+/// The rows of what is met, by version: those that are played, then whatever else.
 const ROWS: usize = LAYOUTS.len() + 1;
 
 /// What a call gives by the second model.
@@ -73,214 +58,171 @@ fn expected(case: &Case) -> Outcome {
 
 /// The row of a call's version, as the call itself tells it.
 fn row(case: &Case) -> usize {
-    let version = match case.call {
-        Call::Fresh => [32, 40].iter().position(|length| *length == case.list.len()).map(|row| row as u16 + 1),
-        Call::Change | Call::Move if case.state.len() == OCTETS => Some(u16::from(case.state[40])),
-        Call::RunTo if case.list.len() >= 2 => Some(u16::from_be_bytes([case.list[0], case.list[1]])),
-        _ => None,
+    let known = |layout: &Layout| match case.call {
+        Call::Fresh => case.list.len() == layout.parameters(),
+        Call::RunTo => case.list.starts_with(&layout.version.to_be_bytes()),
+        _ => case.state.len() == OCTETS && u16::from(case.state[40]) == layout.version,
     };
-    let known = |layout: &Layout| version == Some(layout.version);
     LAYOUTS.iter().position(known).unwrap_or(LAYOUTS.len())
 }
 
-/// What was met, by version.
+/// What was met of a version, or of whatever has none that is played.
+#[derive(Default)]
 struct Met {
     /// By call and code.
-    codes: [[[u64; 13]; CALLS.len()]; ROWS],
+    codes: [[u64; CODES]; CALLS.len()],
     /// Answers to inputs of changes, by kind, and what was noted.
-    answers: [[AnswersMet; 8]; ROWS],
-    noted: [Noted; ROWS],
+    answers: [AnswersMet; 8],
+    noted: Noted,
     /// The phases of states that were handed in and accepted, and of those given.
-    phases_in: [[u64; PHASES as usize]; ROWS],
-    phases_out: [[u64; PHASES as usize]; ROWS],
-    /// Handed-in images that break one rule alone.
-    broken_alone: [[u64; RULES.len()]; ROWS],
+    phases_in: [u64; PHASES as usize],
+    phases_out: [u64; PHASES as usize],
+    /// Handed-in images that break one rule alone, by its place in the table.
+    broken_alone: Vec<u64>,
     /// Records of a change of one input, and of a clock move.
-    records_of_one: [[u64; 4]; ROWS],
-    records_of_move: [[u64; 3]; ROWS],
+    records_of_one: [u64; 4],
+    records_of_move: [u64; 3],
     /// Clock moves in which three timers ran, and inputs at the stamp of a timer's record or of the input before.
-    three_timers: [u64; ROWS],
-    after_a_timer: [u64; ROWS],
-    after_an_input: [u64; ROWS],
+    three_timers: u64,
+    after_a_timer: u64,
+    after_an_input: u64,
     /// How many inputs stood before a refused one: none, some, 255.
-    stood: [[u64; 3]; ROWS],
+    stood: [u64; 3],
     /// Accepted changes of 0 and of 256 inputs.
-    ends: [[u64; 2]; ROWS],
-    /// Whether 9 was given exactly where a rule is broken.
-    nine_by_the_rules: bool,
+    ends: [u64; 2],
+    /// Calls that gave 9 where no rule is broken, or another code where one is.
+    against_the_rules: u64,
 }
 
 impl Met {
     fn new() -> Met {
-        Met {
-            codes: [[[0; 13]; CALLS.len()]; ROWS],
-            answers: [[AnswersMet::default(); 8]; ROWS],
-            noted: Default::default(),
-            phases_in: [[0; PHASES as usize]; ROWS],
-            phases_out: [[0; PHASES as usize]; ROWS],
-            broken_alone: [[0; RULES.len()]; ROWS],
-            records_of_one: [[0; 4]; ROWS],
-            records_of_move: [[0; 3]; ROWS],
-            three_timers: [0; ROWS],
-            after_a_timer: [0; ROWS],
-            after_an_input: [0; ROWS],
-            stood: [[0; 3]; ROWS],
-            ends: [[0; 2]; ROWS],
-            nine_by_the_rules: true,
-        }
+        Met { broken_alone: vec![0; RULES.len()], ..Met::default() }
     }
 
     fn note(&mut self, case: &Case, given: &Outcome) {
-        let row = row(case);
         let call = CALLS.iter().position(|(call, _, _)| *call == case.call).expect("a live call");
-        self.codes[row][call][given.code()] += 1;
+        self.codes[call][given.code()] += 1;
         if matches!(case.call, Call::Change | Call::Move) {
-            self.note_handed_in(row, case, given);
+            self.note_handed_in(case, given);
         }
         if given.code() == 0 {
-            self.phases_out[row][usize::from(given.state[47])] += 1;
+            self.phases_out[usize::from(given.state[47])] += 1;
         }
         match case.call {
-            Call::Change if matches!(given.code(), 0 | 6 | 7) => self.note_change(row, case, given),
-            Call::Move if given.code() == 0 => self.note_move(row, case, given),
+            Call::Change if matches!(given.code(), 0 | 6 | 7) => self.note_change(case, given),
+            Call::Move if given.code() == 0 => self.note_move(case, given),
             _ => {}
         }
     }
 
     /// A state that was handed in: its phase, or the rule that it breaks.
-    fn note_handed_in(&mut self, row: usize, case: &Case, given: &Outcome) {
+    fn note_handed_in(&mut self, case: &Case, given: &Outcome) {
         let sound = given.code() != 9;
         if case.state.len() != OCTETS {
-            self.nine_by_the_rules &= !sound;
+            self.against_the_rules += u64::from(sound);
             return;
         }
         let broken = broken(&Fields::of(&case.state));
-        self.nine_by_the_rules &= sound == broken.is_empty();
+        self.against_the_rules += u64::from(sound != broken.is_empty());
         match broken[..] {
-            [] => self.phases_in[row][usize::from(case.state[47])] += 1,
-            [rule] => self.broken_alone[row][rule] += 1,
+            [] => self.phases_in[usize::from(case.state[47])] += 1,
+            [rule] => self.broken_alone[rule] += 1,
             _ => {}
         }
     }
 
     /// A change that was played, if only to a refused input.
-    fn note_change(&mut self, row: usize, case: &Case, given: &Outcome) {
+    fn note_change(&mut self, case: &Case, given: &Outcome) {
         let inputs: Vec<&[u8]> = case.list.chunks_exact(8).collect();
         let played = if given.code() == 0 { inputs.len() } else { given.place() };
         let Fields { lock, force, .. } = Fields::of(&case.state);
-        self.noted[row].start_from(lock, force);
+        self.noted.start_from(lock, force);
         for (index, input) in inputs[..played].iter().enumerate() {
-            self.answers[row][usize::from(input[4]) - 1][usize::from(given.answers[index])] += 1;
-            self.noted[row].note(input, given.answers[index]);
-            self.after_an_input[row] += u64::from(index > 0 && inputs[index - 1][..4] == input[..4]);
+            self.answers[usize::from(input[4]) - 1][usize::from(given.answers[index])] += 1;
+            self.noted.note(input, given.answers[index]);
+            self.after_an_input += u64::from(index > 0 && inputs[index - 1][..4] == input[..4]);
         }
         let records = given.records[..8 * given.count()].chunks_exact(8);
-        let by_timers = records.filter(|record| record[6] == 0);
+        let by_timers = records.filter(|record| cause_of(record) == 0);
         let stamps: Vec<&[u8]> = by_timers.map(|record| &record[..4]).collect();
-        self.after_a_timer[row] += inputs[..played].iter().filter(|input| stamps.contains(&&input[..4])).count() as u64;
+        self.after_a_timer += inputs[..played].iter().filter(|input| stamps.contains(&&input[..4])).count() as u64;
         if given.code() != 0 {
-            self.stood[row][usize::from(played > 0) + usize::from(played == 255)] += 1;
+            self.stood[usize::from(played > 0) + usize::from(played == 255)] += 1;
             return;
         }
         match played {
-            0 => self.ends[row][0] += 1,
-            1 => self.records_of_one[row][given.count()] += 1,
-            256 => self.ends[row][1] += 1,
+            0 => self.ends[0] += 1,
+            1 => self.records_of_one[given.count()] += 1,
+            256 => self.ends[1] += 1,
             _ => {}
         }
     }
 
-    fn note_move(&mut self, row: usize, case: &Case, given: &Outcome) {
-        self.records_of_move[row][given.count()] += 1;
+    fn note_move(&mut self, case: &Case, given: &Outcome) {
+        self.records_of_move[given.count()] += 1;
         let (before, after) = (Fields::of(&case.state), Fields::of(&given.state));
         let starting = before.phase == STARTING || before.phase == STARTING + 1;
         // on and off again, with a prewarning in between
         let three = starting && given.count() == 2 && after.times[3] > 0;
-        self.three_timers[row] += u64::from(three);
+        self.three_timers += u64::from(three);
     }
 
-    fn say(&self) {
-        for row in 0..ROWS {
-            println!("{}:", name(row));
-            for (call, (what, ..)) in CALLS.iter().enumerate() {
-                let met: Vec<(usize, u64)> =
-                    self.codes[row][call].iter().copied().enumerate().filter(|(_, count)| *count > 0).collect();
-                println!("  {:?} by code: {:?}", what, met);
-            }
-            if row == LAYOUTS.len() {
-                continue;
-            }
-            println!("  answers 0 to 6 by kind: {:?}", self.answers[row]);
-            self.noted[row].say("  ");
-            println!("  phases 0 to 6 handed in: {:?}; given: {:?}", self.phases_in[row], self.phases_out[row]);
-            println!(
-                "  records of one input: {:?}; of a clock move: {:?}",
-                self.records_of_one[row], self.records_of_move[row]
-            );
-            println!("  three timers in a move: {}", self.three_timers[row]);
-            println!(
-                "  inputs at the stamp of a timer: {}; of an input: {}",
-                self.after_a_timer[row], self.after_an_input[row]
-            );
-            println!("  inputs before a refused one, none, some, 255: {:?}", self.stood[row]);
-            println!("  changes of 0 and of 256 inputs: {:?}", self.ends[row]);
-            println!("  images that break one rule alone: {:?}", self.broken_alone[row]);
+    fn say(&self, row: usize) {
+        println!("{}:", row_name(row));
+        for ((call, ..), codes) in CALLS.iter().zip(&self.codes) {
+            let met: Vec<(usize, u64)> = codes.iter().copied().enumerate().filter(|(_, count)| *count > 0).collect();
+            println!("  {:?} by code: {:?}", call, met);
         }
+        if row == LAYOUTS.len() {
+            return;
+        }
+        println!("  answers 0 to 6 by kind: {:?}", self.answers);
+        self.noted.say("  ");
+        println!("  phases 0 to 6 handed in: {:?}; given: {:?}", self.phases_in, self.phases_out);
+        println!("  records of one input: {:?}; of a clock move: {:?}", self.records_of_one, self.records_of_move);
+        println!("  three timers in a move: {}", self.three_timers);
+        println!("  inputs at the stamp of a timer: {}; of an input: {}", self.after_a_timer, self.after_an_input);
+        println!("  inputs before a refused one, none, some, 255: {:?}", self.stood);
+        println!("  changes of 0 and of 256 inputs: {:?}", self.ends);
+        println!("  images that break one rule alone: {:?}", self.broken_alone);
     }
 
-    fn claim(&self, claims: &mut Claims) {
-        for row in 0..ROWS {
-            for (call, (what, played, other)) in CALLS.iter().enumerate() {
-                let possible = if row < LAYOUTS.len() { *played } else { *other };
-                let met = &self.codes[row][call];
-                let as_possible = (0..met.len()).all(|code| possible.contains(&code) == (met[code] > 0));
-                claims.claim(&format!("{}, {:?}: codes {:?} are met, and no other", name(row), what, possible), as_possible);
-            }
+    fn claim_codes(&self, row: usize, claims: &mut Claims) {
+        for ((call, played, other), met) in CALLS.iter().zip(&self.codes) {
+            let possible = if row < LAYOUTS.len() { played } else { other };
+            let what = format!("{}, {:?}: codes {:?} are met, and no other", row_name(row), call, possible);
+            claims.claim(&what, exactly(met, possible));
         }
-        for row in 0..LAYOUTS.len() {
-            self.claim_version(row, claims);
-        }
-        let other_version = self.broken_alone[LAYOUTS.len()][0] > 0;
-        claims.claim("a state of another version, but for that sound, is met", other_version);
-        claims.claim("9 is given exactly where a rule of images.rs is broken", self.nine_by_the_rules);
     }
 
     /// What must be met in each version that is played.
     fn claim_version(&self, row: usize, claims: &mut Claims) {
-        let name = name(row);
+        let name = row_name(row);
         let mut claim = |what: &str, holds: bool| claims.claim(&format!("{}: {}", name, what), holds);
         let all = |counts: &[u64]| counts.iter().all(|count| *count > 0);
-        let answers = self.answers[row].iter().zip(ANSWERS);
-        let as_possible = |met: &AnswersMet, possible: &[usize]| {
-            (0..met.len()).all(|answer| possible.contains(&answer) == (met[answer] > 0))
-        };
         claim("every kind is answered in every way that it can be, and no other", {
-            answers.into_iter().all(|(met, possible)| as_possible(met, possible))
+            self.answers.iter().zip(ANSWERS).all(|(met, possible)| exactly(met, possible))
         });
-        claim("every phase is handed in, and given", all(&self.phases_in[row]) && all(&self.phases_out[row]));
+        claim("every phase is handed in, and given", all(&self.phases_in) && all(&self.phases_out));
         // the last rules speak of combinations; the first of the version, and the second of version 1 alone
         let from = if row == 0 { 1 } else { 2 };
-        claim("every rule of a sound state is broken alone", all(&self.broken_alone[row][from..]));
+        claim("every rule of a sound state is broken alone", all(&self.broken_alone[from..]));
         claim("an input gives 0 to 3 records, a clock move 0 to 2", {
-            all(&self.records_of_one[row]) && all(&self.records_of_move[row])
+            all(&self.records_of_one) && all(&self.records_of_move)
         });
-        claim("three timers run in one clock move", self.three_timers[row] > 0);
-        claim("inputs at the stamp of a timer and of an input", self.after_a_timer[row] > 0 && self.after_an_input[row] > 0);
-        claim("inputs are refused after none, after some and after 255", all(&self.stood[row]));
-        claim("changes of 0 and of 256 inputs", all(&self.ends[row]));
-        self.noted[row].claim(&format!("{}: ", name), claims);
+        claim("three timers run in one clock move", self.three_timers > 0);
+        claim("inputs at the stamp of a timer and of an input", self.after_a_timer > 0 && self.after_an_input > 0);
+        claim("inputs are refused after none, after some and after 255", all(&self.stood));
+        claim("changes of 0 and of 256 inputs", all(&self.ends));
+        self.noted.claim(&format!("{}: ", name), claims);
     }
-}
-
-/// What a row of the counts is of.
-fn name(row: usize) -> String {
-    LAYOUTS.get(row).map_or("any other version".to_string(), |layout| format!("version {}", layout.version))
 }
 
 /// The comparison, and counts of what was met.
 struct Tally {
     comparison: Comparison,
-    met: Met,
+    /// By version.
+    met: [Met; ROWS],
     /// Changes that the archive also played in parts, how many parts, and how many differed.
     in_parts: u64,
     parts: u64,
@@ -291,7 +233,7 @@ impl Tally {
     /// One call; what it must give is handed back.
     fn check(&mut self, case: Case) -> Outcome {
         let expected = expected(&case);
-        self.met.note(&case, &expected);
+        self.met[row(&case)].note(&case, &expected);
         // a number that no pattern of the cases in order meets again and again
         let sample = self.comparison.compared % 97 == 0;
         self.comparison.check(&case, &expected, sample);
@@ -349,18 +291,14 @@ impl Tally {
         for _ in 0..if rng.chance(15) { 1 + rng.below(3) } else { 0 } {
             show.spoil(rng);
         }
-        let parameters = show.octets()[20..].to_vec();
+        let parameters = show.octets()[HEADER..].to_vec();
         let case = live_cases::fresh(parameters, state_length(rng));
         self.check(case).state
     }
 
     fn run_to(&mut self, layout: &'static Layout, rng: &mut Rng) -> Vec<u8> {
         let n = if rng.chance(2) { rng.below(300) as usize } else { rng.below(16) as usize };
-        let mut show = CueFile::random_in(layout, rng, n);
-        if rng.chance(20) {
-            show.spoil(rng);
-        }
-        let mut file = show.octets();
+        let mut file = CueFile::random_in(layout, rng, n).spoilt_if(rng.chance(20), rng).octets();
         if rng.chance(3) {
             file.truncate(rng.below(70) as usize);
         }
@@ -466,14 +404,19 @@ impl Tally {
         println!("seed {}, {} calls, {} of them in order and {} at random", seed, calls, in_order, calls - in_order);
         let (by_bridge, differing) = comparison.stop();
         println!("changes played in parts too: {}, in {} parts", in_parts, parts);
-        met.say();
+        met.iter().enumerate().for_each(|(row, met)| met.say(row));
         let mut claims = Claims::new();
         claims.claim("number, state, records, answers and list are the model's for every call", differing == 0);
         claims.claim("a change is its parts, one after the other, cut in two and input by input", parts_differing == 0);
         claims.claim("at least 100,000 calls", calls >= 100_000);
         let asked_for = (calls - in_order) / 10;
         claims.claim("at least 10,000 changes in parts, or as many as were asked for", in_parts >= asked_for.min(10_000));
-        met.claim(&mut claims);
+        met.iter().enumerate().for_each(|(row, met)| met.claim_codes(row, &mut claims));
+        let (played, other) = met.split_at(LAYOUTS.len());
+        played.iter().enumerate().for_each(|(row, met)| met.claim_version(row, &mut claims));
+        claims.claim("a state of another version, but for that sound, is met", other[0].broken_alone[0] > 0);
+        let by_the_rules = met.iter().all(|met| met.against_the_rules == 0);
+        claims.claim("9 is given exactly where a rule of images.rs is broken", by_the_rules);
         claims.claim("NULL is met for every pointer of every call", null_is_met);
         claims.claim("a sample went by the bridge", by_bridge >= 100);
         claims.finish()
@@ -556,7 +499,8 @@ fn main() {
     let seed = number_named("SEED", 20_260_104);
     let wanted = number_named("CALLS", 150_000);
     let mut rng = Rng::new(seed);
-    let mut tally = Tally { comparison: Comparison::start(), met: Met::new(), in_parts: 0, parts: 0, parts_differing: 0 };
+    let met = [(); ROWS].map(|_| Met::new());
+    let mut tally = Tally { comparison: Comparison::start(), met, in_parts: 0, parts: 0, parts_differing: 0 };
     for layout in &LAYOUTS {
         tally.ends(layout);
     }

@@ -3,29 +3,22 @@
 //! Usage: compare_walls BRIDGE.. where BRIDGE.. is a command that speaks the protocol of bridge.c on its standard input and output;
 //! calls.rs says how the archive is reached. SEED=n in the environment gives other lists, WALLS=n another number of them.
 
-#[path = "model.rs"]
-mod model;
-
-#[path = "wall.rs"]
-mod wall;
-
-#[path = "files.rs"]
+mod calls;
 mod files;
-
-#[path = "walls.rs"]
+mod lists;
+mod model;
+mod noted_met;
+mod wall;
 mod walls;
 
-#[path = "calls.rs"]
-mod calls;
-
-#[path = "noted_met.rs"]
-mod noted_met;
-
-use calls::{damaged, lent, number_named, of_lengths, AnswersMet, Call, Case, Claims, Codes, Comparison, Outcome};
-use files::{CueFile, Layout, Rng, LAYOUTS};
+use calls::{AnswersMet, Call, Case, Claims};
+use files::{CueFile, Layout, Rng};
+use lists::{lent, Kind, Tally};
+use model::Run;
 use noted_met::Noted;
-use wall::WallRun;
-use walls::WallList;
+use std::ops::RangeInclusive;
+use wall::Pair;
+use walls::{is_edge, WallList};
 
 /// What accepted lists met.
 #[derive(Default)]
@@ -51,14 +44,14 @@ struct Met {
     cue_after_an_edge: u64,
     /// Cues by their kind.
     kinds: [u64; 9],
-}
-
-fn is_edge(item: &[u8]) -> bool {
-    walls::BUTTONS.contains(&item[4])
+    /// Refusals of an action, by its place.
+    bad_actions: [u64; 4],
+    /// Plain cue files.
+    plain: u64,
 }
 
 impl Met {
-    fn note(&mut self, list: &[u8], run: &WallRun) {
+    fn note_accepted(&mut self, list: &[u8], run: &Run<Pair>) {
         let (cues, actions) = list.split_at(list.len() - 4);
         let items: Vec<&[u8]> = cues[cues.len() - 8 * run.answers.len()..].chunks_exact(8).collect();
         let mut sends = run.sends.iter().peekable();
@@ -106,8 +99,48 @@ impl Met {
             other => panic!("an action that sends another value: {:?}", other),
         }
     }
+}
+
+impl Kind for Met {
+    const NAME: &'static str = "wall list";
+    const CALL: Call = Call::WallRun;
+    const CODES: &'static [usize] = &[0, 1, 2, 3, 4, 5, 6, 7, 8, 11];
+    const SHORTEST: RangeInclusive<usize> = 55..=65;
+    type End = Pair;
+
+    fn made(layout: &'static Layout, rng: &mut Rng, n: usize) -> Vec<u8> {
+        WallList::random_in(layout, rng, n).octets()
+    }
+
+    fn run(list: &[u8], records_len: usize, answers_len: usize) -> Run<Pair> {
+        wall::wall_run(list, records_len, answers_len)
+    }
+
+    fn note(&mut self, list: &[u8], run: &Run<Pair>) {
+        match run.code {
+            0 => self.note_accepted(list, run),
+            11 => self.bad_actions[usize::from(run.place)] += 1,
+            _ => {}
+        }
+    }
+
+    /// Random octets, plain cue files, and random lists of every length and version, some of them spoilt.
+    fn random(tally: &mut Tally<Met>, sample: bool, rng: &mut Rng) {
+        let n = files::length(rng);
+        let octets = match rng.below(100) {
+            0..=1 => files::noise(rng),
+            2..=13 => {
+                let show = CueFile::random(rng, n).spoilt_if(rng.chance(30), rng);
+                return check_plain(tally, &show, sample, rng);
+            }
+            14..=27 => WallList::random(rng, n).spoilt(rng),
+            _ => WallList::random(rng, n).octets(),
+        };
+        tally.check(octets, sample, rng);
+    }
 
     fn say(&self) {
+        println!("{} of them plain cue files; places 0 to 3 of code 11: {:?}", self.plain, self.bad_actions);
         println!("edges by action 0 to 3, for button 1 rising, 1 falling, 2 rising, 2 falling: {:?}", self.actions);
         println!("answers 0 to 6 to telegrams: {:?}; to cues: {:?}", self.telegrams, self.cues);
         self.noted.say("");
@@ -124,6 +157,8 @@ impl Met {
     }
 
     fn claim(&self, claims: &mut Claims) {
+        claims.claim("a bad action is met at every place", self.bad_actions.iter().all(|&k| k > 0));
+        claims.claim("cue files with four zero octets went by the plain run", self.plain > 0);
         claims.claim("every action is met on every edge", self.actions.iter().flatten().all(|&k| k > 0));
         let (answered, noted) = self.telegrams.split_at(6);
         claims.claim("every answer to a telegram is met, and none is noted", answered.iter().all(|&k| k > 0) && noted == [0]);
@@ -138,150 +173,18 @@ impl Met {
     }
 }
 
-/// The codes that a wall list can have: 0 to 8, and 11.
-const CODES: [usize; 10] = [0, 1, 2, 3, 4, 5, 6, 7, 8, 11];
-
-/// The comparison, and counts of what was met.
-struct Tally {
-    comparison: Comparison,
-    met: Met,
-    codes: Codes,
-    bad_actions: [u64; 4],
-    longest: Vec<usize>,
-    plain: u64,
-}
-
-impl Tally {
-    fn new() -> Tally {
-        Tally {
-            comparison: Comparison::start(),
-            met: Met::default(),
-            codes: Codes::new(),
-            bad_actions: [0; 4],
-            longest: vec![0; LAYOUTS.len()],
-            plain: 0,
-        }
+/// A cue file without edges and four zero octets, for which the model's plain run decides.
+fn check_plain(tally: &mut Tally<Met>, show: &CueFile, sample: bool, rng: &mut Rng) {
+    if show.inputs.iter().any(|input| is_edge(input)) {
+        return;
     }
-
-    /// A list, with buffers of some length.
-    fn check(&mut self, list: Vec<u8>, sample: bool, rng: &mut Rng) {
-        self.check_case(lent(Call::WallRun, list, rng), sample);
-    }
-
-    fn check_case(&mut self, case: Case, sample: bool) {
-        let run = wall::wall_run(&case.list, case.records_len, case.answers_len);
-        let expected = Outcome::of_model(&case, wall::wall_number(&run), &run.records, &run.answers);
-        self.codes.note(&case.list, expected.code());
-        match run.code {
-            0 => {
-                let longest = &mut self.longest[usize::from(case.list[1]) - 1];
-                *longest = run.answers.len().max(*longest);
-                self.met.note(&case.list, &run);
-            }
-            11 => self.bad_actions[usize::from(run.place)] += 1,
-            _ => {}
-        }
-        self.comparison.check(&case, &expected, sample);
-    }
-
-    /// A cue file without edges and four zero octets, for which the model's plain run decides.
-    fn check_plain(&mut self, show: &CueFile, sample: bool, rng: &mut Rng) {
-        if show.inputs.iter().any(|input| is_edge(input)) {
-            return;
-        }
-        let file = show.octets();
-        let mut case: Case = lent(Call::WallRun, file.clone(), rng);
-        case.list.extend_from_slice(&[0; 4]);
-        let run = model::run(&file, case.records_len, case.answers_len);
-        let expected = Outcome::of_model(&case, model::number(&run), &run.records, &run.answers);
-        self.codes.note(&case.list, expected.code());
-        self.plain += 1;
-        self.comparison.check(&case, &expected, sample);
-    }
-
-    /// Lists of one version at its ends: the longest, every prefix and damage of a small one, longer ones, and the lengths at which
-    /// one version or the other starts.
-    fn ends(&mut self, layout: &'static Layout, rng: &mut Rng) {
-        for n in [0, 1, 2, 255, 256, 2047, 2048] {
-            let list = WallList::random_in(layout, rng, n).octets();
-            self.check_case(Case::run(Call::WallRun, list, 8 * (3 * n + 3), n), true);
-        }
-        let small = WallList::random_in(layout, rng, 2).octets();
-        for (i, other) in damaged(&small).into_iter().enumerate() {
-            self.check(other, i % 50 == 0, rng);
-        }
-        for other in of_lengths(&small, small.len()..=small.len() + 20) {
-            self.check(other, false, rng);
-        }
-        for n in [0, 0, 1, 1, 2] {
-            let list = WallList::random_in(layout, rng, n).octets();
-            for other in of_lengths(&list, 55..=65) {
-                self.check(other, true, rng);
-            }
-        }
-    }
-
-    /// Random octets, plain cue files, and random lists of every length and version, some of them spoilt.
-    fn random(&mut self, rng: &mut Rng) {
-        let sample = self.comparison.compared % 100 == 0;
-        let n = files::length(rng);
-        match rng.below(100) {
-            0..=1 => {
-                let octets = files::noise(rng);
-                self.check(octets, sample, rng);
-            }
-            2..=13 => {
-                let mut show = CueFile::random(rng, n);
-                if rng.chance(30) {
-                    show.spoil(rng);
-                }
-                self.check_plain(&show, sample, rng);
-            }
-            14..=27 => {
-                let octets = WallList::random(rng, n).spoilt(rng);
-                self.check(octets, sample, rng);
-            }
-            _ => {
-                let octets = WallList::random(rng, n).octets();
-                self.check(octets, sample, rng);
-            }
-        }
-    }
-
-    fn finish(self, seed: u64, wanted: u64) -> ! {
-        let Tally { comparison, met, codes, bad_actions, longest, plain } = self;
-        let walls = comparison.compared;
-        let null_is_met = comparison.null_is_met(&[Call::WallRun]);
-        println!("seed {}, {} wall lists, {} of them plain cue files", seed, walls, plain);
-        println!("the longest of each version with {:?} items", longest);
-        let (by_bridge, differing) = comparison.stop();
-        codes.say(&CODES);
-        println!("places 0 to 3 of code 11: {:?}", bad_actions);
-        met.say();
-        let mut claims = Claims::new();
-        claims.claim("number, records, answers and list are the model's for every wall list", differing == 0);
-        claims.claim("at least 120,000 wall lists, or as many as were asked for", walls >= wanted.min(120_000));
-        claims.claim("a list of 2,048 items is accepted in every version", longest.iter().all(|&n| n == 2048));
-        codes.claim(&CODES, &mut claims);
-        claims.claim("NULL is met for every pointer", null_is_met);
-        claims.claim("a bad action is met at every place", bad_actions.iter().all(|&k| k > 0));
-        met.claim(&mut claims);
-        claims.claim("cue files with four zero octets went by the plain run", plain > 0);
-        claims.claim("a sample went by the bridge", by_bridge >= 100);
-        claims.finish()
-    }
+    let file = show.octets();
+    let mut case: Case = lent(Call::WallRun, file.clone(), rng);
+    case.list.extend_from_slice(&[0; 4]);
+    tally.met.plain += 1;
+    tally.compare(&case, &model::run(&file, case.records_len, case.answers_len), sample);
 }
 
 fn main() {
-    let seed = number_named("SEED", 20_260_103);
-    let wanted = number_named("WALLS", 120_000);
-    let mut rng = Rng::new(seed);
-    let mut tally = Tally::new();
-    for layout in &LAYOUTS {
-        tally.ends(layout, &mut rng);
-    }
-    while tally.comparison.compared < wanted {
-        tally.random(&mut rng);
-    }
-    tally.finish(seed, wanted)
+    lists::compare(Met::default(), 20_260_103, "WALLS")
 }

@@ -1,6 +1,24 @@
-//! Cue files of every version made at random: shows that reach every kind, phase, mode and answer, and spoilt ones. Shared by the
-//! tests and the bench.
+//! How a cue file is written, part by part, in every version; and cue files made at random: shows that reach every kind, phase, mode and
+//! answer, and spoilt ones. Shared by the tests and the bench.
 #![allow(dead_code)]
+
+/// The kinds of an input.
+pub mod kinds {
+    pub const ON_OFF: u8 = 1;
+    pub const TIMED: u8 = 2;
+    pub const SCENE: u8 = 3;
+    pub const FORCED: u8 = 4;
+    pub const LOCK: u8 = 5;
+    pub const NIGHT: u8 = 6;
+    pub const BUS: u8 = 7;
+    pub const POWER: u8 = 8;
+}
+
+/// The last stamp.
+pub const LAST: u32 = 864_000;
+
+/// The longest time, in tenths.
+pub const LONGEST: u32 = 655_350;
 
 /// A small generator of random numbers (xorshift64*), so that a seed gives the same files everywhere.
 pub struct Rng(u64);
@@ -50,17 +68,92 @@ impl Layout {
         &LAYOUTS[rng.below(LAYOUTS.len() as u64) as usize]
     }
 
-    /// Where the inputs start: after the header, four times, modes and scenes.
+    /// How many octets the parameters have: four times, modes and scenes.
+    pub fn parameters(&self) -> usize {
+        4 * self.time + REST
+    }
+
+    /// Where the inputs start.
     pub fn inputs_at(&self) -> usize {
-        20 + 4 * self.time + REST
+        HEADER + self.parameters()
     }
 }
+
+/// How many octets a header has.
+pub const HEADER: usize = 20;
 
 /// Modes, learning, two zeros and eight scenes, which are the same octets in every version.
 pub const REST: usize = 24;
 
-/// The longest time, in tenths.
-pub const LONGEST: u32 = 655_350;
+/// The rest of these modes, with this learning and with these scenes (number and flags); the other entries are unused.
+pub fn rest_of(modes: [u8; 5], learning: u8, scenes: &[(u8, u8)]) -> [u8; REST] {
+    let mut rest = [0; REST];
+    rest[..5].copy_from_slice(&modes);
+    rest[5] = learning;
+    for (entry, place) in rest[8..].chunks_exact_mut(2).enumerate() {
+        let (number, flags) = *scenes.get(entry).unwrap_or(&(255, 0));
+        place.copy_from_slice(&[number, flags]);
+    }
+    rest
+}
+
+/// Parameters of these times in tenths and this rest, in the octets of a version.
+pub fn parameters(layout: &Layout, times: [u32; 4], rest: &[u8; REST]) -> Vec<u8> {
+    let octets = times.map(|time| (time / layout.unit).to_be_bytes());
+    let times = octets.iter().flat_map(|time| &time[4 - layout.time..]);
+    times.chain(rest).copied().collect()
+}
+
+/// An input: its stamp, kind and value, and two zeros.
+pub fn input(stamp: u32, kind: u8, value: u8) -> [u8; 8] {
+    let s = stamp.to_be_bytes();
+    [s[0], s[1], s[2], s[3], kind, value, 0, 0]
+}
+
+/// A cue file: version and count of actuators; offset of parameters, count and offset of inputs, end time; parameters; inputs.
+pub fn cue_file(start: [u16; 2], numbers: [u32; 4], parameters: &[u8], inputs: &[[u8; 8]]) -> Vec<u8> {
+    let header = [start.map(u16::to_be_bytes).concat(), numbers.map(u32::to_be_bytes).concat()].concat();
+    [&header, parameters, &inputs.concat()].concat()
+}
+
+/// Numbers are most significant octet first.
+pub fn u32_at(octets: &[u8], at: usize) -> u32 {
+    u32::from_be_bytes([octets[at], octets[at + 1], octets[at + 2], octets[at + 3]])
+}
+
+/// The stamp with which an input and a record start.
+pub fn stamp_of(octets: &[u8]) -> u32 {
+    u32_at(octets, 0)
+}
+
+/// The cause with which a record was written: the kind of an input, 0 for a timer and for the start.
+pub fn cause_of(record: &[u8]) -> u8 {
+    record[6]
+}
+
+/// How many inputs a header counts; none, where it is cut off before.
+pub fn inputs_in(list: &[u8]) -> usize {
+    list.get(8..12).map_or(0, |count| u32_at(count, 0) as usize)
+}
+
+/// As many octets of records and of answers as n inputs ask for.
+pub fn enough(n: usize) -> (usize, usize) {
+    (8 * (3 * n + 3), n)
+}
+
+/// An octet changed.
+pub fn with(octets: &[u8], octet: usize, value: u8) -> Vec<u8> {
+    let mut octets = octets.to_vec();
+    octets[octet] = value;
+    octets
+}
+
+/// Cut to this length, or prolonged with zeros.
+pub fn resized(octets: &[u8], length: usize) -> Vec<u8> {
+    let mut octets = octets.to_vec();
+    octets.resize(length, 0);
+    octets
+}
 
 /// The parts of a cue file, in the order in which they are written; the times in tenths, whatever the version.
 pub struct CueFile {
@@ -112,24 +205,20 @@ fn tenths(rng: &mut Rng) -> u32 {
     }
 }
 
-/// Modes, learning and scenes.
-fn rest(rng: &mut Rng) -> [u8; REST] {
-    let mut rest = [0; REST];
-    for (octet, greatest) in [2, 3, 2, 2, 2, 1].into_iter().enumerate() {
-        rest[octet] = rng.below(greatest + 1) as u8;
-    }
-    // Distinct numbers, from a small range so that inputs hit them, and some unused entries.
+/// Modes, learning and scenes: distinct numbers, from a small range so that inputs hit them, and some unused entries.
+fn random_rest(rng: &mut Rng) -> [u8; REST] {
+    let modes = [2, 3, 2, 2, 2].map(|greatest| rng.below(greatest + 1) as u8);
+    let learning = rng.below(2) as u8;
     let mut next = rng.below(3) as u8;
-    for entry in rest[8..].chunks_exact_mut(2) {
-        if rng.chance(60) {
-            entry[0] = next;
-            next += 1 + rng.below(3) as u8;
-            entry[1] = rng.below(4) as u8;
-        } else {
-            entry[0] = 255;
+    let scenes = [(); 8].map(|_| {
+        if !rng.chance(60) {
+            return (255, 0);
         }
-    }
-    rest
+        let number = next;
+        next += 1 + rng.below(3) as u8;
+        (number, rng.below(4) as u8)
+    });
+    rest_of(modes, learning, &scenes)
 }
 
 /// An input whose kind is met about as often as any other; locks, forces and cuts end again soon.
@@ -159,22 +248,11 @@ pub fn inputs_from(start: u32, widest: u64, n: usize, rng: &mut Rng) -> Vec<[u8;
         if !rng.chance(35) {
             stamp += rng.below(widest);
         }
-        stamp = stamp.min(864_000);
+        stamp = stamp.min(LAST.into());
         let (kind, value) = kind_and_value(rng);
         inputs.push(input(stamp as u32, kind, value));
     }
     inputs
-}
-
-/// An input: its stamp, kind and value, and two zeros.
-pub fn input(stamp: u32, kind: u8, value: u8) -> [u8; 8] {
-    let s = stamp.to_be_bytes();
-    [s[0], s[1], s[2], s[3], kind, value, 0, 0]
-}
-
-/// The stamp with which an input starts.
-pub fn stamp_of(input: &[u8]) -> u32 {
-    u32::from_be_bytes([input[0], input[1], input[2], input[3]])
 }
 
 impl CueFile {
@@ -189,19 +267,19 @@ impl CueFile {
         let widest = widest_gap(rng);
         let inputs = inputs_from(0, widest, n, rng);
         let stamp = inputs.last().map_or(0, |input| u64::from(stamp_of(input)));
-        let end = (stamp + rng.below(widest * 3 + 1)).min(864_000) as u32;
+        let end = (stamp + rng.below(widest * 3 + 1)).min(LAST.into()) as u32;
         let mut times = [0; 4].map(|_: u32| (layout.random_time)(rng));
         times[TIMED_ON] = times[TIMED_ON].max(layout.unit);
         CueFile {
             layout,
             version: layout.version,
             actuators: 1,
-            parameters_offset: 20,
+            parameters_offset: HEADER as u32,
             count: n as u32,
             inputs_offset: layout.inputs_at() as u32,
             end,
             times,
-            rest: rest(rng),
+            rest: random_rest(rng),
             inputs,
         }
     }
@@ -209,6 +287,14 @@ impl CueFile {
     /// The same show in a version that can write its times.
     pub fn in_version(self, layout: &'static Layout) -> CueFile {
         CueFile { layout, version: layout.version, inputs_offset: layout.inputs_at() as u32, ..self }
+    }
+
+    /// The same show, or with one thing put out of order.
+    pub fn spoilt_if(mut self, spoilt: bool, rng: &mut Rng) -> CueFile {
+        if spoilt {
+            self.spoil(rng);
+        }
+        self
     }
 
     /// One thing is put out of order.
@@ -221,7 +307,7 @@ impl CueFile {
             2 => self.parameters_offset = rng.below(40) as u32,
             3 => self.count = self.count.wrapping_add(1),
             4 => self.inputs_offset = if rng.chance(50) { rng.below(100) as u32 } else { 52 + 8 * rng.below(2) as u32 },
-            5 => self.end = 864_000 + rng.below(3) as u32,
+            5 => self.end = LAST + rng.below(3) as u32,
             6..=7 => self.rest[rng.below(REST as u64) as usize] = rng.next() as u8,
             8 => self.times[TIMED_ON] = 0,
             // what a version cannot write, it writes as another time
@@ -238,22 +324,8 @@ impl CueFile {
     }
 
     pub fn octets(&self) -> Vec<u8> {
-        let mut file = Vec::with_capacity(self.layout.inputs_at() + 8 * self.inputs.len());
-        file.extend_from_slice(&self.version.to_be_bytes());
-        file.extend_from_slice(&self.actuators.to_be_bytes());
-        file.extend_from_slice(&self.parameters_offset.to_be_bytes());
-        file.extend_from_slice(&self.count.to_be_bytes());
-        file.extend_from_slice(&self.inputs_offset.to_be_bytes());
-        file.extend_from_slice(&self.end.to_be_bytes());
-        for time in self.times {
-            let octets = (time / self.layout.unit).to_be_bytes();
-            file.extend_from_slice(&octets[4 - self.layout.time..]);
-        }
-        file.extend_from_slice(&self.rest);
-        for input in &self.inputs {
-            file.extend_from_slice(input);
-        }
-        file
+        let numbers = [self.parameters_offset, self.count, self.inputs_offset, self.end];
+        cue_file([self.version, self.actuators], numbers, &parameters(self.layout, self.times, &self.rest), &self.inputs)
     }
 }
 

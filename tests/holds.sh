@@ -1,8 +1,9 @@
-# What the tests of ./preview share: a folder of their own, and a command held to what it must write. Source it.
+# What the tests of ./preview share: a folder of their own, with an empty file in it, and a command held to what it must write. Source it.
 . tests/count.sh
 
 work=$(mktemp -d) || exit 2
 trap 'rm -rf "$work"' EXIT
+: >"$work/nothing"
 
 # verdict NAME WHY: a test that has passed where nothing is wrong.
 verdict() {

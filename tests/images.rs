@@ -2,13 +2,10 @@
 //! of the live calls.
 #![allow(dead_code)]
 
-use crate::files::{CueFile, Layout, Rng, LONGEST, REST, TIMED_ON};
+use crate::files::{u32_at, CueFile, Layout, Rng, LAST, LONGEST, REST, TIMED_ON};
 
 /// How many octets an image has.
 pub const OCTETS: usize = 56;
-
-/// The last stamp.
-const LAST: u32 = 864_000;
 
 /// The phases by their numbers; those from STARTING on have a deadline.
 pub const DARK: u8 = 0;
@@ -37,17 +34,13 @@ pub struct Fields {
     pub deadline: u32,
 }
 
-fn u32_in(octets: &[u8], at: usize) -> u32 {
-    u32::from_be_bytes([octets[at], octets[at + 1], octets[at + 2], octets[at + 3]])
-}
-
 impl Fields {
     /// The fields that an image of the right length spells.
     pub fn of(image: &[u8]) -> Fields {
         let mut rest = [0; REST];
         rest.copy_from_slice(&image[16..40]);
         Fields {
-            times: [0, 4, 8, 12].map(|at| u32_in(image, at)),
+            times: [0, 4, 8, 12].map(|at| u32_at(image, at)),
             rest,
             version: image[40],
             night: image[41],
@@ -57,8 +50,8 @@ impl Fields {
             at_locking: image[45],
             at_failure: image[46],
             phase: image[47],
-            clock: u32_in(image, 48),
-            deadline: u32_in(image, 52),
+            clock: u32_at(image, 48),
+            deadline: u32_at(image, 52),
         }
     }
 

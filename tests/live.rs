@@ -7,10 +7,10 @@
 #![allow(dead_code)]
 
 use crate::model::{
-    accept, accept_fresh, accept_room, can_be, decode_input, four_u32, move_clock, packed,
-    packed_refusal, play, ranged_parameters, refuse, rest_of, sound, stamp_refused, take_input,
-    u32_at, Force, LentTape, Link, Phase, Record, Refusal, State, Tape, VecTape, INPUT, LAST_STAMP,
-    RECORD, REST,
+    accept, accept_fresh, accept_input, accept_room, can_be, decode_input, decode_parameters,
+    four_u32, move_clock, number_of, packed, packed_refusal, play, ranged, refuse, rest_of, sound,
+    stamp_refused, take_input, u32_at, Force, LentTape, Link, Phase, Record, Refusal, State, Tape,
+    VecTape, INPUT, LAST_STAMP, RECORD, REST,
 };
 
 // ================================================================================================
@@ -64,11 +64,21 @@ pub fn image(state: &State) -> Image {
 /// meaning, parameters out of range for the version, or a state that no actuator can be in."
 pub fn state_of(octets: &[u8]) -> Option<State> {
     let octets: &Image = octets.try_into().ok()?;
-    let rest: &[u8; REST] = octets[REST_AT..VERSION_AT].try_into().ok()?;
-    let (params, scenes) = ranged_parameters(octets[VERSION_AT], four_u32(octets), rest)?;
+    let in_range = ranged(octets[VERSION_AT], &four_u32(octets), rest_in(octets));
+    said_by(octets).filter(|state| in_range && can_be(state))
+}
+
+fn rest_in(octets: &Image) -> &[u8; REST] {
+    octets[REST_AT..VERSION_AT].try_into().expect("an image has the rest of the parameters")
+}
+
+/// The state that an image says, sound or not; none where one of its flags, its force, its link or its
+/// phase has no meaning.
+pub fn said_by(octets: &Image) -> Option<State> {
+    let (params, scenes) = decode_parameters(octets[VERSION_AT], four_u32(octets), rest_in(octets));
     let [night, lock, force, link, at_locking, at_power_failure, phase]: [u8; 7] =
         octets[FLAGS_AT..CLOCK_AT].try_into().ok()?;
-    let state = State {
+    Some(State {
         clock: u32_at(octets, CLOCK_AT),
         phase: phase_of(phase, u32_at(octets, DEADLINE_AT))?,
         night: flag_of(night)?,
@@ -79,8 +89,7 @@ pub fn state_of(octets: &[u8]) -> Option<State> {
         output_at_power_failure: flag_of(at_power_failure)?,
         scenes,
         params,
-    };
-    can_be(&state).then_some(state)
+    })
 }
 
 /// "(0, 1)"
@@ -101,7 +110,7 @@ fn force_number(force: Force) -> u8 {
     }
 }
 
-pub fn force_of(octet: u8) -> Option<Force> {
+fn force_of(octet: u8) -> Option<Force> {
     match octet {
         0 => Some(Force::None),
         2 => Some(Force::Off),
@@ -119,7 +128,7 @@ fn link_number(link: Link) -> u8 {
     }
 }
 
-pub fn link_of(octet: u8) -> Option<Link> {
+fn link_of(octet: u8) -> Option<Link> {
     match octet {
         0 => Some(Link::Up),
         1 => Some(Link::BusDown),
@@ -142,7 +151,7 @@ fn phase_numbers(phase: Phase) -> (u8, u32) {
     }
 }
 
-pub fn phase_of(octet: u8, deadline: u32) -> Option<Phase> {
+fn phase_of(octet: u8, deadline: u32) -> Option<Phase> {
     match (octet, deadline) {
         (0, 0) => Some(Phase::Dark),
         (1, 0) => Some(Phase::Lit),
@@ -177,7 +186,7 @@ pub struct Change {
 /// lent buffers.
 pub fn change(state: &State, inputs: &[u8], records_len: usize, answers_len: usize) -> Change {
     let mut state = *state;
-    let mut tape = VecTape::with_capacity(0, 0);
+    let mut tape = VecTape::default();
     let played = if sound(&state) {
         accept_groups(inputs, records_len, answers_len)
             .and_then(|()| play_groups(&mut state, inputs, &mut tape))
@@ -208,13 +217,7 @@ fn accept_groups(inputs: &[u8], records_len: usize, answers_len: usize) -> Resul
 /// looked at: a refused one does not move the clock, and there is no end time.
 fn play_groups(state: &mut State, inputs: &[u8], tape: &mut impl Tape) -> Result<(), Refusal> {
     for (index, octets) in inputs.chunks_exact(INPUT).enumerate() {
-        let input = match decode_input(octets) {
-            Some(input) => input,
-            None => return refuse(6, index as u16),
-        };
-        if stamp_refused(u32_at(octets, 0), state.clock, LAST_STAMP) {
-            return refuse(7, index as u16);
-        }
+        let input = accept_input(decode_input(octets), octets, index, state.clock, LAST_STAMP)?;
         let answer = take_input(state, octets, input, tape);
         tape.answer(answer);
     }
@@ -295,15 +298,9 @@ pub fn run_to_into(file: &[u8], state: &mut [u8], records: &mut [u8], answers: &
         accept_state_room(state.len())?;
         Ok(cues)
     });
-    match accepted {
-        Err(refusal) => packed_refusal(refusal),
-        Ok(cues) => {
-            let mut tape = LentTape::new(records, answers);
-            let end = play(&cues, &mut tape);
-            state.copy_from_slice(&image(&end));
-            packed(0, 0, tape.record_count)
-        }
-    }
+    number_of(accepted, records, answers, |cues, tape| {
+        state.copy_from_slice(&image(&play(cues, tape)))
+    })
 }
 
 /// "8 for a state_len that is not HOUSE_STATE_SIZE"

@@ -3,10 +3,8 @@
 #![allow(dead_code)]
 
 use crate::calls::{damaged, Call, Case, Outcome, STATE_PATTERN};
-use crate::files::{input, Layout, LONGEST, REST};
+use crate::files::{cue_file, enough, input, parameters, resized, rest_of, with, Layout, HEADER, LAST, LONGEST, REST};
 use crate::images::{Fields, DARK, LIT, OCTETS, PHASES, STARTING};
-
-pub const LAST: u32 = 864_000;
 
 /// What plays a case and says what it must give.
 pub type Play<'a> = dyn FnMut(Case) -> Outcome + 'a;
@@ -16,17 +14,12 @@ pub type Play<'a> = dyn FnMut(Case) -> Outcome + 'a;
 /// Parameters alone.
 pub fn fresh(parameters: Vec<u8>, state_len: usize) -> Case {
     let state = vec![STATE_PATTERN; state_len];
-    Case { state, ..Case::run(Call::Fresh, parameters, 0, 0) }
+    Case { state, ..Case::run(Call::Fresh, parameters, (0, 0)) }
 }
 
 /// Inputs to a state, into buffers of these lengths.
-pub fn change(state: Vec<u8>, inputs: Vec<u8>, (records_len, answers_len): (usize, usize)) -> Case {
-    Case { state, ..Case::run(Call::Change, inputs, records_len, answers_len) }
-}
-
-/// As many octets of records and of answers as n inputs ask for.
-pub fn enough(n: usize) -> (usize, usize) {
-    (8 * (3 * n + 3), n)
+pub fn change(state: Vec<u8>, inputs: Vec<u8>, room: (usize, usize)) -> Case {
+    Case { state, ..Case::run(Call::Change, inputs, room) }
 }
 
 /// Inputs to a state, with just the room that they ask for.
@@ -35,12 +28,12 @@ pub fn change_in_room(state: &[u8], inputs: &[[u8; 8]]) -> Case {
 }
 
 pub fn clock_move(state: &[u8], stamp: u32, records_len: usize) -> Case {
-    Case { state: state.to_vec(), stamp, ..Case::run(Call::Move, Vec::new(), records_len, 0) }
+    Case { state: state.to_vec(), stamp, ..Case::run(Call::Move, Vec::new(), (records_len, 0)) }
 }
 
-pub fn run_to(file: Vec<u8>, state_len: usize, (records_len, answers_len): (usize, usize)) -> Case {
+pub fn run_to(file: Vec<u8>, state_len: usize, room: (usize, usize)) -> Case {
     let state = vec![STATE_PATTERN; state_len];
-    Case { state, ..Case::run(Call::RunTo, file, records_len, answers_len) }
+    Case { state, ..Case::run(Call::RunTo, file, room) }
 }
 
 /// The room that a clock move asks for.
@@ -54,18 +47,6 @@ const TIMES: [[u32; 4]; 2] = [[20, 50, 600, 100], [7, 13, 61, 25]];
 /// Used entries: taught Off, taught On, an On that is not taught, one that has nothing.
 const SCENES: [(u8, u8); 4] = [(1, 2), (2, 3), (3, 1), (63, 0)];
 
-/// Modes, learning and scenes as they stand in parameters.
-pub fn rest_of(modes: [u8; 5], learning: u8, scenes: &[(u8, u8)]) -> [u8; REST] {
-    let mut rest = [0; REST];
-    rest[..5].copy_from_slice(&modes);
-    rest[5] = learning;
-    for (entry, place) in rest[8..].chunks_exact_mut(2).enumerate() {
-        let (number, flags) = *scenes.get(entry).unwrap_or(&(255, 0));
-        place.copy_from_slice(&[number, flags]);
-    }
-    rest
-}
-
 /// A fresh state of a version, with the modes 0.
 fn usual(layout: &Layout) -> Fields {
     Fields::fresh_with(TIMES[usize::from(layout.version) - 1], rest_of([0; 5], 1, &SCENES), layout.version as u8)
@@ -74,15 +55,6 @@ fn usual(layout: &Layout) -> Fields {
 /// A timed light at 1000 that ends at 1100.
 fn timed(layout: &Layout) -> Fields {
     Fields { phase: 4, clock: 1000, deadline: 1100, ..usual(layout) }
-}
-
-/// Parameters alone of these times and this rest, in the octets of a version.
-pub fn parameters(layout: &Layout, times: [u32; 4], rest: &[u8; REST]) -> Vec<u8> {
-    let width = if layout.version == 1 { 2 } else { 4 };
-    let octets = times.map(|time| (time / layout.unit).to_be_bytes());
-    let mut parameters: Vec<u8> = octets.iter().flat_map(|time| time[4 - width..].to_vec()).collect();
-    parameters.extend_from_slice(rest);
-    parameters
 }
 
 /// Phase, night, lock, force and link in every combination, with a deadline so far ahead; not all of them are sound.
@@ -323,8 +295,7 @@ pub fn rooms(layout: &Layout, play: &mut Play) {
     for length in 0..=120 {
         play(fresh(good.clone(), length));
         play(run_to(empty_file(layout, &good), length, enough(0)));
-        let mut other = state.clone();
-        other.resize(length, 0);
+        let other = resized(&state, length);
         play(change(other.clone(), Vec::new(), enough(0)));
         play(clock_move(&other, LAST, MOVE_ROOM));
     }
@@ -332,12 +303,7 @@ pub fn rooms(layout: &Layout, play: &mut Play) {
 
 /// A cue file without inputs that ends at 77.
 fn empty_file(layout: &Layout, parameters: &[u8]) -> Vec<u8> {
-    let mut file = [layout.version.to_be_bytes(), 1u16.to_be_bytes()].concat();
-    for number in [20, 0, layout.inputs_at() as u32, 77] {
-        file.extend_from_slice(&u32::to_be_bytes(number));
-    }
-    file.extend_from_slice(parameters);
-    file
+    cue_file([layout.version, 1], [HEADER as u32, 0, layout.inputs_at() as u32, 77], parameters, &[])
 }
 
 /// Every combination of what is wrong with a call: the first refusal of its order decides.
@@ -361,8 +327,7 @@ pub fn first_refusals(layout: &Layout, play: &mut Play) {
         }
     }
     let octets = parameters(layout, fields.times, &fields.rest);
-    let mut out_of_range = octets.clone();
-    out_of_range[octets.len() - 1] = 4;
+    let out_of_range = with(&octets, octets.len() - 1, 4);
     for parameters in [octets.clone(), out_of_range.clone(), octets[1..].to_vec(), out_of_range[1..].to_vec()] {
         for length in [OCTETS, OCTETS - 1, 0] {
             play(fresh(parameters.clone(), length));
@@ -445,9 +410,7 @@ pub fn parameters_alone(layout: &Layout, play: &mut Play) {
         play(fresh(octets, OCTETS));
     }
     for length in 0..=255 {
-        let mut octets = good.clone();
-        octets.resize(length, 0);
-        play(fresh(octets, OCTETS));
+        play(fresh(resized(&good, length), OCTETS));
     }
 }
 

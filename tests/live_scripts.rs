@@ -3,9 +3,9 @@
 //! Each is played from a fresh state input by input, then by clock moves, and again in one change; nothing here knows what it should give.
 #![allow(dead_code)]
 
-use crate::files::{input, Layout, LONGEST};
+use crate::files::{input, parameters, rest_of, Layout, LAST, LONGEST};
 use crate::images::OCTETS;
-use crate::live_cases::{change_in_room, clock_move, fresh, parameters, rest_of, Play, LAST, MOVE_ROOM};
+use crate::live_cases::{change_in_room, clock_move, fresh, Play, MOVE_ROOM};
 
 type Order = (u8, u8);
 

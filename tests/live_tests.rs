@@ -2,23 +2,14 @@
 //! reading, the noted values of its request 4 in an image, and the four calls for C.
 //!
 //!     rustc --edition 2021 --test -O live_tests.rs -o t && ./t
-#[path = "model.rs"]
+mod cases;
+mod files;
+mod images;
+mod live;
 mod model;
 
-#[path = "live.rs"]
-mod live;
-
-#[path = "cases.rs"]
-mod cases;
-
-#[path = "files.rs"]
-mod files;
-
-#[path = "images.rs"]
-mod images;
-
 use cases::*;
-use files::{CueFile, Rng, LAYOUTS};
+use files::{resized, with, CueFile, Rng, LAYOUTS};
 use images::{broken, Fields, RULES};
 use live::*;
 use model::*;
@@ -63,6 +54,18 @@ fn change_in_room(image: &[u8], inputs: &[u8]) -> Given {
     change_c(image, inputs, 8 * (3 * n + 3), n)
 }
 
+fn number_of(code: u8, place: u16, count: usize) -> u64 {
+    u64::from(code) << 48 | u64::from(place) << 32 | count as u64
+}
+
+/// What a change by value is for C.
+fn for_c(change: &Change, records_len: usize, answers_len: usize) -> Given {
+    let (records, answers) = (vec![BEFORE; records_len], vec![BEFORE; answers_len]);
+    let (records, answers) = written_over(&records, &answers, &change.records, &change.answers);
+    let number = number_of(change.code, change.place, change.records.len());
+    Given { number, image: image(&change.state).to_vec(), records, answers }
+}
+
 /// A refusal that writes nothing.
 fn writes_nothing(given: &Given, image: &[u8], code: u8) {
     assert_eq!(given.number, u64::from(code) << 48);
@@ -70,22 +73,9 @@ fn writes_nothing(given: &Given, image: &[u8], code: u8) {
     assert!(given.records.iter().chain(&given.answers).all(|octet| *octet == BEFORE));
 }
 
-fn number_of(code: u64, place: u64, count: u64) -> u64 {
-    code << 48 | place << 32 | count
-}
-
 /// The worked times and modes, which have an on delay of 2 seconds and an off delay of 5.
 fn house() -> State {
     actuator(&worked())
-}
-
-/// A state on the way through a random show, of either version.
-fn any_state(rng: &mut Rng) -> State {
-    let n = rng.below(30) as usize;
-    let octets = CueFile::random(rng, n).octets();
-    let run = run(&octets, usize::MAX, usize::MAX);
-    assert_eq!(run.code, 0);
-    run.end
 }
 
 /// Inputs that a state takes, some of them spoilt.
@@ -184,7 +174,7 @@ fn the_numbers_of_flags_force_link_and_phase() {
 fn an_image_of_every_state_on_the_way_is_read_back() {
     let mut rng = Rng::new(1);
     for _ in 0..20_000 {
-        let state = any_state(&mut rng);
+        let state = any_end(30, &mut rng);
         assert_eq!(state_of(&image(&state)), Some(state));
     }
 }
@@ -224,7 +214,7 @@ fn an_image_is_accepted_exactly_where_no_rule_is_broken() {
 fn each_damaged_octet_is_refused_or_spells_another_state() {
     let mut rng = Rng::new(3);
     for _ in 0..60 {
-        let good = image(&any_state(&mut rng)).to_vec();
+        let good = image(&any_end(30, &mut rng)).to_vec();
         for octet in 0..STATE_OCTETS {
             for value in (0..=255).filter(|value| *value != good[octet]) {
                 let damaged = with(&good, octet, value);
@@ -336,12 +326,7 @@ fn reading_3_3_what_went_before_a_refused_input_stands() {
     assert_eq!(given.answers, [0, 0]);
     assert_eq!((given.state.clock, given.state.phase), (100, Phase::Ending { deadline: 150 }));
     // octets after them stay
-    let for_c = change_in_room(&image(&house()), &inputs);
-    assert_eq!(for_c.number, number_of(6, 2, 1));
-    assert_eq!(for_c.image, image(&given.state));
-    assert_eq!(for_c.records[..8], record_octets(&given.records[0]));
-    assert!(for_c.records[8..].iter().all(|octet| *octet == BEFORE));
-    assert_eq!(for_c.answers, [0, 0, BEFORE]);
+    assert_eq!(change_in_room(&image(&house()), &inputs), for_c(&given, 96, 3));
 }
 
 #[test]
@@ -450,7 +435,7 @@ fn joined(first: Change, inputs: &[u8], after: usize) -> Change {
 fn reading_3_9_a_list_may_be_cut_in_two_at_any_place() {
     let mut rng = Rng::new(9);
     for _ in 0..3_000 {
-        let state = any_state(&mut rng);
+        let state = any_end(30, &mut rng);
         let inputs = any_inputs(&state, &mut rng);
         let whole = changed(&state, &inputs);
         for cut in 0..=inputs.len() / 8 {
@@ -465,7 +450,7 @@ fn a_change_is_its_single_inputs_joined() {
     let mut rng = Rng::new(10);
     let mut codes = [0; 13];
     for _ in 0..20_000 {
-        let mut state = any_state(&mut rng);
+        let mut state = any_end(30, &mut rng);
         let inputs = any_inputs(&state, &mut rng);
         let whole = changed(&state, &inputs);
         codes[usize::from(whole.code)] += 1;
@@ -535,25 +520,15 @@ fn what_was_noted_before_a_refused_input_stands() {
 fn a_change_for_c_is_the_change_by_value() {
     let mut rng = Rng::new(11);
     for _ in 0..20_000 {
-        let state = any_state(&mut rng);
+        let state = any_end(30, &mut rng);
         let inputs = any_inputs(&state, &mut rng);
         let n = inputs.len() / 8;
         let records_len =
             (8 * (3 * n + 3) + rng.below(24) as usize).saturating_sub(rng.below(9) as usize);
         let answers_len = n + rng.below(3) as usize;
         let by_value = change(&state, &inputs, records_len, answers_len);
-        let for_c = change_c(&image(&state), &inputs, records_len, answers_len);
-        let count = by_value.records.len();
-        assert_eq!(
-            for_c.number,
-            number_of(by_value.code.into(), by_value.place.into(), count as u64)
-        );
-        assert_eq!(for_c.image, image(&by_value.state));
-        let written: Vec<u8> = by_value.records.iter().flat_map(record_octets).collect();
-        assert_eq!(for_c.records[..8 * count], written);
-        assert!(for_c.records[8 * count..].iter().all(|octet| *octet == BEFORE));
-        assert_eq!(for_c.answers[..by_value.answers.len()], by_value.answers);
-        assert!(for_c.answers[by_value.answers.len()..].iter().all(|octet| *octet == BEFORE));
+        let given = change_c(&image(&state), &inputs, records_len, answers_len);
+        assert_eq!(given, for_c(&by_value, records_len, answers_len));
     }
 }
 
@@ -573,7 +548,7 @@ fn fresh_for_c() {
         }
         // 1, then 5, then 8
         let bad = with(&octets, octets.len() - 1, 1);
-        let place = octets.len() as u64 - 1;
+        let place = octets.len() as u16 - 1;
         assert_eq!(given(&bad, 56), (number_of(5, place, 0), vec![BEFORE; 56]));
         assert_eq!(given(&bad, 0).0, number_of(5, place, 0));
         assert_eq!(given(&bad[1..], 56), (1 << 48, vec![BEFORE; 56]));
@@ -582,25 +557,32 @@ fn fresh_for_c() {
     assert_eq!(given(&[], 56), (1 << 48, vec![BEFORE; 56]));
 }
 
+/// A clock move for C: the number, the image, and the records.
+fn move_c(image: &[u8], stamp: u32, room: usize) -> (u64, Vec<u8>, Vec<u8>) {
+    let (mut state, mut records) = (image.to_vec(), vec![BEFORE; room]);
+    let number = move_into(&mut state, stamp, &mut records);
+    (number, state, records)
+}
+
+/// What a clock move by value is for C.
+fn moved_for_c(moved: &Move, room: usize) -> (u64, Vec<u8>, Vec<u8>) {
+    let (records, _) = written_over(&vec![BEFORE; room], &[], &moved.records, &[]);
+    let number = number_of(moved.code, moved.place, moved.records.len());
+    (number, image(&moved.state).to_vec(), records)
+}
+
 #[test]
 fn a_clock_move_for_c() {
-    let given = |image: &[u8], stamp: u32, room: usize| {
-        let (mut state, mut records) = (image.to_vec(), vec![BEFORE; room]);
-        let number = move_into(&mut state, stamp, &mut records);
-        (number, state, records)
-    };
     let starting = changed(&house(), &groups(&[(10, TIMED, 1)])).state;
     let before = image(&starting).to_vec();
     let by_value = clock_move(&starting, 864_000);
-    let mut written: Vec<u8> = by_value.records.iter().flat_map(record_octets).collect();
-    assert_eq!(written.len(), 16);
-    written.push(BEFORE);
-    assert_eq!(given(&before, 864_000, 17), (2, image(&by_value.state).to_vec(), written));
+    assert_eq!(by_value.records.len(), 2);
+    assert_eq!(move_c(&before, 864_000, 17), moved_for_c(&by_value, 17));
     // to its own clock: nothing but the image as it was
-    assert_eq!(given(&before, 10, 16), (0, before.clone(), vec![BEFORE; 16]));
+    assert_eq!(move_c(&before, 10, 16), (0, before.clone(), vec![BEFORE; 16]));
     // 9, then 7, then 8
     let refused = |image: &[u8], stamp, room, code: u64| {
-        assert_eq!(given(image, stamp, room), (code << 48, image.to_vec(), vec![BEFORE; room]));
+        assert_eq!(move_c(image, stamp, room), (code << 48, image.to_vec(), vec![BEFORE; room]));
     };
     refused(&before, 20, 15, 8);
     refused(&before, 20, 0, 8);
@@ -617,17 +599,10 @@ fn a_clock_move_for_c() {
 fn clock_moves_for_c_are_those_by_value() {
     let mut rng = Rng::new(12);
     for _ in 0..20_000 {
-        let state = any_state(&mut rng);
+        let state = any_end(30, &mut rng);
         let stamp = (state.clock + rng.below(5_000) as u32).saturating_sub(rng.below(50) as u32);
         let by_value = clock_move(&state, stamp);
-        let (mut octets, mut records) = (image(&state).to_vec(), [BEFORE; 16]);
-        let number = move_into(&mut octets, stamp, &mut records);
-        let count = by_value.records.len();
-        assert_eq!(number, number_of(by_value.code.into(), 0, count as u64));
-        assert_eq!(octets, image(&by_value.state));
-        let written: Vec<u8> = by_value.records.iter().flat_map(record_octets).collect();
-        assert_eq!(records[..8 * count], written);
-        assert!(records[8 * count..].iter().all(|octet| *octet == BEFORE));
+        assert_eq!(move_c(&image(&state), stamp, 16), moved_for_c(&by_value, 16));
     }
 }
 
@@ -637,10 +612,7 @@ fn a_run_to_a_state_is_the_run_and_its_end() {
     let mut codes = [0; 9];
     for _ in 0..20_000 {
         let n = rng.below(20) as usize;
-        let mut show = CueFile::random(&mut rng, n);
-        if rng.chance(50) {
-            show.spoil(&mut rng);
-        }
+        let show = CueFile::random(&mut rng, n).spoilt_if(rng.chance(50), &mut rng);
         let mut file = show.octets();
         if rng.chance(2) {
             file.truncate(rng.below(60) as usize);
@@ -674,13 +646,13 @@ fn live_from_a_run_on_is_the_longer_run() {
         let n = rng.below(40) as usize;
         let layout = files::Layout::random(&mut rng);
         let show = CueFile::random_in(layout, &mut rng, n);
-        let whole = run(&show.octets(), usize::MAX, usize::MAX);
+        let whole = run_all(&show.octets());
         let cut = rng.below(n as u64 + 1) as usize;
         let at_the_cut = if cut == 0 { 0 } else { files::stamp_of(&show.inputs[cut - 1]) };
         let (first, second) = show.inputs.split_at(cut);
         let (second, end) = (second.concat(), show.end);
         let head = CueFile { inputs: first.to_vec(), count: cut as u32, end: at_the_cut, ..show };
-        let before = run(&head.octets(), usize::MAX, usize::MAX);
+        let before = run_all(&head.octets());
         let live = changed(&before.end, &second);
         let last = clock_move(&live.state, end);
         assert_eq!([before.records, live.records, last.records].concat(), whole.records);

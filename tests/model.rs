@@ -1,5 +1,6 @@
 //! The house-light actuator of document 01, as an independent model, with the tenths in the delays of
-//! document 02, request 2, and its request 4: night and force are values, not events.
+//! document 02, request 2, and its request 4: night and force are values, not events. (Its requests 1
+//! and 3 are in wall.rs and live.rs; what these share with a cue file is here.)
 //!
 //! Written from documents 00, 01 and 02 alone, to be read beside document 01: the sections come in
 //! its order and each rule stands under the sentence it renders. All times inside the model are
@@ -168,15 +169,15 @@ pub(crate) fn rest_of(p: &Params, scenes: &[Scene; 8]) -> [u8; REST] {
     rest
 }
 
-/// The parameters and the scene table that four times and the rest spell.
-fn decode_parameters(
-    version: &Version,
+/// The parameters and the scene table that four times and the rest spell, in range or not.
+pub(crate) fn decode_parameters(
+    version: u8,
     times: [u32; 4],
     rest: &[u8; REST],
 ) -> (Params, [Scene; 8]) {
     let [on_delay, off_delay, timed_on, prewarning] = times;
     let params = Params {
-        version: version.number,
+        version,
         on_delay,
         off_delay,
         timed_on,
@@ -656,24 +657,27 @@ fn timed_start(state: &mut State, t: u32) {
     };
 }
 
+/// When a light goes out by itself: "Timed with deadline d: ... d+Prewarning. Warning or Ending: ...
+/// d."
+fn own_end(phase: Phase, p: &Params) -> Option<u32> {
+    match phase {
+        Phase::Timed { deadline: d } => Some(d + p.prewarning),
+        Phase::Warning { deadline: d } | Phase::Ending { deadline: d } => Some(d),
+        Phase::Dark | Phase::Lit | Phase::Starting { .. } => None,
+    }
+}
+
 fn off(state: &mut State, t: u32) {
     let p = state.params;
-    let t_plus_off_delay = t + p.off_delay;
     state.phase = match state.phase {
         // "Off: Dark stays; Starting becomes Dark."
-        Phase::Dark => Phase::Dark,
-        Phase::Starting { .. } => Phase::Dark,
+        Phase::Dark | Phase::Starting { .. } => Phase::Dark,
         // "With OffDelay 0 the result is Dark."
         _ if p.off_delay == 0 => Phase::Dark,
-        // "Lit: Ending until t+OffDelay."
-        Phase::Lit => Phase::Ending { deadline: t_plus_off_delay },
-        // "Timed with deadline d: Ending until the earlier of t+OffDelay and d+Prewarning."
-        Phase::Timed { deadline: d } => {
-            Phase::Ending { deadline: min(t_plus_off_delay, d + p.prewarning) }
-        }
-        // "Warning or Ending: Ending until the earlier of t+OffDelay and d."
-        Phase::Warning { deadline: d } | Phase::Ending { deadline: d } => {
-            Phase::Ending { deadline: min(t_plus_off_delay, d) }
+        // "Lit: Ending until t+OffDelay."; and the others "until the earlier of t+OffDelay and" their end
+        lit => {
+            let delayed = t + p.off_delay;
+            Phase::Ending { deadline: min(delayed, own_end(lit, &p).unwrap_or(delayed)) }
         }
     };
 }
@@ -906,22 +910,25 @@ fn write_change(before: (u8, u8), now: &State, stamp: u32, cause: u8, tape: &mut
 pub(crate) trait Tape {
     fn record(&mut self, record: Record);
     fn answer(&mut self, answer: u8);
+
+    /// What a wall button sends; the two lent buffers have no room for it.
+    fn sent(&mut self, _on: bool) {}
 }
 
+/// What a wall button sent: the index of its edge, the value, and how many records precede it.
+#[derive(Clone, Copy, Debug, PartialEq, Eq)]
+pub struct Sent {
+    pub index: usize,
+    pub on: bool,
+    pub records_before: usize,
+}
+
+#[derive(Default)]
 pub(crate) struct VecTape {
     pub(crate) records: Vec<Record>,
     pub(crate) answers: Vec<u8>,
     pub(crate) records_before: Vec<usize>,
-}
-
-impl VecTape {
-    pub(crate) fn with_capacity(records: usize, answers: usize) -> VecTape {
-        VecTape {
-            records: Vec::with_capacity(records),
-            answers: Vec::with_capacity(answers),
-            records_before: Vec::with_capacity(answers),
-        }
-    }
+    pub(crate) sends: Vec<Sent>,
 }
 
 impl Tape for VecTape {
@@ -932,6 +939,11 @@ impl Tape for VecTape {
     fn answer(&mut self, answer: u8) {
         self.records_before.push(self.records.len());
         self.answers.push(answer);
+    }
+
+    fn sent(&mut self, on: bool) {
+        let (index, records_before) = (self.answers.len(), self.records.len());
+        self.sends.push(Sent { index, on, records_before });
     }
 }
 
@@ -985,47 +997,37 @@ pub(crate) fn play(cues: &Cues, tape: &mut impl Tape) -> State {
     state
 }
 
-/// "records, at least 8(3n+3) octets": the most records n inputs can give.
-pub(crate) fn most_records(n: usize) -> usize {
-    3 * n + 3
-}
-
-/// What the run gives; `records_before[i]` is how many records precede answer i.
+/// What the run gives, of a cue file or of a wall list; `records_before[i]` is how many records
+/// precede answer i.
 #[derive(Clone, Debug, PartialEq, Eq)]
-pub struct Run {
+pub struct Run<End = State> {
     pub code: u8,
     pub place: u16,
     pub records: Vec<Record>,
     pub answers: Vec<u8>,
-    pub end: State,
+    pub end: End,
     pub records_before: Vec<usize>,
+    pub sends: Vec<Sent>,
 }
 
 /// A whole cue file, with the sizes in octets of the two lent buffers.
 pub fn run(file: &[u8], records_len: usize, answers_len: usize) -> Run {
-    match accept(file, records_len, answers_len) {
-        Err(refusal) => Run {
-            code: refusal.code,
-            place: refusal.place,
-            records: Vec::new(),
-            answers: Vec::new(),
-            end: state_of_a_refusal(),
-            records_before: Vec::new(),
-        },
-        Ok(cues) => {
-            let n = cues.inputs.len() / INPUT;
-            let mut tape = VecTape::with_capacity(most_records(n), n);
-            let end = play(&cues, &mut tape);
-            Run {
-                code: 0,
-                place: 0,
-                records: tape.records,
-                answers: tape.answers,
-                end,
-                records_before: tape.records_before,
-            }
-        }
-    }
+    run_of(accept(file, records_len, answers_len), play, state_of_a_refusal())
+}
+
+/// What a list gives that is played where it was accepted.
+pub(crate) fn run_of<List, End>(
+    accepted: Result<List, Refusal>,
+    play: impl FnOnce(&List, &mut VecTape) -> End,
+    end_of_a_refusal: End,
+) -> Run<End> {
+    let mut tape = VecTape::default();
+    let (code, place, end) = match accepted {
+        Err(refusal) => (refusal.code, refusal.place, end_of_a_refusal),
+        Ok(list) => (0, 0, play(&list, &mut tape)),
+    };
+    let VecTape { records, answers, records_before, sends } = tape;
+    Run { code, place, records, answers, end, records_before, sends }
 }
 
 /// "To C it answers one 64-bit number, code*2^48 + place*2^32 + record count"
@@ -1033,7 +1035,7 @@ pub(crate) fn packed(code: u8, place: u16, record_count: usize) -> u64 {
     (u64::from(code) << 48) + (u64::from(place) << 32) + record_count as u64
 }
 
-pub fn number(run: &Run) -> u64 {
+pub fn number<End>(run: &Run<End>) -> u64 {
     packed(run.code, run.place, run.records.len())
 }
 
@@ -1042,13 +1044,24 @@ pub(crate) fn packed_refusal(refusal: Refusal) -> u64 {
     packed(refusal.code, refusal.place, 0)
 }
 
-/// "calls the run with a file and two lent octet buffers"; a refused call writes nothing.
+/// "calls the run with a file and two lent octet buffers"
 pub fn run_into(file: &[u8], records: &mut [u8], answers: &mut [u8]) -> u64 {
-    match accept(file, records.len(), answers.len()) {
+    let accepted = accept(file, records.len(), answers.len());
+    number_of(accepted, records, answers, |cues, tape| play(cues, tape))
+}
+
+/// The number of a list that is played into two lent buffers; a refused call writes nothing.
+pub(crate) fn number_of<List, End>(
+    accepted: Result<List, Refusal>,
+    records: &mut [u8],
+    answers: &mut [u8],
+    play: impl FnOnce(&List, &mut LentTape) -> End,
+) -> u64 {
+    match accepted {
         Err(refusal) => packed_refusal(refusal),
-        Ok(cues) => {
+        Ok(list) => {
             let mut tape = LentTape::new(records, answers);
-            play(&cues, &mut tape);
+            play(&list, &mut tape);
             packed(0, 0, tape.record_count)
         }
     }
@@ -1069,44 +1082,47 @@ pub fn single(state: &State, octets: &[u8; 8]) -> Single {
     // "hands back the state it was given"; "a single input's answer and all by-value records are
     // 0 on refusal"
     let refused = |code| Single { state: *state, code, place: 0, answer: 0, records: Vec::new() };
-    if !sound(state) {
-        return refused(9);
-    }
-    let input = match decode_input(octets) {
-        Some(input) => input,
-        None => return refused(6),
+    let input = match accept_single(sound(state), decode_input(octets), octets, state.clock) {
+        Ok(input) => input,
+        Err(refusal) => return refused(refusal.code),
     };
-    if stamp_refused(u32_at(octets, 0), state.clock, LAST_STAMP) {
-        return refused(7);
-    }
     let mut moved = *state;
-    let mut tape = VecTape::with_capacity(3, 0);
+    let mut tape = VecTape::default();
     let answer = take_input(&mut moved, octets, input, &mut tape);
     Single { state: moved, code: 0, place: 0, answer, records: tape.records }
 }
 
-/// "a clock move the state and at most two"
+/// "a clock move the state and at most two", of an actuator or of a pair
 #[derive(Clone, Debug, PartialEq, Eq)]
-pub struct Move {
-    pub state: State,
+pub struct Move<House = State> {
+    pub state: House,
     pub code: u8,
     pub place: u16,
     pub records: Vec<Record>,
 }
 
-/// "A clock move: 9, 7."
 pub fn clock_move(state: &State, stamp: u32) -> Move {
-    let refused = |code| Move { state: *state, code, place: 0, records: Vec::new() };
-    if !sound(state) {
-        return refused(9);
+    let bad_stamp = stamp_refused(stamp, state.clock, LAST_STAMP);
+    move_of(state, sound(state), bad_stamp, |state, tape| move_clock(state, stamp, tape))
+}
+
+/// "A clock move: 9, 7."
+pub(crate) fn move_of<House: Copy>(
+    before: &House,
+    sound: bool,
+    bad_stamp: bool,
+    play: impl FnOnce(&mut House, &mut VecTape),
+) -> Move<House> {
+    let (mut state, mut tape) = (*before, VecTape::default());
+    let code = match (sound, bad_stamp) {
+        (false, _) => 9,
+        (true, true) => 7,
+        (true, false) => 0,
+    };
+    if code == 0 {
+        play(&mut state, &mut tape);
     }
-    if stamp_refused(stamp, state.clock, LAST_STAMP) {
-        return refused(7);
-    }
-    let mut moved = *state;
-    let mut tape = VecTape::with_capacity(2, 0);
-    move_clock(&mut moved, stamp, &mut tape);
-    Move { state: moved, code: 0, place: 0, records: tape.records }
+    Move { state, code, place: 0, records: tape.records }
 }
 
 /// "Parameters alone give the fresh state." With it code and place.
@@ -1122,14 +1138,25 @@ pub fn fresh(parameters: &[u8]) -> (State, u8, u16) {
 /// "OK: count of inputs. R: stamp, value, attributes, cause. A: input index from 0, answer.
 /// E: count of records. A refused file prints one line, `NO code place`."
 pub fn print(file: &[u8]) -> String {
-    let run = run(file, usize::MAX, usize::MAX);
+    printed(&run(file, usize::MAX, usize::MAX))
+}
+
+/// Where a wall button sends, a line "S: index of the edge, value" stands between the records of the
+/// timers before it and the telegram's own record.
+pub(crate) fn printed<End>(run: &Run<End>) -> String {
     if run.code != 0 {
         return format!("NO {} {}\n", run.code, run.place);
     }
-    let mut text = String::with_capacity(32 * (run.records.len() + run.answers.len() + 2));
+    let mut text = String::new();
     line(&mut text, "OK", &[run.answers.len() as u32]);
     let mut printed = 0;
+    let mut sends = run.sends.iter().peekable();
     for (index, answer) in run.answers.iter().enumerate() {
+        if let Some(sent) = sends.next_if(|sent| sent.index == index) {
+            print_records(&mut text, &run.records[printed..sent.records_before]);
+            printed = sent.records_before;
+            line(&mut text, "S", &[index as u32, u32::from(sent.on)]);
+        }
         print_records(&mut text, &run.records[printed..run.records_before[index]]);
         printed = run.records_before[index];
         line(&mut text, "A", &[index as u32, u32::from(*answer)]);
@@ -1174,7 +1201,7 @@ pub(crate) fn accept(
     answers_len: usize,
 ) -> Result<Cues<'_>, Refusal> {
     let cues = accept_header_and_parameters(file)?;
-    accept_inputs(&cues, |octets| decode_input(octets).is_some())?;
+    accept_inputs(&cues, decode_input)?;
     accept_room(cues.inputs.len() / INPUT, records_len, answers_len)?;
     Ok(cues)
 }
@@ -1230,32 +1257,58 @@ fn accept_parameters(version: &Version, octets: &[u8]) -> Result<State, Refusal>
     if let Some(octet) = lowest_bad_octet(version, &times, rest) {
         return refuse(5, octet as u16);
     }
-    let (params, scenes) = decode_parameters(version, times, rest);
+    let (params, scenes) = decode_parameters(version.number, times, rest);
     Ok(fresh_state(params, scenes))
 }
 
-/// "then the first bad input, 6 before 7"
-pub(crate) fn accept_inputs(cues: &Cues, known: impl Fn(&[u8]) -> bool) -> Result<(), Refusal> {
+/// "then the first bad input"
+pub(crate) fn accept_inputs<Said>(
+    cues: &Cues,
+    decode: impl Fn(&[u8]) -> Option<Said>,
+) -> Result<(), Refusal> {
     let mut stamp_before = 0;
     for (index, octets) in cues.inputs.chunks_exact(INPUT).enumerate() {
-        // "6 | kind, value or zero octet wrong | input index"
-        if !known(octets) {
-            return refuse(6, index as u16);
-        }
-        // "7 | stamp below the one before ..., above the end time ... | input index"
-        let stamp = u32_at(octets, 0);
-        if stamp_refused(stamp, stamp_before, cues.end_time) {
-            return refuse(7, index as u16);
-        }
-        stamp_before = stamp;
+        accept_input(decode(octets), octets, index, stamp_before, cues.end_time)?;
+        stamp_before = u32_at(octets, 0);
     }
     Ok(())
+}
+
+/// "6 before 7", and what an accepted input says.
+pub(crate) fn accept_input<Said>(
+    said: Option<Said>,
+    octets: &[u8],
+    index: usize,
+    lowest: u32,
+    highest: u32,
+) -> Result<Said, Refusal> {
+    match said {
+        // "6 | kind, value or zero octet wrong | input index"
+        None => refuse(6, index as u16),
+        // "7 | stamp below the one before (or the clock), above the end time ... | input index"
+        Some(_) if stamp_refused(u32_at(octets, 0), lowest, highest) => refuse(7, index as u16),
+        Some(said) => Ok(said),
+    }
+}
+
+/// "For a single input 9, 6, 7, place 0."
+pub(crate) fn accept_single<Said>(
+    sound: bool,
+    said: Option<Said>,
+    octets: &[u8],
+    clock: u32,
+) -> Result<Said, Refusal> {
+    if sound {
+        accept_input(said, octets, 0, clock, LAST_STAMP)
+    } else {
+        refuse(9, 0)
+    }
 }
 
 /// "8 | a lent buffer too short": "records, at least 8(3n+3) octets, and answers, at least n", for n
 /// inputs.
 pub(crate) fn accept_room(n: usize, records_len: usize, answers_len: usize) -> Result<(), Refusal> {
-    if records_len < RECORD * most_records(n) || answers_len < n {
+    if records_len < RECORD * (3 * n + 3) || answers_len < n {
         return refuse(8, 0);
     }
     Ok(())
@@ -1290,21 +1343,13 @@ pub fn state_of_a_refusal() -> State {
 /// none of any other.
 fn in_range(p: &Params, scenes: &[Scene; 8]) -> bool {
     let times = [p.on_delay, p.off_delay, p.timed_on, p.prewarning];
-    ranged_parameters(p.version, times, &rest_of(p, scenes)).is_some()
+    ranged(p.version, &times, &rest_of(p, scenes))
 }
 
-/// The parameters and the scene table that four times in tenths and the rest spell, if they are in
-/// the ranges of this version.
-pub(crate) fn ranged_parameters(
-    version: u8,
-    times: [u32; 4],
-    rest: &[u8; REST],
-) -> Option<(Params, [Scene; 8])> {
-    let version = Version::of(version.into())?;
-    match lowest_bad_octet(version, &times, rest) {
-        Some(_) => None,
-        None => Some(decode_parameters(version, times, rest)),
-    }
+/// Whether four times in tenths and the rest are in the ranges of this version.
+pub(crate) fn ranged(version: u8, times: &[u32; 4], rest: &[u8; REST]) -> bool {
+    let version = Version::of(version.into());
+    version.map_or(false, |version| lowest_bad_octet(version, times, rest).is_none())
 }
 
 /// "A state is sound when its parameters and scenes are in range, ..."

@@ -2,10 +2,7 @@
 //!
 //!     rustc --edition 2021 -O model_print.rs -o model_print && ./model_print --wall <../shows/foyer.wall
 
-#[path = "model.rs"]
 mod model;
-
-#[path = "wall.rs"]
 mod wall;
 
 use std::io::Read;

@@ -2,27 +2,25 @@
 //! of document 02, request 2, under that request.
 //!
 //!     rustc --edition 2021 --test -O model_tests.rs -o t && ./t
-#[path = "model.rs"]
+mod cases;
+mod files;
 mod model;
 
-#[path = "cases.rs"]
-mod cases;
-
 use cases::*;
+use files::{resized, stamp_of, with, CueFile, Rng};
 use model::*;
 
-fn run_all(file: &[u8]) -> Run {
-    run(file, usize::MAX, usize::MAX)
-}
-
 /// The records after the start record, and the answers.
-fn expect(file: &[u8], records: &[(u32, u8, u8, u8)], answers: &[u8]) {
+fn expect(file: &[u8], records: &[Written], answers: &[u8]) {
     let run = run_all(file);
     assert_eq!((run.code, run.place), (0, 0));
-    let mut wanted = vec![record((0, 0, 1, 0))];
-    wanted.extend(records.iter().map(|r| record(*r)));
-    assert_eq!(run.records, wanted);
+    assert_eq!(run.records, from_the_start(records));
     assert_eq!(run.answers, answers);
+}
+
+/// The same, with the parameters of the worked cases.
+fn worked_gives(cues: &[Cue], records: &[Written], answers: &[u8]) {
+    expect(&file(&worked(), 1000, cues), records, answers);
 }
 
 // ================================================================================================
@@ -62,8 +60,7 @@ fn printout_of_a_refused_file() {
 
 #[test]
 fn a() {
-    let f = file(&worked(), 1000, &[(0, ON_OFF, 1)]);
-    expect(&f, &[(20, 255, 1, 0)], &[0]);
+    worked_gives(&[(0, ON_OFF, 1)], &[(20, 255, 1, 0)], &[0]);
     let state = single(&actuator(&worked()), &input((0, ON_OFF, 1))).state;
     let at_19 = clock_move(&state, 19).state;
     let at_20 = clock_move(&at_19, 20).state;
@@ -72,58 +69,61 @@ fn a() {
 
 #[test]
 fn b() {
-    let f = file(&worked(), 1000, &[(0, ON_OFF, 1), (15, ON_OFF, 1)]);
-    expect(&f, &[(20, 255, 1, 0)], &[0, 1]);
+    worked_gives(&[(0, ON_OFF, 1), (15, ON_OFF, 1)], &[(20, 255, 1, 0)], &[0, 1]);
 }
 
 #[test]
 fn c() {
-    let f = file(&worked(), 1000, &[(0, ON_OFF, 1), (19, ON_OFF, 0)]);
-    expect(&f, &[], &[0, 0]);
+    worked_gives(&[(0, ON_OFF, 1), (19, ON_OFF, 0)], &[], &[0, 0]);
 }
 
 #[test]
 fn d() {
-    let f = file(&worked(), 1000, &[(0, ON_OFF, 1), (20, ON_OFF, 0)]);
-    expect(&f, &[(20, 255, 1, 0), (70, 0, 1, 0)], &[0, 0]);
+    worked_gives(&[(0, ON_OFF, 1), (20, ON_OFF, 0)], &[(20, 255, 1, 0), (70, 0, 1, 0)], &[0, 0]);
 }
 
 #[test]
 fn e() {
-    let f = file(&worked(), 1000, &[(0, ON_OFF, 1), (100, ON_OFF, 0), (140, ON_OFF, 0)]);
-    expect(&f, &[(20, 255, 1, 0), (150, 0, 1, 0)], &[0, 0, 1]);
+    worked_gives(
+        &[(0, ON_OFF, 1), (100, ON_OFF, 0), (140, ON_OFF, 0)],
+        &[(20, 255, 1, 0), (150, 0, 1, 0)],
+        &[0, 0, 1],
+    );
 }
 
 #[test]
 fn f() {
-    let f = file(&worked(), 1000, &[(0, TIMED, 1)]);
-    expect(&f, &[(20, 255, 17, 0), (720, 0, 1, 0)], &[0]);
+    worked_gives(&[(0, TIMED, 1)], &[(20, 255, 17, 0), (720, 0, 1, 0)], &[0]);
 }
 
 #[test]
 fn g() {
-    let f = file(&worked(), 1000, &[(0, TIMED, 1), (700, ON_OFF, 0)]);
-    expect(&f, &[(20, 255, 17, 0), (700, 255, 1, 1), (720, 0, 1, 0)], &[0, 0]);
+    worked_gives(
+        &[(0, TIMED, 1), (700, ON_OFF, 0)],
+        &[(20, 255, 17, 0), (700, 255, 1, 1), (720, 0, 1, 0)],
+        &[0, 0],
+    );
 }
 
 #[test]
 fn h() {
     let cues = [(0, ON_OFF, 1), (50, FORCED, 2), (60, ON_OFF, 1), (80, FORCED, 0)];
-    let f = file(&worked(), 1000, &cues);
-    expect(&f, &[(20, 255, 1, 0), (50, 0, 5, 4), (80, 0, 1, 4)], &[0, 0, 2, 0]);
+    worked_gives(&cues, &[(20, 255, 1, 0), (50, 0, 5, 4), (80, 0, 1, 4)], &[0, 0, 2, 0]);
 }
 
 #[test]
 fn i() {
     let cues = [(0, ON_OFF, 1), (100, LOCK, 1), (120, ON_OFF, 0), (200, LOCK, 0)];
-    let f = file(&worked(), 1000, &cues);
-    expect(&f, &[(20, 255, 1, 0), (100, 255, 3, 5), (200, 255, 1, 5)], &[0, 0, 3, 0]);
+    worked_gives(&cues, &[(20, 255, 1, 0), (100, 255, 3, 5), (200, 255, 1, 5)], &[0, 0, 3, 0]);
 }
 
 #[test]
 fn j() {
-    let f = file(&worked(), 1000, &[(0, ON_OFF, 1), (100, NIGHT, 1)]);
-    expect(&f, &[(20, 255, 1, 0), (100, 255, 25, 6), (800, 0, 9, 0)], &[0, 0]);
+    worked_gives(
+        &[(0, ON_OFF, 1), (100, NIGHT, 1)],
+        &[(20, 255, 1, 0), (100, 255, 25, 6), (800, 0, 9, 0)],
+        &[0, 0],
+    );
 }
 
 #[test]
@@ -135,14 +135,20 @@ fn run_only_night_shortens_a_long_off_delay() {
 
 #[test]
 fn run_only_bus_failure_keeps_the_timers() {
-    let f = file(&worked(), 1000, &[(0, TIMED, 1), (50, BUS, 0), (60, ON_OFF, 1)]);
-    expect(&f, &[(20, 255, 17, 0), (720, 0, 1, 0)], &[0, 0, 4]);
+    worked_gives(
+        &[(0, TIMED, 1), (50, BUS, 0), (60, ON_OFF, 1)],
+        &[(20, 255, 17, 0), (720, 0, 1, 0)],
+        &[0, 0, 4],
+    );
 }
 
 #[test]
 fn run_only_power_failure_and_return() {
-    let f = file(&worked(), 1000, &[(0, ON_OFF, 1), (50, POWER, 0), (90, POWER, 1)]);
-    expect(&f, &[(20, 255, 1, 0), (50, 0, 0, 8), (90, 255, 1, 8)], &[0, 0, 0]);
+    worked_gives(
+        &[(0, ON_OFF, 1), (50, POWER, 0), (90, POWER, 1)],
+        &[(20, 255, 1, 0), (50, 0, 0, 8), (90, 255, 1, 8)],
+        &[0, 0, 0],
+    );
 }
 
 #[test]
@@ -228,16 +234,26 @@ fn ending(deadline: u32) -> Phase {
 const DARK: Phase = Phase::Dark;
 const LIT: Phase = Phase::Lit;
 
+/// A cue to a state gives this state and this answer.
+fn gives(before: &State, cue: Cue, wanted: State, answer: u8) -> Single {
+    let got = single(before, &input(cue));
+    assert_eq!((got.state, got.answer), (wanted, answer), "{:?} to {:?}", cue, before);
+    got
+}
+
+/// Nothing but the clock changes.
+fn idles(before: &State, cue: Cue) {
+    gives(before, cue, State { clock: cue.0, ..*before }, 1);
+}
+
 /// The order at 1100 turns `before` (with phase `from`) into the same state with phase `to`,
 /// answering 0 or 1 by whether that differs.
 fn phases(before: &State, kind: u8, value: u8, rows: &[(Phase, Phase)]) {
     for (from, to) in rows {
         let before = State { phase: *from, ..*before };
         let wanted = State { clock: 1100, phase: *to, ..before };
-        let got = single(&before, &input((1100, kind, value)));
+        let got = gives(&before, (1100, kind, value), wanted, u8::from(from == to));
         assert_eq!((got.code, got.place), (0, 0), "{:?}", from);
-        assert_eq!(got.state, wanted, "kind {} value {} from {:?}", kind, value, from);
-        assert_eq!(got.answer, u8::from(from == to), "kind {} from {:?}", kind, from);
         assert!(sound(&got.state));
     }
 }
@@ -398,20 +414,17 @@ fn order_scene_learn() {
         (ending(1600), 3),
     ] {
         before.phase = phase;
-        let learned = single(&before, &input((1100, SCENE, 128 + 7)));
         let mut wanted = State { clock: 1100, ..before };
         wanted.scenes[2].flags = flags;
-        assert_eq!((learned.state, learned.answer), (wanted, 0));
+        let learned = gives(&before, (1100, SCENE, 128 + 7), wanted, 0);
         assert!(learned.records.is_empty());
-        let again = single(&learned.state, &input((1100, SCENE, 128 + 7)));
-        assert_eq!((again.state, again.answer), (wanted, 1));
+        idles(&learned.state, (1100, SCENE, 128 + 7));
         // not in the table
         assert_eq!(single(&before, &input((1100, SCENE, 128 + 8))).answer, 1);
         // not enabled
         let mut disabled = before;
         disabled.params.scene_learning_mode_enable = 0;
-        let got = single(&disabled, &input((1100, SCENE, 128 + 7)));
-        assert_eq!((got.state, got.answer), (State { clock: 1100, ..disabled }, 1));
+        idles(&disabled, (1100, SCENE, 128 + 7));
     }
 }
 
@@ -431,13 +444,10 @@ fn order_night() {
     ];
     for (from, to) in rows {
         let before = State { phase: from, ..off };
-        let got = single(&before, &input((1100, NIGHT, 1)));
-        assert_eq!(got.state, State { clock: 1100, phase: to, night: true, ..before });
-        assert_eq!(got.answer, 0);
+        let night = State { clock: 1100, phase: to, night: true, ..before };
+        gives(&before, (1100, NIGHT, 1), night, 0);
         // "Night 0 clears the flag only."
-        let back = single(&got.state, &input((1100, NIGHT, 0)));
-        assert_eq!(back.state, State { clock: 1100, phase: to, ..before });
-        assert_eq!(back.answer, 0);
+        gives(&night, (1100, NIGHT, 0), State { night: false, ..night }, 0);
         // night 0 when off, night 1 when on
         assert_eq!(single(&before, &input((1100, NIGHT, 0))).answer, 1);
     }
@@ -460,27 +470,22 @@ fn starting_meets_night_at_its_deadline() {
 fn order_force() {
     for phase in [DARK, LIT, steady(1600), timed(1600), warning(1600), ending(1600)] {
         let before = State { phase, ..table() };
-        let on = single(&before, &input((1100, FORCED, 3)));
-        let wanted = State { clock: 1100, force: Force::On, phase: LIT, ..before };
-        assert_eq!((on.state, on.answer), (wanted, 0));
-        let off = single(&on.state, &input((1100, FORCED, 2)));
-        let wanted = State { clock: 1100, force: Force::Off, phase: DARK, ..before };
-        assert_eq!((off.state, off.answer), (wanted, 0));
-        assert_eq!(single(&off.state, &input((1200, FORCED, 2))).answer, 1);
+        let on = State { clock: 1100, force: Force::On, phase: LIT, ..before };
+        let off = State { clock: 1100, force: Force::Off, phase: DARK, ..before };
+        gives(&before, (1100, FORCED, 3), on, 0);
+        gives(&on, (1100, FORCED, 2), off, 0);
+        idles(&off, (1200, FORCED, 2));
         for no_control in [0, 1] {
-            let lit = single(&on.state, &input((1100, FORCED, no_control)));
-            assert_eq!(lit.state, State { clock: 1100, phase: LIT, ..before });
-            let dark = single(&off.state, &input((1100, FORCED, no_control)));
-            assert_eq!(dark.state, State { clock: 1100, phase: DARK, ..before });
+            gives(&on, (1100, FORCED, no_control), State { force: Force::None, ..on }, 0);
+            gives(&off, (1100, FORCED, no_control), State { force: Force::None, ..off }, 0);
             // nothing to release: phase and timers run on
-            let none = single(&before, &input((1100, FORCED, no_control)));
-            assert_eq!((none.state, none.answer), (State { clock: 1100, ..before }, 1));
+            idles(&before, (1100, FORCED, no_control));
         }
     }
     // release in night
     let forced = State { night: true, force: Force::On, phase: LIT, ..table() };
-    let freed = single(&forced, &input((1100, FORCED, 0))).state;
-    assert_eq!(freed, State { clock: 1100, force: Force::None, phase: timed(1500), ..forced });
+    let freed = State { clock: 1100, force: Force::None, phase: timed(1500), ..forced };
+    gives(&forced, (1100, FORCED, 0), freed, 0);
 }
 
 #[test]
@@ -492,22 +497,20 @@ fn order_lock_and_unlock() {
             before.params.behaviour_at_locking = locking;
             let locked_lit = [was, false, true][usize::from(locking)];
             let locked_phase = if locked_lit { LIT } else { DARK };
-            let locked = single(&before, &input((1100, LOCK, 1)));
-            let wanted = State {
+            let locked = State {
                 clock: 1100,
                 phase: locked_phase,
                 lock: true,
                 output_at_locking: was,
                 ..before
             };
-            assert_eq!((locked.state, locked.answer), (wanted, 0));
-            assert_eq!(single(&locked.state, &input((1100, LOCK, 1))).answer, 1);
+            gives(&before, (1100, LOCK, 1), locked, 0);
             // the remembered output stays the one of the first locking
-            assert_eq!(single(&locked.state, &input((1100, LOCK, 1))).state, wanted);
+            idles(&locked, (1100, LOCK, 1));
             for unlocking in 0..=3 {
                 for night in [false, true] {
                     for force in [Force::None, Force::Off, Force::On] {
-                        let mut held = State { night, force, ..locked.state };
+                        let mut held = State { night, force, ..locked };
                         held.params.behaviour_at_unlocking = unlocking;
                         let lit = match force {
                             Force::None => [locked_lit, false, true, was][usize::from(unlocking)],
@@ -519,16 +522,14 @@ fn order_lock_and_unlock() {
                             (true, false) => LIT,
                             (true, true) => timed(1600),
                         };
-                        let got = single(&held, &input((1200, LOCK, 0)));
                         let wanted = State { clock: 1200, phase, lock: false, ..held };
-                        assert_eq!((got.state, got.answer), (wanted, 0));
-                        assert!(sound(&got.state));
+                        gives(&held, (1200, LOCK, 0), wanted, 0);
+                        assert!(sound(&wanted));
                     }
                 }
             }
             // unlock when unlocked
-            let got = single(&before, &input((1100, LOCK, 0)));
-            assert_eq!((got.state, got.answer), (State { clock: 1100, ..before }, 1));
+            idles(&before, (1100, LOCK, 0));
         }
     }
 }
@@ -550,12 +551,10 @@ fn order_bus() {
                     // the other mode must not matter
                     before.params.bus_failure_mode = if value == 0 { mode } else { 1 };
                     before.params.bus_return_mode = if value == 1 { mode } else { 1 };
-                    let got = single(&before, &input((1100, BUS, value)));
                     let wanted = State { clock: 1100, link: other, phase: wanted_phase, ..before };
-                    assert_eq!((got.state, got.answer), (wanted, 0));
+                    gives(&before, (1100, BUS, value), wanted, 0);
                     // failure when down, return when up
-                    let idle = single(&before, &input((1100, BUS, 1 - value)));
-                    assert_eq!((idle.state, idle.answer), (State { clock: 1100, ..before }, 1));
+                    idles(&before, (1100, BUS, 1 - value));
                 }
             }
         }
@@ -564,8 +563,8 @@ fn order_bus() {
     for (lock, force) in [(true, Force::None), (false, Force::On), (true, Force::Off)] {
         let mut before = State { phase: LIT, lock, force, ..table() };
         before.params.bus_failure_mode = 1;
-        let got = single(&before, &input((1100, BUS, 0)));
-        assert_eq!(got.state, State { clock: 1100, link: Link::BusDown, ..before });
+        let wanted = State { clock: 1100, link: Link::BusDown, ..before };
+        gives(&before, (1100, BUS, 0), wanted, 0);
     }
 }
 
@@ -576,8 +575,7 @@ fn order_power() {
         for link in [Link::Up, Link::BusDown] {
             let mut before = State { phase, link, night: phase != LIT, ..table() };
             before.scenes[0] = Scene { number: 3, flags: 3 };
-            let failed = single(&before, &input((1100, POWER, 0)));
-            let wanted = State {
+            let failed = State {
                 clock: 1100,
                 phase: DARK,
                 night: false,
@@ -585,21 +583,18 @@ fn order_power() {
                 output_at_power_failure: was,
                 ..before
             };
-            assert_eq!((failed.state, failed.answer), (wanted, 0));
+            gives(&before, (1100, POWER, 0), failed, 0);
             // power return without failure
-            let idle = single(&before, &input((1100, POWER, 1)));
-            assert_eq!((idle.state, idle.answer), (State { clock: 1100, ..before }, 1));
+            idles(&before, (1100, POWER, 1));
             // failure again
-            let again = single(&failed.state, &input((1150, POWER, 0)));
-            assert_eq!((again.state, again.answer), (State { clock: 1150, ..wanted }, 1));
+            idles(&failed, (1150, POWER, 0));
             for mode in 0..=2 {
-                let mut down = failed.state;
+                let mut down = failed;
                 down.params.power_return_mode = mode;
                 let lit = [was, false, true][usize::from(mode)];
-                let got = single(&down, &input((1200, POWER, 1)));
                 let phase = if lit { LIT } else { DARK };
                 let wanted = State { clock: 1200, link: Link::Up, phase, ..down };
-                assert_eq!((got.state, got.answer), (wanted, 0));
+                gives(&down, (1200, POWER, 1), wanted, 0);
             }
         }
     }
@@ -634,23 +629,18 @@ fn barriers() {
     for (state, stops) in rows {
         assert!(sound(state));
         for kind in 1..=8 {
-            for value in 0..=1 {
-                let got = single(state, &input((1100, kind, value)));
+            for cue in [(1100, kind, 0), (1100, kind, 1)] {
                 let dropped = State { clock: 1100, ..*state };
                 match stops[usize::from(kind) - 1] {
-                    0 => assert!(got.answer <= 1, "kind {} {:?}", kind, state),
+                    0 => assert!(single(state, &input(cue)).answer <= 1, "{:?} {:?}", cue, state),
                     6 => {
                         let noted = match kind {
                             FORCED => State { force: Force::None, ..dropped },
-                            _ => State { night: value == 1, ..dropped },
+                            _ => State { night: cue.2 == 1, ..dropped },
                         };
-                        let answer = if noted == dropped { 1 } else { 6 };
-                        assert_eq!((got.state, got.answer), (noted, answer), "kind {}", kind);
+                        gives(state, cue, noted, if noted == dropped { 1 } else { 6 });
                     }
-                    stop => {
-                        assert_eq!((got.state, got.answer), (dropped, stop), "kind {}", kind);
-                        assert!(got.records.is_empty());
-                    }
+                    stop => assert!(gives(state, cue, dropped, stop).records.is_empty()),
                 }
             }
         }
@@ -874,12 +864,7 @@ fn refusal_6_every_kind_and_value() {
     for params in VERSIONS.map(|version| in_version(version, &worked())) {
         for kind in 0..=255 {
             for value in 0..=255 {
-                let good = match kind {
-                    1 | 2 | 5 | 6 | 7 | 8 => value <= 1,
-                    3 => value & 0x40 == 0,
-                    4 => value <= 3,
-                    _ => false,
-                };
+                let good = is_cue(kind, value);
                 let code = if good { 0 } else { 6 };
                 let got = single(&actuator(&params), &input((0, kind, value)));
                 assert_eq!((got.code, got.place), (code, 0));
@@ -1114,108 +1099,45 @@ fn sound_power_down() {
 // Generated files
 // ================================================================================================
 
-struct Dice(u64);
-
-impl Dice {
-    fn next(&mut self) -> u64 {
-        self.0 ^= self.0 << 13;
-        self.0 ^= self.0 >> 7;
-        self.0 ^= self.0 << 17;
-        self.0.wrapping_mul(0x2545_F491_4F6C_DD1D) >> 16
-    }
-
-    fn below(&mut self, n: u32) -> u32 {
-        (self.next() % u64::from(n)) as u32
-    }
-
-    fn chance(&mut self, in_how_many: u32) -> bool {
-        self.below(in_how_many) == 0
-    }
-}
-
-/// Times below so many seconds, in whole ones or in tenths, by the version.
-fn any_params(dice: &mut Dice) -> Params {
-    let version = VERSIONS[dice.below(2) as usize];
-    let unit = [10, 1][usize::from(version) - 1];
-    let most = [3, 8, 60][dice.below(3) as usize] * 10 / unit;
-    Params {
-        version,
-        on_delay: unit * dice.below(most),
-        off_delay: unit * dice.below(2 * most),
-        timed_on: unit * (1 + dice.below(most)),
-        prewarning: unit * dice.below(most),
-        behaviour_at_locking: dice.below(3) as u8,
-        behaviour_at_unlocking: dice.below(4) as u8,
-        bus_failure_mode: dice.below(3) as u8,
-        bus_return_mode: dice.below(3) as u8,
-        power_return_mode: dice.below(3) as u8,
-        scene_learning_mode_enable: dice.below(2) as u8,
-    }
-}
-
-fn any_scenes(dice: &mut Dice) -> [Scene; 8] {
-    let mut scenes = no_scenes();
-    for (entry, scene) in scenes.iter_mut().enumerate() {
-        if !dice.chance(3) {
-            scene.number = 8 * dice.below(2) as u8 + entry as u8;
-            scene.flags = dice.below(4) as u8;
-        }
-    }
-    scenes
-}
-
-fn any_cues(dice: &mut Dice) -> Vec<Cue> {
-    let gap = [1, 10, 60, 400][dice.below(4) as usize];
-    let quiet = dice.chance(2);
-    let mut stamp = 0;
-    let mut cues = Vec::new();
-    for _ in 0..dice.below(40) {
-        if !dice.chance(3) {
-            stamp += dice.below(gap);
-        }
-        // a quiet list has few lock, force, bus and power inputs
-        let mut kind = 1 + dice.below(8) as u8;
-        if quiet && !dice.chance(6) {
-            kind = [1, 2, 3, 6][dice.below(4) as usize];
-        }
-        let value = match kind {
-            3 => [0, 128][dice.below(2) as usize] + dice.below(18) as u8,
-            4 => dice.below(4) as u8,
-            _ => dice.below(2) as u8,
-        };
-        cues.push((stamp, kind, value));
-    }
-    cues
-}
-
 /// A good file of either version, with what it is made of.
-fn any_file(dice: &mut Dice) -> (Params, Vec<Cue>, u32, Vec<u8>) {
-    let params = any_params(dice);
-    let scenes = any_scenes(dice);
-    let cues = any_cues(dice);
-    let last = cues.last().map_or(0, |cue| cue.0);
-    let end = last + if dice.chance(4) { 0 } else { dice.below(3000) };
-    let file = file_of(params.version, &parameter_octets(&params, &scenes), end, &cues);
-    (params, cues, end, file)
+fn any_file(rng: &mut Rng) -> (Params, Vec<Cue>, u32, Vec<u8>) {
+    let n = rng.below(40) as usize;
+    let show = CueFile::random(rng, n);
+    let [on_delay, off_delay, timed_on, prewarning] = show.times;
+    let params = Params {
+        version: show.version as u8,
+        on_delay,
+        off_delay,
+        timed_on,
+        prewarning,
+        behaviour_at_locking: show.rest[0],
+        behaviour_at_unlocking: show.rest[1],
+        bus_failure_mode: show.rest[2],
+        bus_return_mode: show.rest[3],
+        power_return_mode: show.rest[4],
+        scene_learning_mode_enable: show.rest[5],
+    };
+    let cues = show.inputs.iter().map(|input| (stamp_of(input), input[4], input[5])).collect();
+    (params, cues, show.end, show.octets())
 }
 
 /// A file that may be bad: some octets changed, or cut, or prolonged.
-fn spoiled(dice: &mut Dice, file: &[u8]) -> Vec<u8> {
+fn spoiled(rng: &mut Rng, file: &[u8]) -> Vec<u8> {
     let mut file = file.to_vec();
-    match dice.below(4) {
+    match rng.below(4) {
         0 => {}
         1 => {
-            let at = dice.below(file.len() as u32) as usize;
-            file[at] = dice.next() as u8;
+            let at = rng.below(file.len() as u64) as usize;
+            file[at] = rng.next() as u8;
         }
         2 => {
-            for _ in 0..=dice.below(3) {
-                let at = dice.below(file.len() as u32) as usize;
-                file[at] ^= 1 << dice.below(8);
+            for _ in 0..=rng.below(3) {
+                let at = rng.below(file.len() as u64) as usize;
+                file[at] ^= 1 << rng.below(8);
             }
         }
         _ => {
-            let length = dice.below(file.len() as u32 + 9) as usize;
+            let length = rng.below(file.len() as u64 + 9) as usize;
             file.resize(length, 0);
         }
     }
@@ -1224,34 +1146,28 @@ fn spoiled(dice: &mut Dice, file: &[u8]) -> Vec<u8> {
 
 #[test]
 fn run_into_equals_run() {
-    let mut dice = Dice(0x9E37_79B9_7F4A_7C15);
+    let mut rng = Rng::new(0x9E37_79B9_7F4A_7C15);
     let mut codes = [0usize; 9];
     for _ in 0..60_000 {
-        let (_, cues, _, good) = any_file(&mut dice);
-        let file = spoiled(&mut dice, &good);
+        let (_, cues, _, good) = any_file(&mut rng);
+        let file = spoiled(&mut rng, &good);
         let n = cues.len();
-        let records_len = match dice.below(6) {
-            0 => dice.below(8 * (3 * n as u32 + 3) + 1) as usize,
+        let records_len = match rng.below(6) {
+            0 => rng.below(8 * (3 * n as u64 + 3) + 1) as usize,
             1 => 8 * (3 * n + 3),
-            _ => 8 * (3 * n + 3) + dice.below(40) as usize,
+            _ => 8 * (3 * n + 3) + rng.below(40) as usize,
         };
-        let answers_len = match dice.below(8) {
-            0 => dice.below(n as u32 + 1) as usize,
-            _ => n + dice.below(5) as usize,
+        let answers_len = match rng.below(8) {
+            0 => rng.below(n as u64 + 1) as usize,
+            _ => n + rng.below(5) as usize,
         };
         let run = run(&file, records_len, answers_len);
         codes[usize::from(run.code)] += 1;
-        let mut records: Vec<u8> = (0..records_len).map(|_| dice.next() as u8).collect();
-        let mut answers: Vec<u8> = (0..answers_len).map(|_| dice.next() as u8).collect();
-        let mut wanted_records = records.clone();
-        let mut wanted_answers = answers.clone();
-        for (index, record) in run.records.iter().enumerate() {
-            wanted_records[8 * index..8 * index + 8].copy_from_slice(&record_octets(record));
-        }
-        wanted_answers[..run.answers.len()].copy_from_slice(&run.answers);
+        let mut records: Vec<u8> = (0..records_len).map(|_| rng.next() as u8).collect();
+        let mut answers: Vec<u8> = (0..answers_len).map(|_| rng.next() as u8).collect();
+        let wanted = written_over(&records, &answers, &run.records, &run.answers);
         assert_eq!(run_into(&file, &mut records, &mut answers), number(&run));
-        assert_eq!(records, wanted_records);
-        assert_eq!(answers, wanted_answers);
+        assert_eq!((records, answers), wanted);
         if run.code == 0 {
             assert_eq!(run.answers.len(), (file.len() - inputs_at(&file)) / 8);
             assert!(run.records.len() <= 3 * run.answers.len() + 3);
@@ -1264,9 +1180,9 @@ fn run_into_equals_run() {
 
 #[test]
 fn run_equals_single_inputs_and_a_clock_move() {
-    let mut dice = Dice(77);
+    let mut rng = Rng::new(77);
     for _ in 0..20_000 {
-        let (_, cues, end, file) = any_file(&mut dice);
+        let (_, cues, end, file) = any_file(&mut rng);
         let run = run_all(&file);
         assert_eq!(run.code, 0);
         let (mut state, code, _) = fresh(parameters_in(&file));
@@ -1274,8 +1190,8 @@ fn run_equals_single_inputs_and_a_clock_move() {
         let mut records = vec![record((0, 0, 1, 0))];
         for (index, cue) in cues.iter().enumerate() {
             // clock moves in between change nothing but the clock
-            if dice.chance(3) {
-                let stamp = state.clock + dice.below(cue.0 - state.clock + 1);
+            if rng.chance(33) {
+                let stamp = state.clock + rng.below(u64::from(cue.0 - state.clock) + 1) as u32;
                 let moved = clock_move(&state, stamp);
                 assert!(moved.code == 0 && moved.records.len() <= 2);
                 records.extend(&moved.records);
@@ -1299,10 +1215,10 @@ fn run_equals_single_inputs_and_a_clock_move() {
 
 #[test]
 fn printout_agrees_with_run() {
-    let mut dice = Dice(4711);
+    let mut rng = Rng::new(4711);
     for _ in 0..3_000 {
-        let (_, _, _, good) = any_file(&mut dice);
-        let file = spoiled(&mut dice, &good);
+        let (_, _, _, good) = any_file(&mut rng);
+        let file = spoiled(&mut rng, &good);
         let run = run_all(&file);
         let text = print(&file);
         let lines: Vec<&str> = text.lines().collect();
@@ -1371,10 +1287,10 @@ fn asks(trace: &Trace, index: usize, cue: Cue) -> Option<bool> {
 
 #[test]
 fn demand_3_light() {
-    let mut dice = Dice(31);
+    let mut rng = Rng::new(31);
     let mut met = 0;
     for _ in 0..20_000 {
-        let (params, cues, end, file) = any_file(&mut dice);
+        let (params, cues, end, file) = any_file(&mut rng);
         let trace = trace(&file, &cues);
         let run = run_all(&file);
         for (index, cue) in cues.iter().enumerate() {
@@ -1405,10 +1321,10 @@ fn demand_3_light() {
 
 #[test]
 fn demand_3_dark() {
-    let mut dice = Dice(32);
+    let mut rng = Rng::new(32);
     let mut met = 0;
-    for _ in 0..20_000 {
-        let (params, cues, end, file) = any_file(&mut dice);
+    for _ in 0..60_000 {
+        let (params, cues, end, file) = any_file(&mut rng);
         let trace = trace(&file, &cues);
         let run = run_all(&file);
         let l = params.on_delay + params.timed_on + params.prewarning;
@@ -1676,9 +1592,9 @@ fn reading_2_8_the_offset_of_inputs_is_the_versions_own() {
 
 #[test]
 fn reading_2_9_single_inputs_and_clock_moves_keep_the_version() {
-    let mut dice = Dice(29);
+    let mut rng = Rng::new(29);
     for _ in 0..2_000 {
-        let (params, cues, end, file) = any_file(&mut dice);
+        let (params, cues, end, file) = any_file(&mut rng);
         let mut state = fresh(parameters_in(&file)).0;
         for cue in &cues {
             state = single(&state, &input(*cue)).state;
@@ -1724,10 +1640,10 @@ fn reading_2_12_room_and_printout_are_those_of_version_1() {
 
 #[test]
 fn the_same_times_give_the_same_in_either_version() {
-    let mut dice = Dice(212);
+    let mut rng = Rng::new(212);
     let mut met = 0;
     for _ in 0..20_000 {
-        let (params, cues, end, file) = any_file(&mut dice);
+        let (params, cues, end, file) = any_file(&mut rng);
         if params.version != 1 {
             continue;
         }

@@ -2,6 +2,7 @@
 //! from the inputs and their answers alone. Shared by compare.rs, compare_walls.rs and compare_live.rs.
 
 use crate::calls::Claims;
+use crate::files::kinds::{FORCED, LOCK, NIGHT, POWER};
 
 /// The ways to note a value, and what may happen to one.
 #[derive(Clone, Copy)]
@@ -38,11 +39,6 @@ const WAYS: [(Way, &str); 14] = [
     (Way::NightDroppedByBus, "night dropped by a bus that is down, not noted"),
     (Way::ForceDroppedByBus, "force dropped by a bus that is down, not noted"),
 ];
-
-const FORCED: u8 = 4;
-const LOCK: u8 = 5;
-const NIGHT: u8 = 6;
-const POWER: u8 = 8;
 
 const CHANGED: u8 = 0;
 const UNCHANGED: u8 = 1;

@@ -2,27 +2,15 @@
 //! form in which a list is played; what holds of every list; and the customer's example.
 //!
 //!     rustc --edition 2021 --test -O noted_tests.rs -o t && ./t
-#[path = "model.rs"]
-mod model;
-
-#[path = "live.rs"]
-mod live;
-
-#[path = "wall.rs"]
-mod wall;
-
-#[path = "cases.rs"]
 mod cases;
-
-#[path = "files.rs"]
 mod files;
+mod live;
+mod model;
+mod wall;
 
 use cases::*;
 use files::{CueFile, Rng};
 use model::*;
-
-/// Stamp, value, attributes and cause.
-type Written = (u32, u8, u8, u8);
 
 /// The times of the readings: timed 600, warning 100, no delays.
 fn times() -> Params {
@@ -38,7 +26,7 @@ struct Given {
 }
 
 fn by_file(params: &Params, end: u32, cues: &[Cue]) -> Given {
-    let run = run(&file(params, end, cues), usize::MAX, usize::MAX);
+    let run = run_all(&file(params, end, cues));
     assert_eq!((run.code, run.place), (0, 0));
     Given { records: run.records[1..].to_vec(), answers: run.answers, end: run.end }
 }
@@ -334,7 +322,7 @@ fn reading_4_13_a_dropped_input_leaves_no_trace() {
     for _ in 0..20_000 {
         let n = files::length(&mut rng);
         let mut show = CueFile::random(&mut rng, n);
-        let whole = run(&show.octets(), usize::MAX, usize::MAX);
+        let whole = run_all(&show.octets());
         // all of them, or some
         let percent = if rng.chance(50) { 100 } else { 50 };
         let stays: Vec<bool> =
@@ -343,7 +331,7 @@ fn reading_4_13_a_dropped_input_leaves_no_trace() {
         show.inputs.retain(|_| *left.next().unwrap());
         show.count = show.inputs.len() as u32;
         struck += n - show.inputs.len();
-        let rest = run(&show.octets(), usize::MAX, usize::MAX);
+        let rest = run_all(&show.octets());
         let answers = whole.answers.iter().zip(&stays).filter(|(_, stays)| **stays);
         assert!(answers.map(|(answer, _)| answer).eq(&rest.answers));
         assert_eq!((rest.records, rest.end), (whole.records, whole.end));
@@ -422,8 +410,7 @@ impl Hold {
 
 /// A random state on the way through a show, with the link up and its clock not near the last stamp.
 fn any_state(rng: &mut Rng) -> Option<State> {
-    let n = rng.below(12) as usize;
-    let end = run(&CueFile::random(rng, n).octets(), usize::MAX, usize::MAX).end;
+    let end = any_end(12, rng);
     (end.link == Link::Up && end.clock < 100_000).then_some(end)
 }
 

@@ -4,17 +4,12 @@
 //!     rustc --edition 2021 -O paces.rs -o paces && ./paces <../crates/paces/stdin
 //!
 //! The forms of the steps and of the lines stand at the top of crates/paces/src/main.rt.
-#[path = "model.rs"]
-mod model;
-
-#[path = "live.rs"]
 mod live;
-
-#[path = "wall.rs"]
+mod model;
 mod wall;
 
-use live::{flag_of, force_of, link_of, phase_of, Image, STATE_OCTETS};
-use model::{record_octets, u32_at, Params, Record, Scene, State};
+use live::{flag_of, Image, STATE_OCTETS};
+use model::{record_octets, u32_at, Record, State};
 use std::io::{Read, Write};
 use wall::{Action, Pair, Sensor, EDGES};
 
@@ -45,43 +40,9 @@ impl Steps {
     }
 }
 
-/// The state that an image says, sound or not; none where an octet has no meaning. (The model's own
-/// reading, live::state_of, takes those of sound states alone.)
-fn any_state(o: &Image) -> Option<State> {
-    let params = Params {
-        version: o[40],
-        on_delay: u32_at(o, 0),
-        off_delay: u32_at(o, 4),
-        timed_on: u32_at(o, 8),
-        prewarning: u32_at(o, 12),
-        behaviour_at_locking: o[16],
-        behaviour_at_unlocking: o[17],
-        bus_failure_mode: o[18],
-        bus_return_mode: o[19],
-        power_return_mode: o[20],
-        scene_learning_mode_enable: u8::from(flag_of(o[21])?),
-    };
-    let mut scenes = [Scene { number: 0, flags: 0 }; 8];
-    for (scene, entry) in scenes.iter_mut().zip(o[24..40].chunks_exact(2)) {
-        *scene = Scene { number: entry[0], flags: entry[1] & 3 };
-    }
-    Some(State {
-        clock: u32_at(o, 48),
-        phase: phase_of(o[47], u32_at(o, 52))?,
-        night: flag_of(o[41])?,
-        lock: flag_of(o[42])?,
-        force: force_of(o[43])?,
-        link: link_of(o[44])?,
-        output_at_locking: flag_of(o[45])?,
-        output_at_power_failure: flag_of(o[46])?,
-        scenes,
-        params,
-    })
-}
-
 /// The state of an image, which must say nothing that a state does not hold.
 fn state_in(octets: Image) -> State {
-    let state = any_state(&octets).expect("an image of a state, sound or not");
+    let state = live::said_by(&octets).expect("an image of a state, sound or not");
     assert_eq!(live::image(&state), octets);
     state
 }
@@ -140,10 +101,9 @@ fn records_text(records: &[Record], places: usize) -> String {
     assert!(records.len() <= places);
     let mut text = String::new();
     for place in 0..places {
-        let r = records.get(place).unwrap_or(&unused);
-        let [a, b, c, d] = r.stamp.to_be_bytes();
+        let octets = record_octets(records.get(place).unwrap_or(&unused));
         text += " |";
-        text += &digits(&[a, b, c, d, r.value, r.attributes, r.cause]);
+        text += &digits(&octets[..7]);
     }
     text
 }
@@ -203,7 +163,7 @@ impl Player {
 
     fn pair_clock_move(&mut self, o: [u8; 4]) {
         let given = wall::pair_clock_move(&self.now, u32::from_be_bytes(o));
-        self.now = given.pair;
+        self.now = given.state;
         let report = report_text(given.code, given.place, 0, given.records.len());
         let records = records_text(&given.records, 2);
         let pair = self.pair_text();

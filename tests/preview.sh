@@ -6,8 +6,6 @@ cd "$(dirname "$0")/.." || exit 2
 
 . tests/holds.sh
 
-: >"$work/nothing"
-
 # ---- what it takes
 
 ./preview --help >"$work/usage"

@@ -2,23 +2,12 @@
 //! Usage: prints [--wall] [--phases | --words] PROGRAM.. where PROGRAM.. is the command that prints a list on standard input: with --wall
 //! a wall list, with --phases with its phases, with --words in words.
 
-#[path = "model.rs"]
-mod model;
-
-#[path = "wall.rs"]
-mod wall;
-
-#[path = "files.rs"]
 mod files;
-
-#[path = "walls.rs"]
-mod walls;
-
-#[path = "live.rs"]
 mod live;
-
-#[path = "told.rs"]
+mod model;
 mod told;
+mod wall;
+mod walls;
 
 use files::{CueFile, Layout, Rng, LAYOUTS};
 use std::io::Write;
@@ -47,11 +36,7 @@ fn printed(command: &[String], file: &[u8]) -> String {
 
 /// A cue file of n inputs, in order or spoilt.
 fn cue_file(layout: &'static Layout, rng: &mut Rng, n: usize, spoilt: bool) -> Vec<u8> {
-    let mut show = CueFile::random_in(layout, rng, n);
-    if spoilt {
-        show.spoil(rng);
-    }
-    show.octets()
+    CueFile::random_in(layout, rng, n).spoilt_if(spoilt, rng).octets()
 }
 
 /// A wall list of n items, in order or spoilt.
@@ -86,15 +71,6 @@ fn sample(rng: &mut Rng, made: Made) -> Vec<Vec<u8>> {
     sample
 }
 
-/// The answers to the inputs of a list.
-fn answers(file: &[u8], walls: bool) -> Vec<u8> {
-    if walls {
-        wall::wall_run(file, usize::MAX, usize::MAX).answers
-    } else {
-        model::run(file, usize::MAX, usize::MAX).answers
-    }
-}
-
 /// Whether a word stands first; it is taken away.
 fn told_to(command: &mut Vec<String>, wanted: &str) -> bool {
     let told = command.first().map_or(false, |word| word == wanted);
@@ -117,12 +93,11 @@ fn main() {
     let mut failed = 0;
     let mut answered = [0; 7];
     for file in &sample {
-        answers(file, walls).iter().for_each(|answer| answered[usize::from(*answer)] += 1);
-        let expected = match (phases, words, walls) {
-            (true, _, _) => told::phases(file, walls),
-            (_, true, _) => told::words(file, walls),
-            (_, _, true) => wall::print_wall(file),
-            _ => model::print(file),
+        told::played(file, walls).1.iter().for_each(|answer| answered[usize::from(*answer)] += 1);
+        let expected = match (phases, words) {
+            (true, _) => told::phases(file, walls),
+            (_, true) => told::words(file, walls),
+            _ => told::printed(file, walls),
         };
         let found = printed(&command, file);
         if found == expected {

@@ -16,24 +16,6 @@ archives=("${libraries[@]/#/target/staticlib/lib}")
 archives=("${archives[@]/%/.a}")
 mkdir -p "$out"
 
-# counted NAME COMMAND..: a command whose last line is 'N passed, M failed'.
-counted() {
-    local name=$1 last
-    shift
-    echo "-- $name"
-    "$@" >"$out/log" 2>&1
-    local status=$?
-    cat "$out/log"
-    last=$(tail -n 1 "$out/log")
-    if [[ $last =~ ^([0-9]+)\ passed,\ ([0-9]+)\ failed$ ]]; then
-        passed=$((passed + BASH_REMATCH[1]))
-        failed=$((failed + BASH_REMATCH[2]))
-        [ "$status" -eq 0 ] || [ "${BASH_REMATCH[2]}" -gt 0 ] || failed=$((failed + 1))
-    else
-        fail "$name ended without a count"
-    fi
-}
-
 # done_or_not NAME COMMAND..: one check.
 done_or_not() {
     local name=$1

@@ -28,7 +28,6 @@ shows=0
 play_all cue
 play_all wall --wall
 
-: >"$work/nothing"
 echo "NO 1 0" >"$work/no_1"
 echo "NO 4 0" >"$work/no_4"
 (cat shows/example.cue && head -c 20000 /dev/zero) >"$work/long.cue"

@@ -2,10 +2,8 @@
 //! asked, and the whole run in words. A cue file is a wall list without buttons.
 
 use crate::live::image;
-use crate::model::{self, line, print_records, u32_at, Phase, Record, State};
+use crate::model::{self, line, print_records, u32_at, Phase, Record, State, HEADER, INPUT};
 use crate::wall::{self, fresh_sensor, pair_clock_move, pair_single, Pair, PairSingle};
-
-const INPUT: usize = 8;
 
 /// An accepted list: its fresh pair, its inputs and its end time, found by its own header.
 struct List<'a> {
@@ -18,7 +16,7 @@ fn list(octets: &[u8], walls: bool) -> List<'_> {
     let behind = if walls { 4 } else { 0 };
     let (file, actions) = octets.split_at(octets.len() - behind);
     let inputs_at = u32_at(file, 12) as usize;
-    let (actuator, _, _) = model::fresh(&file[20..inputs_at]);
+    let (actuator, _, _) = model::fresh(&file[HEADER..inputs_at]);
     let (sensor, _, _) = fresh_sensor(actions);
     List { pair: Pair { actuator, sensor }, inputs: &file[inputs_at..], end: u32_at(file, 16) }
 }
@@ -32,18 +30,34 @@ fn print_phase(text: &mut String, state: &State) {
 fn move_to(pair: &mut Pair, stamp: u32, text: &mut String) {
     let moved = pair_clock_move(pair, stamp);
     print_records(text, &moved.records);
-    print_phase(text, &moved.pair.actuator);
-    *pair = moved.pair;
+    print_phase(text, &moved.state.actuator);
+    *pair = moved.state;
+}
+
+/// When the next timer runs that is due by a stamp.
+fn next_timer(pair: &Pair, stamp: u32) -> Option<u32> {
+    pair.actuator.phase.deadline().filter(|&due| due <= stamp)
 }
 
 /// Every timer that is due by a stamp, each at its own moment.
 fn run_timers(pair: &mut Pair, stamp: u32, text: &mut String) {
-    while let Some(due) = pair.actuator.phase.deadline().filter(|&due| due <= stamp) {
+    while let Some(due) = next_timer(pair, stamp) {
         move_to(pair, due, text);
     }
 }
 
-fn printed(octets: &[u8], walls: bool) -> String {
+/// The records and the answers of a list.
+pub fn played(octets: &[u8], walls: bool) -> (Vec<Record>, Vec<u8>) {
+    if walls {
+        let run = wall::wall_run(octets, usize::MAX, usize::MAX);
+        (run.records, run.answers)
+    } else {
+        let run = model::run(octets, usize::MAX, usize::MAX);
+        (run.records, run.answers)
+    }
+}
+
+pub fn printed(octets: &[u8], walls: bool) -> String {
     if walls {
         wall::print_wall(octets)
     } else {
@@ -157,9 +171,8 @@ fn outcome(input: &[u8], one: &PairSingle, sent: Option<u8>) -> String {
 
 /// Every timer that is due by a stamp, told at its own moment.
 fn tell_timers(pair: &mut Pair, stamp: u32, text: &mut String) {
-    let mut unused = String::new();
-    while let Some(due) = pair.actuator.phase.deadline().filter(|&due| due <= stamp) {
-        move_to(pair, due, &mut unused);
+    while let Some(due) = next_timer(pair, stamp) {
+        *pair = pair_clock_move(pair, due).state;
         let said = match pair.actuator.phase {
             Phase::Warning { deadline } => format!("warning begins, dark at {}", moment(deadline)),
             _ => house(&pair.actuator),
@@ -189,13 +202,7 @@ pub fn words(octets: &[u8], walls: bool) -> String {
 
 /// Its last lines.
 fn summary(octets: &[u8], walls: bool) -> String {
-    let (records, answers) = if walls {
-        let run = wall::wall_run(octets, usize::MAX, usize::MAX);
-        (run.records, run.answers)
-    } else {
-        let run = model::run(octets, usize::MAX, usize::MAX);
-        (run.records, run.answers)
-    };
+    let (records, answers) = played(octets, walls);
     let end = u32_at(octets, 16);
     let given = |answer: u8| answers.iter().filter(|&&a| a == answer).count();
     let dropped = answers.iter().filter(|a| (2..=5).contains(*a)).count();

@@ -8,9 +8,9 @@
 #![allow(dead_code)]
 
 use crate::model::{
-    accept_header_and_parameters, accept_inputs, accept_room, decode_input, line, most_records,
-    move_clock, packed, packed_refusal, print_records, record_of, refuse, sound, stamp_refused,
-    state_of_a_refusal, take_input, u32_at, Cues, Input, LentTape, Record, Refusal, State, Tape,
+    accept_header_and_parameters, accept_inputs, accept_room, accept_single, decode_input,
+    move_clock, move_of, number_of, printed, record_of, refuse, run_of, sound, stamp_refused,
+    state_of_a_refusal, take_input, u32_at, Cues, Input, Move, Record, Refusal, Run, State, Tape,
     VecTape, CAUSE_START, INPUT, LAST_STAMP, LEAST_FILE,
 };
 
@@ -204,17 +204,12 @@ pub struct Sensed {
 /// statuses move the clock; a refused input hands the sensor back, and nothing is sent.
 pub fn sensor_input(sensor: &Sensor, octets: &[u8; 8]) -> Sensed {
     let refused = |code| Sensed { sensor: *sensor, code, place: 0, sent: [0; 8] };
-    if !sensor_sound(sensor) {
-        return refused(9);
-    }
-    let event = match decode_event(octets) {
-        Some(event) => event,
-        None => return refused(6),
+    let said = decode_event(octets);
+    let event = match accept_single(sensor_sound(sensor), said, octets, sensor.clock) {
+        Ok(event) => event,
+        Err(refusal) => return refused(refusal.code),
     };
     let t = u32_at(octets, 0);
-    if stamp_refused(t, sensor.clock, LAST_STAMP) {
-        return refused(7);
-    }
     let mut moved = *sensor;
     let sent = match event {
         Event::Edge(edge) => press(&mut moved, edge, t),
@@ -263,52 +258,6 @@ impl<T: Tape> Tape for Heard<'_, T> {
     }
 }
 
-/// A tape that also takes what the sensor sends.
-trait WallTape: Tape {
-    fn sent(&mut self, on: bool);
-}
-
-/// The two lent buffers have no room for sends.
-impl WallTape for LentTape<'_> {
-    fn sent(&mut self, _on: bool) {}
-}
-
-/// A telegram: the index of the edge that sent it, its value, and how many records precede it.
-#[derive(Clone, Copy, Debug, PartialEq, Eq)]
-pub struct Sent {
-    pub index: usize,
-    pub on: bool,
-    pub records_before: usize,
-}
-
-struct VecWallTape {
-    tape: VecTape,
-    sends: Vec<Sent>,
-}
-
-impl VecWallTape {
-    fn with_capacity(records: usize, answers: usize) -> VecWallTape {
-        VecWallTape { tape: VecTape::with_capacity(records, answers), sends: Vec::new() }
-    }
-}
-
-impl Tape for VecWallTape {
-    fn record(&mut self, record: Record) {
-        self.tape.record(record);
-    }
-
-    fn answer(&mut self, answer: u8) {
-        self.tape.answer(answer);
-    }
-}
-
-impl WallTape for VecWallTape {
-    fn sent(&mut self, on: bool) {
-        let (index, records_before) = (self.tape.answers.len(), self.tape.records.len());
-        self.sends.push(Sent { index, on, records_before });
-    }
-}
-
 /// What the pair takes: the actuator's kinds and edges, in one list. A status (kind 13) is not among
 /// them: joined, "each record is a status", and no other source is named.
 enum Item {
@@ -322,7 +271,7 @@ fn decode_item(octets: &[u8]) -> Option<Item> {
 }
 
 /// The actuator's own step, or an edge's; gives the answer.
-fn take_item(pair: &mut Pair, octets: &[u8], item: Item, tape: &mut impl WallTape) -> u8 {
+fn take_item(pair: &mut Pair, octets: &[u8], item: Item, tape: &mut impl Tape) -> u8 {
     match item {
         Item::Cue(input) => {
             let mut heard = Heard { tape, sensor: &mut pair.sensor };
@@ -336,7 +285,7 @@ fn take_item(pair: &mut Pair, octets: &[u8], item: Item, tape: &mut impl WallTap
 /// stamp, heard before the next edge"
 ///
 /// So in order of happening: the records of the clock move, the send, the telegram's own record.
-fn take_edge(pair: &mut Pair, t: u32, edge: Edge, tape: &mut impl WallTape) -> u8 {
+fn take_edge(pair: &mut Pair, t: u32, edge: Edge, tape: &mut impl Tape) -> u8 {
     move_clock(&mut pair.actuator, t, &mut Heard { tape, sensor: &mut pair.sensor });
     match press(&mut pair.sensor, edge, t) {
         // document 01: "0 if anything but the clock changed ..., else 1"
@@ -371,47 +320,25 @@ pub fn pair_single(pair: &Pair, octets: &[u8; 8]) -> PairSingle {
         records: Vec::new(),
         sent: [0; 8],
     };
-    if !pair_sound(pair) {
-        return refused(9);
-    }
-    let item = match decode_item(octets) {
-        Some(item) => item,
-        None => return refused(6),
+    let said = decode_item(octets);
+    let item = match accept_single(pair_sound(pair), said, octets, pair.actuator.clock) {
+        Ok(item) => item,
+        Err(refusal) => return refused(refusal.code),
     };
-    let t = u32_at(octets, 0);
-    if stamp_refused(t, pair.actuator.clock, LAST_STAMP) {
-        return refused(7);
-    }
     let mut moved = *pair;
-    let mut tape = VecWallTape::with_capacity(3, 0);
+    let mut tape = VecTape::default();
     let answer = take_item(&mut moved, octets, item, &mut tape);
-    let sent = sent_octets(t, tape.sends.first().map(|sent| sent.on));
-    PairSingle { pair: moved, code: 0, place: 0, answer, records: tape.tape.records, sent }
+    let sent = sent_octets(u32_at(octets, 0), tape.sends.first().map(|sent| sent.on));
+    PairSingle { pair: moved, code: 0, place: 0, answer, records: tape.records, sent }
 }
 
-/// What a clock move of the pair gives: at most two records.
-#[derive(Clone, Debug, PartialEq, Eq)]
-pub struct PairMove {
-    pub pair: Pair,
-    pub code: u8,
-    pub place: u16,
-    pub records: Vec<Record>,
-}
-
-/// "A clock move: 9, 7." (document 01). The sensor's clock moves by the records alone.
-pub fn pair_clock_move(pair: &Pair, stamp: u32) -> PairMove {
-    let refused = |code| PairMove { pair: *pair, code, place: 0, records: Vec::new() };
-    if !pair_sound(pair) {
-        return refused(9);
-    }
-    if stamp_refused(stamp, pair.actuator.clock, LAST_STAMP) {
-        return refused(7);
-    }
-    let mut moved = *pair;
-    let mut tape = VecTape::with_capacity(2, 0);
-    let mut heard = Heard { tape: &mut tape, sensor: &mut moved.sensor };
-    move_clock(&mut moved.actuator, stamp, &mut heard);
-    PairMove { pair: moved, code: 0, place: 0, records: tape.records }
+/// A clock move of the pair. The sensor's clock moves by the records alone.
+pub fn pair_clock_move(pair: &Pair, stamp: u32) -> Move<Pair> {
+    let bad_stamp = stamp_refused(stamp, pair.actuator.clock, LAST_STAMP);
+    move_of(pair, pair_sound(pair), bad_stamp, |pair, tape| {
+        let mut heard = Heard { tape, sensor: &mut pair.sensor };
+        move_clock(&mut pair.actuator, stamp, &mut heard);
+    })
 }
 
 // ================================================================================================
@@ -436,7 +363,7 @@ fn accept_wall(wall: &[u8], records_len: usize, answers_len: usize) -> Result<Wa
     let (file, actions) = wall.split_at(wall.len() - EDGES);
     let cues = accept_header_and_parameters(file)?;
     let sensor = accept_actions(actions)?;
-    accept_inputs(&cues, |octets| decode_item(octets).is_some())?;
+    accept_inputs(&cues, decode_item)?;
     accept_room(cues.inputs.len() / INPUT, records_len, answers_len)?;
     Ok(Wall { cues, sensor })
 }
@@ -444,7 +371,7 @@ fn accept_wall(wall: &[u8], records_len: usize, answers_len: usize) -> Result<Wa
 /// An accepted wall list, from the start record to the end time; gives the end states.
 ///
 /// "each record is a status": the start record too, and those of the clock's move to the end time.
-fn play_wall(wall: &Wall, tape: &mut impl WallTape) -> Pair {
+fn play_wall(wall: &Wall, tape: &mut impl Tape) -> Pair {
     let mut pair = Pair { actuator: wall.cues.fresh, sensor: wall.sensor };
     let start = record_of(&pair.actuator, pair.actuator.clock, CAUSE_START);
     Heard { tape, sensor: &mut pair.sensor }.record(start);
@@ -460,85 +387,19 @@ fn play_wall(wall: &Wall, tape: &mut impl WallTape) -> Pair {
     pair
 }
 
-/// What the run over a wall list gives; `records_before[i]` is how many records precede answer i.
-#[derive(Clone, Debug, PartialEq, Eq)]
-pub struct WallRun {
-    pub code: u8,
-    pub place: u16,
-    pub records: Vec<Record>,
-    pub answers: Vec<u8>,
-    pub end: Pair,
-    pub records_before: Vec<usize>,
-    pub sends: Vec<Sent>,
-}
-
 /// A whole wall list, with the sizes in octets of the two lent buffers.
-pub fn wall_run(wall: &[u8], records_len: usize, answers_len: usize) -> WallRun {
-    match accept_wall(wall, records_len, answers_len) {
-        Err(refusal) => WallRun {
-            code: refusal.code,
-            place: refusal.place,
-            records: Vec::new(),
-            answers: Vec::new(),
-            end: Pair { actuator: state_of_a_refusal(), sensor: sensor_of_a_refusal() },
-            records_before: Vec::new(),
-            sends: Vec::new(),
-        },
-        Ok(wall) => {
-            let n = wall.cues.inputs.len() / INPUT;
-            let mut tape = VecWallTape::with_capacity(most_records(n), n);
-            let end = play_wall(&wall, &mut tape);
-            WallRun {
-                code: 0,
-                place: 0,
-                records: tape.tape.records,
-                answers: tape.tape.answers,
-                end,
-                records_before: tape.tape.records_before,
-                sends: tape.sends,
-            }
-        }
-    }
-}
-
-pub fn wall_number(run: &WallRun) -> u64 {
-    packed(run.code, run.place, run.records.len())
+pub fn wall_run(wall: &[u8], records_len: usize, answers_len: usize) -> Run<Pair> {
+    let of_a_refusal = Pair { actuator: state_of_a_refusal(), sensor: sensor_of_a_refusal() };
+    run_of(accept_wall(wall, records_len, answers_len), play_wall, of_a_refusal)
 }
 
 /// The same straight into two lent buffers; a refused call writes nothing.
 pub fn wall_run_into(wall: &[u8], records: &mut [u8], answers: &mut [u8]) -> u64 {
-    match accept_wall(wall, records.len(), answers.len()) {
-        Err(refusal) => packed_refusal(refusal),
-        Ok(wall) => {
-            let mut tape = LentTape::new(records, answers);
-            play_wall(&wall, &mut tape);
-            packed(0, 0, tape.record_count)
-        }
-    }
+    let accepted = accept_wall(wall, records.len(), answers.len());
+    number_of(accepted, records, answers, |wall, tape| play_wall(wall, tape))
 }
 
-/// Document 01's printout, and where an edge sends a line "S: index of the edge, value", between the
-/// records of the timers before it and the telegram's own record.
+/// Document 01's printout, with what the edges send.
 pub fn print_wall(wall: &[u8]) -> String {
-    let run = wall_run(wall, usize::MAX, usize::MAX);
-    if run.code != 0 {
-        return format!("NO {} {}\n", run.code, run.place);
-    }
-    let mut text = String::with_capacity(32 * (run.records.len() + 2 * run.answers.len() + 2));
-    line(&mut text, "OK", &[run.answers.len() as u32]);
-    let mut printed = 0;
-    let mut sends = run.sends.iter().peekable();
-    for (index, answer) in run.answers.iter().enumerate() {
-        if let Some(sent) = sends.next_if(|sent| sent.index == index) {
-            print_records(&mut text, &run.records[printed..sent.records_before]);
-            printed = sent.records_before;
-            line(&mut text, "S", &[index as u32, u32::from(sent.on)]);
-        }
-        print_records(&mut text, &run.records[printed..run.records_before[index]]);
-        printed = run.records_before[index];
-        line(&mut text, "A", &[index as u32, u32::from(*answer)]);
-    }
-    print_records(&mut text, &run.records[printed..]);
-    line(&mut text, "E", &[run.records.len() as u32]);
-    text
+    printed(&wall_run(wall, usize::MAX, usize::MAX))
 }

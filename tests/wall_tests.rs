@@ -3,26 +3,17 @@
 //! values of request 4, as the pair meets them; and what holds of every wall list.
 //!
 //!     rustc --edition 2021 --test -O wall_tests.rs -o t && ./t
-#[path = "model.rs"]
-mod model;
-
-#[path = "wall.rs"]
-mod wall;
-
-#[path = "cases.rs"]
 mod cases;
-
-#[path = "files.rs"]
 mod files;
-
-#[path = "walls.rs"]
+mod model;
+mod wall;
 mod walls;
 
 use cases::*;
-use files::{CueFile, Rng, LAYOUTS};
+use files::{enough, inputs_in, resized, stamp_of, with, CueFile, Rng, LAYOUTS};
 use model::*;
 use wall::*;
-use walls::WallList;
+use walls::{is_edge, WallList};
 
 // ================================================================================================
 // Writing wall lists
@@ -48,21 +39,25 @@ fn wall_list(params: &Params, end: u32, items: &[Cue], actions: &[u8; 4]) -> Vec
     list
 }
 
-fn play(list: &[u8]) -> WallRun {
-    let run = wall_run(list, usize::MAX, usize::MAX);
+fn wall_run_all(list: &[u8]) -> Run<Pair> {
+    wall_run(list, usize::MAX, usize::MAX)
+}
+
+fn play(list: &[u8]) -> Run<Pair> {
+    let run = wall_run_all(list);
     assert_eq!((run.code, run.place), (0, 0));
     run
 }
 
 fn refused(list: &[u8], code: u8, place: u16) {
-    let run = wall_run(list, usize::MAX, usize::MAX);
+    let run = wall_run_all(list);
     assert_eq!((run.code, run.place), (code, place));
     assert_eq!((run.records.len(), run.answers.len(), run.sends.len()), (0, 0, 0));
     assert_eq!(run.end, Pair { actuator: state_of_a_refusal(), sensor: sensor_of_a_refusal() });
 }
 
 /// What the edges send, in order.
-fn sends(run: &WallRun) -> Vec<bool> {
+fn sends(run: &Run<Pair>) -> Vec<bool> {
     run.sends.iter().map(|sent| sent.on).collect()
 }
 
@@ -70,11 +65,9 @@ const ON: bool = true;
 const OFF: bool = false;
 
 /// The records after the start record, what is sent, and the answers.
-fn expect(list: &[u8], records: &[(u32, u8, u8, u8)], sent: &[bool], answers: &[u8]) -> WallRun {
+fn expect(list: &[u8], records: &[Written], sent: &[bool], answers: &[u8]) -> Run<Pair> {
     let run = play(list);
-    let mut wanted = vec![record((0, 0, 1, 0))];
-    wanted.extend(records.iter().map(|r| record(*r)));
-    assert_eq!(run.records, wanted);
+    assert_eq!(run.records, from_the_start(records));
     assert_eq!(sends(&run), sent);
     assert_eq!(run.answers, answers);
     run
@@ -82,6 +75,10 @@ fn expect(list: &[u8], records: &[(u32, u8, u8, u8)], sent: &[bool], answers: &[
 
 fn sensor(actions: &[u8; 4]) -> Sensor {
     fresh_sensor(actions).0
+}
+
+fn worked_pair() -> Pair {
+    Pair { actuator: actuator(&worked()), sensor: sensor(&TOGGLE) }
 }
 
 // ================================================================================================
@@ -150,20 +147,22 @@ fn reading_1_8_a_record_of_attributes_alone_is_a_status() {
     expect(&list, &[(5, 0, 9, 6), (20, 255, 25, 0)], &[ON, ON], &[0, 0, 1]);
 }
 
-#[test]
-fn reading_1_9_the_record_of_an_off_may_say_on() {
-    let items = [(0, NIGHT, 1), press(10), press(100), press(120)];
+/// An Off at 100 whose record says on, and a press after it.
+fn an_off_that_says_on(then: u32) {
+    let items = [(0, NIGHT, 1), press(10), press(100), press(then)];
     let list = wall_list(&delays(0, 5, 60, 10), 1000, &items, &TOGGLE);
     let records = [(0, 0, 9, 6), (10, 255, 25, 1), (100, 255, 9, 1), (150, 0, 9, 0)];
     expect(&list, &records, &[ON, OFF, OFF], &[0, 0, 0, 1]);
 }
 
 #[test]
+fn reading_1_9_the_record_of_an_off_may_say_on() {
+    an_off_that_says_on(120);
+}
+
+#[test]
 fn reading_1_10_a_tie_is_told_by_the_order_of_happening() {
-    let items = [(0, NIGHT, 1), press(10), press(100), press(100)];
-    let list = wall_list(&delays(0, 5, 60, 10), 1000, &items, &TOGGLE);
-    let records = [(0, 0, 9, 6), (10, 255, 25, 1), (100, 255, 9, 1), (150, 0, 9, 0)];
-    expect(&list, &records, &[ON, OFF, OFF], &[0, 0, 0, 1]);
+    an_off_that_says_on(100);
 }
 
 #[test]
@@ -218,7 +217,7 @@ fn reading_1_16_the_value_before_any_is_off() {
 
 #[test]
 fn reading_1_17_the_last_octets_of_an_edge_are_zero() {
-    let pair = Pair { actuator: actuator(&worked()), sensor: sensor(&TOGGLE) };
+    let pair = worked_pair();
     for place in [6, 7] {
         let mut octets = input(press(0));
         octets[place] = 5;
@@ -230,7 +229,7 @@ fn reading_1_17_the_last_octets_of_an_edge_are_zero() {
 
 #[test]
 fn reading_1_18_no_status_in_the_joined_list() {
-    let pair = Pair { actuator: actuator(&worked()), sensor: sensor(&TOGGLE) };
+    let pair = worked_pair();
     assert_eq!(pair_single(&pair, &input((0, STATUS, 1))).code, 6);
     refused(&wall_list(&worked(), 10, &[press(0), (5, STATUS, 0)], &TOGGLE), 6, 1);
 }
@@ -330,7 +329,7 @@ fn each_edge_has_its_own_action() {
 
 #[test]
 fn a_silent_edge_moves_both_clocks() {
-    let pair = Pair { actuator: actuator(&worked()), sensor: sensor(&TOGGLE) };
+    let pair = worked_pair();
     let given = pair_single(&pair, &input((30, BUTTON_1, FALLING)));
     assert_eq!((given.answer, given.sent), (1, [0; 8]));
     assert_eq!((given.pair.actuator.clock, given.pair.sensor.clock), (30, 30));
@@ -338,19 +337,19 @@ fn a_silent_edge_moves_both_clocks() {
 
 #[test]
 fn a_cue_moves_the_sensors_clock_by_its_records_alone() {
-    let pair = Pair { actuator: actuator(&worked()), sensor: sensor(&TOGGLE) };
+    let pair = worked_pair();
     let pair = pair_single(&pair, &input((5, ON_OFF, 1))).pair;
     assert_eq!((pair.actuator.clock, pair.sensor.clock, pair.sensor.value), (5, 0, OFF));
     let moved = pair_clock_move(&pair, 30);
     assert_eq!(moved.records, [record((25, 255, 1, 0))]);
-    let sensor = moved.pair.sensor;
-    assert_eq!((moved.pair.actuator.clock, sensor.clock, sensor.value), (30, 25, ON));
+    let sensor = moved.state.sensor;
+    assert_eq!((moved.state.actuator.clock, sensor.clock, sensor.value), (30, 25, ON));
 }
 
 #[test]
 fn three_timers_and_the_telegram_in_one_edge() {
     // on at 20, Warning at 620, dark at 720, then the press: its On waits for the delay
-    let pair = Pair { actuator: actuator(&worked()), sensor: sensor(&TOGGLE) };
+    let pair = worked_pair();
     let pair = pair_single(&pair, &input((0, TIMED, 1))).pair;
     let given = pair_single(&pair, &input(press(720)));
     assert_eq!(given.records, [record((20, 255, 17, 0)), record((720, 0, 1, 0))]);
@@ -459,12 +458,7 @@ fn kinds_and_values_of_a_wall_list() {
     for params in VERSIONS.map(|version| in_version(version, &worked())) {
         for kind in 0..=255 {
             for value in 0..=255 {
-                let good = match kind {
-                    1 | 2 | 5 | 6 | 7 | 8 | 11 | 12 => value < 2,
-                    3 => value & 0x40 == 0,
-                    4 => value < 4,
-                    _ => false,
-                };
+                let good = is_cue(kind, value) || (matches!(kind, 11 | 12) && value < 2);
                 let list = wall_list(&params, 10, &[(0, ON_OFF, 1), (5, kind, value)], &TOGGLE);
                 let run = wall_run(&list, 1000, 1000);
                 let wanted = if good { (0, 0) } else { (6, 1) };
@@ -494,7 +488,7 @@ fn short_buffers() {
     }
     // an input's refusal comes before
     let list = wall_list(&worked(), 10, &[press(3), press(2)], &TOGGLE);
-    assert_eq!(wall_number(&wall_run(&list, 0, 0)), 7 << 48 | 1 << 32);
+    assert_eq!(number(&wall_run(&list, 0, 0)), 7 << 48 | 1 << 32);
 }
 
 #[test]
@@ -559,7 +553,7 @@ fn the_pair_refuses_9_then_6_then_7() {
         refused(pair, input(press(20)), 9);
         refused(pair, input((20, ON_OFF, 1)), 9);
         for stamp in [9, 20] {
-            let wanted = PairMove { pair: *pair, code: 9, place: 0, records: vec![] };
+            let wanted = Move { state: *pair, code: 9, place: 0, records: vec![] };
             assert_eq!(pair_clock_move(pair, stamp), wanted);
         }
     }
@@ -570,7 +564,7 @@ fn the_pair_refuses_9_then_6_then_7() {
     for stamp in [0, 4, 9, LAST_STAMP + 1, u32::MAX] {
         refused(&good, input(press(stamp)), 7);
         refused(&good, input((stamp, ON_OFF, 1)), 7);
-        let wanted = PairMove { pair: good, code: 7, place: 0, records: vec![] };
+        let wanted = Move { state: good, code: 7, place: 0, records: vec![] };
         assert_eq!(pair_clock_move(&good, stamp), wanted);
     }
 }
@@ -640,7 +634,7 @@ fn the_pair_keeps_its_version_and_is_sound_by_it() {
     let pressed = pair_single(&new, &input(press(3)));
     assert_eq!((pressed.code, pressed.pair.actuator.params.version), (0, 2));
     let moved = pair_clock_move(&pressed.pair, 500);
-    assert_eq!((moved.code, moved.pair.actuator.params), (0, new.actuator.params));
+    assert_eq!((moved.code, moved.state.actuator.params), (0, new.actuator.params));
     for version in [0, 1, 3, 255] {
         let params = in_version(version, &new.actuator.params);
         let other = Pair { actuator: State { params, ..new.actuator }, ..new };
@@ -660,7 +654,7 @@ fn the_same_times_give_the_same_in_either_version() {
         let octets = list.octets();
         let plain = play(&octets);
         let twin = play(&WallList { cues: list.cues.in_version(new), ..list }.octets());
-        assert_eq!(wall_number(&plain), wall_number(&twin));
+        assert_eq!(number(&plain), number(&twin));
         assert_eq!((&plain.records, &plain.answers), (&twin.records, &twin.answers));
         assert_eq!((&plain.records_before, &plain.sends), (&twin.records_before, &twin.sends));
         let params = in_version(2, &plain.end.actuator.params);
@@ -723,14 +717,20 @@ fn any_lists(seed: u64, count: usize, mut check: impl FnMut(&[u8])) {
     }
 }
 
+/// Those among them that are accepted, and what they give.
+fn any_accepted(seed: u64, count: usize, mut check: impl FnMut(&[u8], Run<Pair>)) {
+    any_lists(seed, count, |list| {
+        let run = wall_run_all(list);
+        if run.code == 0 {
+            check(list, run);
+        }
+    });
+}
+
 /// The items of an accepted list.
 fn items(list: &[u8]) -> Vec<[u8; 8]> {
     let octets = |item: &[u8]| <[u8; 8]>::try_from(item).unwrap();
     list[inputs_at(list)..list.len() - 4].chunks_exact(8).map(octets).collect()
-}
-
-fn is_edge(item: &[u8; 8]) -> bool {
-    walls::BUTTONS.contains(&item[4])
 }
 
 #[test]
@@ -738,12 +738,9 @@ fn a_cue_file_before_any_actions_is_the_plain_run() {
     let mut rng = Rng::new(101);
     for _ in 0..20_000 {
         let n = files::length(&mut rng);
-        let mut show = CueFile::random(&mut rng, n);
-        if rng.chance(30) {
-            show.spoil(&mut rng);
-        }
+        let show = CueFile::random(&mut rng, n).spoilt_if(rng.chance(30), &mut rng);
         let octets = show.octets();
-        let has_edge = show.inputs.iter().any(is_edge);
+        let has_edge = show.inputs.iter().any(|item| is_edge(item));
         for actions in [[0; 4], [0; 4].map(|_: u8| rng.below(4) as u8)] {
             let list = [&octets[..], &actions[..]].concat();
             let (records, answers) = (8 * (3 * n + 3) - usize::from(rng.chance(5)), n);
@@ -752,7 +749,7 @@ fn a_cue_file_before_any_actions_is_the_plain_run() {
             if has_edge {
                 continue;
             }
-            assert_eq!(number(&plain), wall_number(&joined));
+            assert_eq!(number(&plain), number(&joined));
             assert_eq!((&plain.records, &plain.answers), (&joined.records, &joined.answers));
             assert_eq!(plain.records_before, joined.records_before);
             assert_eq!(plain.end, joined.end.actuator);
@@ -769,11 +766,7 @@ fn the_actuator_plays_the_telegrams() {
     // demand 2 over the pair, first half: the list with each edge replaced by what it sends (and taken
     // out where it sends nothing) is a cue file with the same records, answers and end state
     let mut telegrams = 0;
-    any_lists(102, 20_000, |list| {
-        let run = wall_run(list, usize::MAX, usize::MAX);
-        if run.code != 0 {
-            return;
-        }
+    any_accepted(102, 20_000, |list, run| {
         let mut cues = Vec::new();
         let mut answers = Vec::new();
         for (index, item) in items(list).iter().enumerate() {
@@ -793,7 +786,7 @@ fn the_actuator_plays_the_telegrams() {
         let mut file = list[..inputs_at(list)].to_vec();
         file[8..12].copy_from_slice(&(cues.len() as u32).to_be_bytes());
         file.extend(cues.concat());
-        let plain = model::run(&file, usize::MAX, usize::MAX);
+        let plain = run_all(&file);
         assert_eq!((plain.code, &plain.records, &plain.answers), (0, &run.records, &answers));
         assert_eq!(plain.end, run.end.actuator);
     });
@@ -805,11 +798,7 @@ fn the_sensor_hears_the_records() {
     // demand 2 over the pair, second half: the sensor alone, given each record as a status and each
     // edge after the records that precede it, sends the same
     let mut statuses = 0;
-    any_lists(103, 20_000, |list| {
-        let run = wall_run(list, usize::MAX, usize::MAX);
-        if run.code != 0 {
-            return;
-        }
+    any_accepted(103, 20_000, |list, run| {
         let mut sensor = fresh_sensor(&list[list.len() - 4..]).0;
         let mut heard = 0;
         let mut hear_up_to = |sensor: &mut Sensor, count: usize| {
@@ -827,7 +816,7 @@ fn the_sensor_hears_the_records() {
                 let before = sent.map_or(run.records_before[index], |sent| sent.records_before);
                 hear_up_to(&mut sensor, before);
                 let given = sensor_input(&sensor, item);
-                let stamp = u32::from_be_bytes([item[0], item[1], item[2], item[3]]);
+                let stamp = stamp_of(item);
                 let octets = |sent: &Sent| input((stamp, ON_OFF, u8::from(sent.on)));
                 assert_eq!((given.code, given.sent), (0, sent.map_or([0; 8], octets)));
                 sensor = given.sensor;
@@ -842,11 +831,7 @@ fn the_sensor_hears_the_records() {
 
 #[test]
 fn by_value_step_by_step_is_the_run() {
-    any_lists(104, 20_000, |list| {
-        let run = wall_run(list, usize::MAX, usize::MAX);
-        if run.code != 0 {
-            return;
-        }
+    any_accepted(104, 20_000, |list, run| {
         // the start record is heard, and changes nothing of a fresh sensor
         let mut pair = Pair {
             actuator: fresh(parameters_in(list)).0,
@@ -863,11 +848,10 @@ fn by_value_step_by_step_is_the_run() {
             sends += usize::from(given.sent != [0; 8]);
             pair = given.pair;
         }
-        let end = u32::from_be_bytes([list[16], list[17], list[18], list[19]]);
-        let last = pair_clock_move(&pair, end);
+        let last = pair_clock_move(&pair, u32_at(list, 16));
         assert!(last.code == 0 && last.records.len() <= 2);
         records.extend(last.records);
-        assert_eq!((&records, sends, last.pair), (&run.records, run.sends.len(), run.end));
+        assert_eq!((&records, sends, last.state), (&run.records, run.sends.len(), run.end));
     });
 }
 
@@ -875,9 +859,7 @@ fn by_value_step_by_step_is_the_run() {
 fn lent_buffers_hold_what_the_run_gives() {
     let mut rng = Rng::new(105);
     any_lists(106, 20_000, |list| {
-        let n = list.get(8..12).map_or(0, |n| u32::from_be_bytes(n.try_into().unwrap()));
-        let n = n.min(4096) as usize;
-        let (room, places) = (8 * (3 * n + 3), n);
+        let (room, places) = enough(inputs_in(list).min(4096));
         let (room, places) = match rng.below(10) {
             0 => (room - 1, places),
             1 => (room, places.saturating_sub(1)),
@@ -886,12 +868,8 @@ fn lent_buffers_hold_what_the_run_gives() {
         };
         let run = wall_run(list, room, places);
         let (mut records, mut answers) = (vec![0xA5; room], vec![0x5A; places]);
-        let (mut wanted_records, mut wanted_answers) = (records.clone(), answers.clone());
-        for (index, record) in run.records.iter().enumerate() {
-            wanted_records[8 * index..8 * index + 8].copy_from_slice(&record_octets(record));
-        }
-        wanted_answers[..run.answers.len()].copy_from_slice(&run.answers);
-        assert_eq!(wall_run_into(list, &mut records, &mut answers), wall_number(&run));
-        assert_eq!((records, answers), (wanted_records, wanted_answers));
+        let wanted = written_over(&records, &answers, &run.records, &run.answers);
+        assert_eq!(wall_run_into(list, &mut records, &mut answers), number(&run));
+        assert_eq!((records, answers), wanted);
     });
 }

@@ -2,7 +2,7 @@
 //! Shared by the tests and the bench.
 #![allow(dead_code)]
 
-use crate::files::{CueFile, Layout, Rng};
+use crate::files::{CueFile, Layout, Rng, LAST};
 
 /// A wall list: a cue file in which an input may also be an edge, then the four actions of the sensor.
 pub struct WallList {
@@ -12,6 +12,10 @@ pub struct WallList {
 
 /// The kinds of an edge, one for each button.
 pub const BUTTONS: [u8; 2] = [11, 12];
+
+pub fn is_edge(item: &[u8]) -> bool {
+    BUTTONS.contains(&item[4])
+}
 
 /// Kinds that no wall list may have: the neighbours of the good ones, and the sensor's own status.
 const WRONG_KINDS: [u8; 6] = [0, 9, 10, 13, 14, 255];
@@ -46,7 +50,7 @@ fn next_stamp(rng: &mut Rng, sums: &[u32; 6], stamps: &[u32]) -> u32 {
         }
         _ => now + rng.below(40) as u32,
     };
-    next.max(now).min(864_000)
+    next.max(now).min(LAST)
 }
 
 impl WallList {

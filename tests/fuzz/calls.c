@@ -6,39 +6,19 @@
 #include <stdlib.h>
 #include <string.h>
 
-/* ---- The proved calls and those of the second model (model.rs), side by side */
+/* ---- The proved calls, and the second model (model.rs) in their place */
 
-typedef uint64_t run(const uint8_t *, size_t, uint8_t *, size_t, uint8_t *, size_t);
-typedef uint64_t fresh(const uint8_t *, size_t, uint8_t *, size_t);
-typedef uint64_t change(uint8_t *, size_t, const uint8_t *, size_t, uint8_t *, size_t, uint8_t *, size_t);
-typedef uint64_t clock_move(uint8_t *, size_t, uint32_t, uint8_t *, size_t);
-typedef uint64_t run_to(const uint8_t *, size_t, uint8_t *, size_t, uint8_t *, size_t, uint8_t *, size_t);
-extern run model_run, model_wall_run;
-extern fresh model_fresh;
-extern change model_change;
-extern clock_move model_move;
-extern run_to model_run_to;
+extern uint64_t model_call(uint32_t which, const uint8_t *list, size_t list_len, uint8_t *state, size_t state_len, uint32_t stamp,
+                           uint8_t *records, size_t records_len, uint8_t *answers, size_t answers_len);
 
-struct calls {
-    run *run, *wall_run;
-    fresh *fresh;
-    change *change;
-    clock_move *move;
-    run_to *run_to;
-};
-
-static const struct calls proved = {house_run, house_wall_run, house_fresh, house_change, house_move, house_run_to};
-static const struct calls model = {model_run, model_wall_run, model_fresh, model_change, model_move, model_run_to};
-
-static uint64_t by(const struct calls *side, const struct call *c, const uint8_t *list, uint8_t *state, uint8_t *records,
-                   uint8_t *answers) {
+static uint64_t proved_call(const struct call *c, const uint8_t *list, uint8_t *state, uint8_t *records, uint8_t *answers) {
     switch (c->which) {
-    case RUN: return side->run(list, c->list_len, records, c->records_len, answers, c->answers_len);
-    case WALL_RUN: return side->wall_run(list, c->list_len, records, c->records_len, answers, c->answers_len);
-    case FRESH: return side->fresh(list, c->list_len, state, c->state_len);
-    case CHANGE: return side->change(state, c->state_len, list, c->list_len, records, c->records_len, answers, c->answers_len);
-    case MOVE: return side->move(state, c->state_len, c->stamp, records, c->records_len);
-    default: return side->run_to(list, c->list_len, state, c->state_len, records, c->records_len, answers, c->answers_len);
+    case RUN: return house_run(list, c->list_len, records, c->records_len, answers, c->answers_len);
+    case WALL_RUN: return house_wall_run(list, c->list_len, records, c->records_len, answers, c->answers_len);
+    case FRESH: return house_fresh(list, c->list_len, state, c->state_len);
+    case CHANGE: return house_change(state, c->state_len, list, c->list_len, records, c->records_len, answers, c->answers_len);
+    case MOVE: return house_move(state, c->state_len, c->stamp, records, c->records_len);
+    default: return house_run_to(list, c->list_len, state, c->state_len, records, c->records_len, answers, c->answers_len);
     }
 }
 
@@ -163,14 +143,14 @@ static void check_records(const struct call *c, uint64_t number, const uint8_t *
     struct told t = taken_apart(number);
     uint32_t before = t.count == 0 ? 0 : first_stamp(c), last = t.count == 0 ? 0 : last_stamp(c, t);
     for (size_t i = 0; i < t.count; i++) {
-        const uint8_t *r = records + 8 * i;
-        expect(house_get_u32(r) >= before, c, number, "a record's stamp is below the one before");
-        expect(house_get_u32(r) <= last, c, number, "a record's stamp is above the last");
-        expect(r[4] == 0 || r[4] == 255, c, number, "a record's value is neither 0 nor 255");
-        expect(r[5] < 32, c, number, "a record's attributes are 32 or more");
-        expect(r[6] <= (c->which == MOVE ? 0 : 8), c, number, "a record's cause is no kind of input");
+        const uint8_t *r = records + HOUSE_RECORD_SIZE * i;
+        expect(house_stamp(r) >= before, c, number, "a record's stamp is below the one before");
+        expect(house_stamp(r) <= last, c, number, "a record's stamp is above the last");
+        expect(house_value(r) == 0 || house_value(r) == 255, c, number, "a record's value is neither 0 nor 255");
+        expect(house_attributes(r) < 32, c, number, "a record's attributes are 32 or more");
+        expect(house_cause(r) <= (c->which == MOVE ? 0 : HOUSE_POWER), c, number, "a record's cause is no kind of input");
         expect(r[7] == 0, c, number, "a record's last octet is not 0");
-        before = house_get_u32(r);
+        before = house_stamp(r);
     }
 }
 
@@ -224,7 +204,7 @@ static uint64_t play_lent(const struct call *c, enum side side, uint8_t filler, 
     l->answers = lend(&answers_room, c->answers_len, side, filler);
     if (c->list_len > 0) memcpy(l->list.first, c->list, c->list_len);
     memcpy(l->state.first, c->state, c->state_len);
-    return by(&proved, c, address(&l->list), address(&l->state), address(&l->records), address(&l->answers));
+    return proved_call(c, address(&l->list), address(&l->state), address(&l->records), address(&l->answers));
 }
 
 static void check_lent(const struct call *c, uint64_t number, const struct lending *l) {
@@ -267,7 +247,8 @@ static void compare_with_model(const struct call *c, uint64_t number, const stru
     memcpy(state, c->state, c->state_len);
     memset(records, l->filler, c->records_len);
     memset(answers, l->filler, c->answers_len);
-    uint64_t other = by(&model, c, c->list_len > 0 ? c->list : none, state, records, answers);
+    uint64_t other = model_call(c->which, c->list_len > 0 ? c->list : none, c->list_len, state, c->state_len, c->stamp, records,
+                                c->records_len, answers, c->answers_len);
     expect(other == number, c, number, "the second model gives another number");
     expect(memcmp(l->state.first, state, c->state_len) == 0, c, number, "the second model gives another state");
     expect(memcmp(l->records.first, records, c->records_len) == 0, c, number, "the second model gives other records");

@@ -3,25 +3,20 @@
 //!
 //! Usage: seeds FOLDER, from the repository's root. They go to FOLDER/TARGET, those whose first call is refused to FOLDER/TARGET-refused.
 
-#[path = "../model.rs"]
-mod model;
-
-#[path = "../wall.rs"]
-mod wall;
-
-#[path = "../live.rs"]
-mod live;
-
 #[path = "../files.rs"]
 mod files;
-
+#[path = "../images.rs"]
+mod images;
+#[path = "../live.rs"]
+mod live;
+#[path = "../model.rs"]
+mod model;
+#[path = "../wall.rs"]
+mod wall;
 #[path = "../walls.rs"]
 mod walls;
 
-#[path = "../images.rs"]
-mod images;
-
-use files::{CueFile, Layout, Rng, LAYOUTS};
+use files::{enough, inputs_in, CueFile, Layout, Rng, HEADER, LAYOUTS};
 use images::Fields;
 use std::fs;
 use std::path::{Path, PathBuf};
@@ -51,14 +46,12 @@ impl Seeds {
 
     /// A cue file, with rooms that differ so much from what it asks for.
     fn cues(&mut self, file: &[u8], deviations: [i8; 3]) {
-        let n = most_inputs(file);
-        let (records, answers) = (room(8 * (3 * n + 3), deviations[0]), room(n, deviations[1]));
+        let (records, answers) = rooms(file, deviations);
         self.write("cues", model::run(file, records, answers).code != 0, &with_head(b'c', deviations, file));
     }
 
     fn walls(&mut self, list: &[u8], deviations: [i8; 3]) {
-        let n = most_inputs(list);
-        let (records, answers) = (room(8 * (3 * n + 3), deviations[0]), room(n, deviations[1]));
+        let (records, answers) = rooms(list, deviations);
         self.write("walls", wall::wall_run(list, records, answers).code != 0, &with_head(b'w', deviations, list));
     }
 
@@ -73,18 +66,11 @@ impl Seeds {
     }
 }
 
-/// How many inputs a header counts, as far as there can be so many.
-fn most_inputs(file: &[u8]) -> usize {
-    let count = file.get(8..12).map_or(0, files::stamp_of) as usize;
-    if count <= 2048 {
-        count
-    } else {
-        0
-    }
-}
-
-fn room(enough: usize, deviation: i8) -> usize {
-    (enough as isize + isize::from(deviation)).max(0) as usize
+/// What as many inputs ask for as a header counts, as far as there can be so many, more or less by the deviations.
+fn rooms(list: &[u8], deviations: [i8; 3]) -> (usize, usize) {
+    let (records, answers) = enough(Some(inputs_in(list)).filter(|n| *n <= 2048).unwrap_or(0));
+    let about = |enough: usize, deviation: i8| (enough as isize + isize::from(deviation)).max(0) as usize;
+    (about(records, deviations[0]), about(answers, deviations[1]))
 }
 
 fn with_head(letter: u8, deviations: [i8; 3], file: &[u8]) -> Vec<u8> {
@@ -135,17 +121,14 @@ fn steps(rng: &mut Rng) -> Vec<u8> {
 
 fn random(seeds: &mut Seeds, layout: &'static Layout, rng: &mut Rng) {
     let n = rng.below(16) as usize;
-    let mut show = CueFile::random_in(layout, rng, n);
-    if rng.chance(30) {
-        show.spoil(rng);
-    }
+    let show = CueFile::random_in(layout, rng, n).spoilt_if(rng.chance(30), rng);
     seeds.cues(&show.octets(), deviations(rng));
     let list = WallList::random_in(layout, rng, n);
     let octets = if rng.chance(30) { list.spoilt(rng) } else { list.octets() };
     seeds.walls(&octets, deviations(rng));
     let steps = steps(rng);
     if rng.chance(30) {
-        seeds.live(FRESH_STATE, &show.octets()[20..layout.inputs_at()], &steps);
+        seeds.live(FRESH_STATE, &show.octets()[HEADER..layout.inputs_at()], &steps);
     } else {
         let mut image = Fields::random_in(layout, rng);
         if rng.chance(20) {
@@ -168,7 +151,7 @@ fn ends(seeds: &mut Seeds, layout: &'static Layout, rng: &mut Rng) {
         seeds.live(WILD_STATE, &fresh, &step(CHANGE_AS_IS, [0, 0], &inputs[..len]));
     }
     // too little room for a move, and then for a fresh state
-    let short = [step(MOVE_IN_TIME, [-1, 0], &[0; 4]), step(FRESH_STATE, [0, -1], &show.octets()[20..])].concat();
+    let short = [step(MOVE_IN_TIME, [-1, 0], &[0; 4]), step(FRESH_STATE, [0, -1], &show.octets()[HEADER..])].concat();
     seeds.live(WILD_STATE, &fresh, &short);
 }
 
