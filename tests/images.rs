@@ -119,7 +119,7 @@ impl Fields {
         fields
     }
 
-    /// Whether the phase is one that ends by itself.
+    /// Whether the phase has a deadline.
     pub fn has_deadline(&self) -> bool {
         self.phase >= STARTING
     }

@@ -29,7 +29,7 @@ const REST_AT: usize = 16;
 
 /// "40 version (1, 2)", "41 night (0, 1)", "42 lock (0, 1)", "43 force", "44 link", "45 the output
 /// remembered at locking", "46 the output remembered at power failure", "47 phase", "48-51 clock, a
-/// stamp", "52-55 the moment at which the phase ends by itself"
+/// stamp", "52-55 the moment at which the phase becomes another by itself"
 const VERSION_AT: usize = REST_AT + REST;
 const FLAGS_AT: usize = 41;
 const CLOCK_AT: usize = 48;
@@ -137,7 +137,7 @@ fn link_of(octet: u8) -> Option<Link> {
     }
 }
 
-/// "enum house_phase", and "the moment at which the phase ends by itself; 0 in HOUSE_DARK and
+/// "enum house_phase", and "the moment at which the phase becomes another by itself; 0 in HOUSE_DARK and
 /// HOUSE_LIT, which do not"
 fn phase_numbers(phase: Phase) -> (u8, u32) {
     match phase {

@@ -21,7 +21,7 @@ fn list(octets: &[u8], walls: bool) -> List<'_> {
     List { pair: Pair { actuator, sensor }, inputs: &file[inputs_at..], end: u32_at(file, 16) }
 }
 
-/// "P: clock, number of the phase as in an image, the stamp at which it ends by itself"
+/// "P: clock, number of the phase as in an image, its deadline"
 fn print_phase(text: &mut String, state: &State) {
     let octets = image(state);
     line(text, "P", &[state.clock, u32::from(octets[47]), u32_at(&octets, 52)]);

@@ -32,7 +32,7 @@ use Rattle.rules.specs.Status.{value, attributes, recordOf, byItself, sameStatu
 use Rattle.rules.specs.Answers.{sameFlags, sameButClock}
 use Rattle.rules.specs.Steps.{Moved, Stepped, fresh, tickAt, tick, ticked, clockMove, counted, meet, act, step}
 use Rattle.rules.specs.Lists.{Cue, playList, still}
-use Rattle.rules.proofs.Laws.Phases.{each-phase}
+use Rattle.rules.proofs.Laws.Cases.{each-phase}
 use Rattle.rules.proofs.Laws.Orders.{noted-both}
 use Rattle.sensor.specs.declared.signal.Signal.{Signal}
 use Rattle.sensor.specs.declared.signal.Signal.the-variants as signal

@@ -30,6 +30,7 @@ use Rattle.rules.specs.Files.{endTime, paramsIn, scenesIn}
 use Rattle.rules.specs.Runs.{playFile}
 use Rattle.rules.specs.Said.{NotedWhere, Flags, flagsAfterPower, flagsAfter}
 use Rattle.rules.specs.Promises.{turns, Each, upTo, stateAt}
+use Rattle.rules.proofs.Laws.Cases.{each-input}
 use Rattle.rules.proofs.Laws.Facts.{sound-exactly-when, held-exactly-when}
 use Rattle.rules.proofs.Laws.Barriers.{open-is-unstopped, noted-where}
 use Rattle.rules.proofs.Laws.Orders.{order-leaves}
@@ -72,14 +73,9 @@ module _ (s : State) (clock : ℕ) (night : Bool) (force : Force) (holds : held 
 -- lock stops whatever force would stop
 locked-alike : (i : Input) (link : Link) (f g : Force) → barrierTo (kind i) link true f ≡ barrierTo (kind i) link true g
 unfolding barrierTo firstBarrier rowOf rows
-locked-alike (SwitchOnOff value) link f g = refl
-locked-alike (TimedStartStop value) link f g = refl
-locked-alike (NumberedSceneControl learns number) link f g = refl
-locked-alike (SwitchOnOffForced force) link f g = refl
-locked-alike (LockDevice value) link f g = refl
-locked-alike (NightMode value) link f g = refl
-locked-alike (Bus event) link f g = refl
-locked-alike (Power event) link f g = refl
+locked-alike =
+    each-input (λ i. (link : Link) (f g : Force) → barrierTo (kind i) link true f ≡ barrierTo (kind i) link true g)
+    (λ value link f g. refl) (λ value link f g. refl) (λ learns number link f g. refl) (λ force link f g. refl) (λ value link f g. refl) (λ value link f g. refl) (λ event link f g. refl) (λ event link f g. refl)
 
 -- at one moment: this state, and the same with another night and force
 module _ (s : State) (night : Bool) (force : Force) (holds : held s ≡ true) (agree : (s .lock ≡ true) ⊎ (force ≡ s .force)) (steady : Steady (s .phase)) where

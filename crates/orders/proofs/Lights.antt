@@ -22,6 +22,7 @@ use Rattle.switching.specs.Wishes.{stopAsks, recallAsks, sceneAsks, granted}
 use Rattle.switching.proofs.Scenes.{learning-keeps-the-lamp}
 use Rattle.orders.specs.Lights.{isLight, asks, lightPhase}
 use Rattle.orders.proofs.Lessons.{only-a-lesson-teaches}
+use Rattle.rules.proofs.Laws.Cases.{each-input}
 
 module _ (p : Params) (k : List Scene) (l : Lamp) where
   -- the lamp in the phase that a wish leaves
@@ -60,14 +61,6 @@ module _ (p : Params) (k : List Scene) (l : Lamp) where
 
 -- an order that is not to the light keeps the table
 pub other-orders-keep-the-table : (s : State) (i : Input) → isLight i ≡ false → order s i .scenes ≡ s .scenes
-other-orders-keep-the-table s i e = only-a-lesson-teaches s i (no-lesson i e)
-  where
-    no-lesson : (i : Input) → isLight i ≡ false → teaches i ≡ false
-    no-lesson (SwitchOnOff value) e = refl
-    no-lesson (TimedStartStop value) e = refl
-    no-lesson (NumberedSceneControl learns number) e = no (sym e)
-    no-lesson (SwitchOnOffForced force) e = refl
-    no-lesson (LockDevice value) e = refl
-    no-lesson (NightMode value) e = refl
-    no-lesson (Bus event) e = refl
-    no-lesson (Power event) e = refl
+other-orders-keep-the-table s i e =
+    only-a-lesson-teaches s i (each-input (λ i. isLight i ≡ false → teaches i ≡ false)
+    (λ value e. refl) (λ value e. refl) (λ learns number e. no (sym e)) (λ force e. refl) (λ value e. refl) (λ value e. refl) (λ event e. refl) (λ event e. refl) i e)

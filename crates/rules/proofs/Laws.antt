@@ -1,5 +1,6 @@
 -- Laws of the definitions, which the code and the theorems cite: named like the file of definitions where there is one, and a few for
 -- what several share.
+pub mod Cases
 pub mod Forms
 pub mod Deadlines
 pub mod Parameters

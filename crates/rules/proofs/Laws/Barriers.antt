@@ -18,6 +18,7 @@ use Rattle.rules.specs.Barriers.{row, rows, rowOf, setsValue, powerDown,
 use Rattle.rules.specs.Answers.{answer}
 use Rattle.rules.specs.Said.{NotedWhere}
 use Rattle.base.proofs.Tests.{no}
+use Rattle.rules.proofs.Laws.Cases.{each-input}
 
 -- ---- the table
 
@@ -25,14 +26,9 @@ use Rattle.base.proofs.Tests.{no}
 pub rows-say-exactly : (i : Input) →
     rowOf (kind i) ≡ row (leb (kind i) 7) (leb (kind i) 6) (leb (kind i) 4 || eqb (kind i) 6) (leb (kind i) 3 || eqb (kind i) 6)
 unfolding rowOf rows
-rows-say-exactly (SwitchOnOff value) = refl
-rows-say-exactly (TimedStartStop value) = refl
-rows-say-exactly (NumberedSceneControl learn number) = refl
-rows-say-exactly (SwitchOnOffForced force) = refl
-rows-say-exactly (LockDevice value) = refl
-rows-say-exactly (NightMode value) = refl
-rows-say-exactly (Bus event) = refl
-rows-say-exactly (Power event) = refl
+rows-say-exactly =
+    each-input (λ i. rowOf (kind i) ≡ row (leb (kind i) 7) (leb (kind i) 6) (leb (kind i) 4 || eqb (kind i) 6) (leb (kind i) 3 || eqb (kind i) 6))
+    (λ value. refl) (λ value. refl) (λ learns number. refl) (λ force. refl) (λ value. refl) (λ value. refl) (λ event. refl) (λ event. refl)
 
 -- "one table of eight rows"
 pub eight-rows : length rows ≡ 8

@@ -5,7 +5,7 @@ use mathlib.Core.Logic.{_↔_, _⊎_, inl, inr, ⊎-elim}
 use mathlib.Core.Path.{_≡_, refl, sym}
 use native.Mathlib.Omega.{arith}
 use Rattle.rules.specs.declared.phase.Phase.{Phase}
-use Rattle.rules.specs.declared.phase.Phase.the-variants.{Dark, Lit, Starting, Timed, Warning, Ending}
+use Rattle.rules.specs.declared.phase.Phase.the-variants.{Dark, Lit}
 use Rattle.rules.specs.declared.phase.Deadline.{Deadline}
 use Rattle.rules.specs.declared.phase.Deadline.the-variants.{Never, At}
 use Rattle.rules.specs.declared.input.Force.{Force}
@@ -19,6 +19,7 @@ use Rattle.rules.specs.Soundness.{soon, isDark, isLit, agrees, heldIsSte
 use Rattle.rules.specs.Facts.{SoundState}
 use Rattle.rules.specs.Said.{Held}
 use Rattle.base.proofs.Tests.{no, both, either}
+use Rattle.rules.proofs.Laws.Cases.{each-phase}
 use Rattle.rules.proofs.Laws.Deadlines.{params-exactly-when, Within, soon-within, within-soon}
 use Rattle.rules.proofs.Laws.Scenes.{scenes-exactly-when}
 use Rattle.rules.proofs.Laws.Holding.{fits-view, fits-consistent}
@@ -27,26 +28,10 @@ use Rattle.rules.proofs.Laws.Soundness.{sound-view, sound-whole}
 -- ---- the tests, one by one
 
 dark-exactly-when : (phase : Phase) → (isDark phase ≡ true) ↔ (phase ≡ Dark)
-dark-exactly-when phase = (by phase, λ e. rw e)
-  where
-    by : (x : Phase) → isDark x ≡ true → x ≡ Dark
-    by Dark h = refl
-    by Lit h = no h
-    by (Starting timed d) h = no h
-    by (Timed d) h = no h
-    by (Warning d) h = no h
-    by (Ending d) h = no h
+dark-exactly-when phase = (each-phase (λ x. isDark x ≡ true → x ≡ Dark) (λ h. refl) no (λ timed d. no) (λ d. no) (λ d. no) (λ d. no) phase, λ e. rw e)
 
 lit-exactly-when : (phase : Phase) → (isLit phase ≡ true) ↔ (phase ≡ Lit)
-lit-exactly-when phase = (by phase, λ e. rw e)
-  where
-    by : (x : Phase) → isLit x ≡ true → x ≡ Lit
-    by Dark h = no h
-    by Lit h = refl
-    by (Starting timed d) h = no h
-    by (Timed d) h = no h
-    by (Warning d) h = no h
-    by (Ending d) h = no h
+lit-exactly-when phase = (each-phase (λ x. isLit x ≡ true → x ≡ Lit) no (λ h. refl) (λ timed d. no) (λ d. no) (λ d. no) (λ d. no) phase, λ e. rw e)
 
 -- lock or force stands
 pub held-exactly-when : (lock : Bool) (force : Force) → ((lock || standing force) ≡ true) ↔ Held lock force

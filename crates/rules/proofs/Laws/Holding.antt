@@ -5,7 +5,6 @@ use mathlib.Core.Logic.{_↔_}
 use mathlib.Core.Path.{_≡_, refl, sym, _∙_}
 use borrow.Author.Tests.{not-true}
 use Rattle.rules.specs.declared.phase.Phase.{Phase}
-use Rattle.rules.specs.declared.phase.Phase.the-variants.{Dark, Lit, Starting, Timed, Warning, Ending}
 use Rattle.rules.specs.declared.phase.Deadline.the-variants.{At}
 use Rattle.rules.specs.declared.input.Force.{Force}
 use Rattle.rules.specs.declared.input.Force.the-variants.{Free, Off, On}
@@ -17,6 +16,7 @@ use Rattle.rules.specs.Orders.{withPhase, standing, held, plain}
 use Rattle.rules.specs.Barriers.{powerDown}
 use Rattle.rules.specs.Soundness.{soon, isDark, isLit, heldIsSteady, forceDecides, nightEnds, powerDownIsClear, consistent}
 use Rattle.base.proofs.Tests.{no, both}
+use Rattle.rules.proofs.Laws.Cases.{each-phase}
 use Rattle.rules.proofs.Laws.Deadlines.{soon-near, near-soon}
 use Rattle.rules.proofs.Laws.Making.{ruled}
 use Rattle.rules.proofs.Laws.Phases.{Sits}
@@ -77,12 +77,9 @@ unguarded false rule h e = refl
 
 -- only Dark and Lit have no deadline
 waiting-is-not-steady : (phase : Phase) (d : ℕ) → deadline phase ≡ At d → (isDark phase ≡ false) × (isLit phase ≡ false)
-waiting-is-not-steady Dark d e = (cc, cc)
-waiting-is-not-steady Lit d e = (cc, cc)
-waiting-is-not-steady (Starting timed x) d e = (refl, refl)
-waiting-is-not-steady (Timed x) d e = (refl, refl)
-waiting-is-not-steady (Warning x) d e = (refl, refl)
-waiting-is-not-steady (Ending x) d e = (refl, refl)
+waiting-is-not-steady =
+    each-phase (λ phase. (d : ℕ) → deadline phase ≡ At d → (isDark phase ≡ false) × (isLit phase ≡ false))
+    (λ d e. (cc, cc)) (λ d e. (cc, cc)) (λ timed x d e. (refl, refl)) (λ x d e. (refl, refl)) (λ x d e. (refl, refl)) (λ x d e. (refl, refl))
 
 -- lock, force and power down leave only Dark or Lit
 pub waiting-is-loose : (s : State) (d : ℕ) → deadline (s .phase) ≡ At d → Stands s → LooseIn s

@@ -17,6 +17,7 @@ use Rattle.rules.specs.declared.input.Decoded.the-variants.{Meant, Wrong
 use Rattle.rules.specs.Inputs.{kind, sceneNumber, inputValue, zeroOrOne, sceneMeant, forceMeant, decoded, inputAt}
 use Rattle.rules.specs.Written.{ValueOf, InputStands}
 use Rattle.base.proofs.Tests.{both, cond-case}
+use Rattle.rules.proofs.Laws.Cases.{each-input}
 
 -- an input of the kind k, if it means one at all, with this value
 abbrev OfKind : ℕ → ℕ → Decoded → Type 0
@@ -98,14 +99,9 @@ an-input-is-what-its-octets-mean (Power Return) small = refl
 
 -- there are eight kinds
 pub kind-range : (i : Input) → (1 ≤ kind i) × (kind i ≤ 8)
-kind-range (SwitchOnOff on) = omega arith
-kind-range (TimedStartStop start) = omega arith
-kind-range (NumberedSceneControl learn number) = omega arith
-kind-range (SwitchOnOffForced force) = omega arith
-kind-range (LockDevice lock) = omega arith
-kind-range (NightMode night) = omega arith
-kind-range (Bus event) = omega arith
-kind-range (Power event) = omega arith
+kind-range =
+    each-input (λ i. (1 ≤ kind i) × (kind i ≤ 8))
+    (λ value. omega arith) (λ value. omega arith) (λ learns number. omega arith) (λ force. omega arith) (λ value. omega arith) (λ value. omega arith) (λ event. omega arith) (λ event. omega arith)
 
 pub meant-kind : (k value : ℕ) (i : Input) → decoded k value ≡ Meant i → kind i ≡ k
 meant-kind k value i e = (rw e at (decoded-means k value)) .0

@@ -14,19 +14,10 @@ use Rattle.rules.specs.Answers.{due}
 use Rattle.rules.specs.Soundness.{isLit}
 use Rattle.base.proofs.Tests.{no, cond-zero}
 use Rattle.base.proofs.Codes.{failed}
+use Rattle.rules.proofs.Laws.Cases.{each-phase}
 use Rattle.rules.proofs.Laws.Deadlines.{Times, Near}
 use Rattle.rules.proofs.Laws.Ends.{DueFrom, earliest-within, earliest-from, own-end-from}
 use Rattle.rules.proofs.Laws.Making.{mayLast, Makes, keeps, darkens, steadies, times, begins, awaits, ends, night-times, night-ends}
-
--- what holds of each phase holds of every phase
-pub each-phase : (P : Phase → Type 0) → P Dark → P Lit → ((timed : Bool) (d : ℕ) → P (Starting timed d)) → ((d : ℕ) → P (Timed d)) → ((d : ℕ) → P (Warning d)) → ((d : ℕ) → P (Ending d)) →
-    (phase : Phase) → P phase
-each-phase P dark lit starting timed warning ending Dark = dark
-each-phase P dark lit starting timed warning ending Lit = lit
-each-phase P dark lit starting timed warning ending (Starting is-timed d) = starting is-timed d
-each-phase P dark lit starting timed warning ending (Timed d) = timed d
-each-phase P dark lit starting timed warning ending (Warning d) = warning d
-each-phase P dark lit starting timed warning ending (Ending d) = ending d
 
 lit-may-last : (phase : Phase) → isLit phase ≡ true → mayLast phase ≡ true
 lit-may-last = each-phase (λ phase. isLit phase ≡ true → mayLast phase ≡ true) (λ e. e) (λ e. e) (λ timed d e. e) (λ d e. e) (λ d e. e) (λ d e. refl)

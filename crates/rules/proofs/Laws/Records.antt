@@ -21,6 +21,7 @@ use Rattle.rules.specs.Status.{value, staircase, attributes, sameStatus,
 use Rattle.rules.specs.Steps.{atMoment, Moved, clockMove, counted, meet, act, step, Moves, rest, fire}
 use Rattle.rules.specs.Calls.{blank, places}
 use Rattle.base.proofs.Tests.{cond-case, cond-zero}
+use Rattle.rules.proofs.Laws.Cases.{each-phase}
 use Rattle.rules.proofs.Laws.Timers.{alike-writes-nothing, clock-moves}
 
 -- none where nothing shows, else one
@@ -69,12 +70,7 @@ moves-show (rest q) = omega arith
 moves-show {s} (fire d e past x) = rw length-append (omega (arith, timer-spends s d (s .phase), moves-show x))
 
 two-show : (phase : Phase) → shows phase ≤ 2
-two-show Dark = omega arith
-two-show Lit = omega arith
-two-show (Starting timed d) = omega arith
-two-show (Timed d) = omega arith
-two-show (Warning d) = omega arith
-two-show (Ending d) = omega arith
+two-show = each-phase (λ phase. shows phase ≤ 2) (omega arith) (omega arith) (λ timed d. omega arith) (λ d. omega arith) (λ d. omega arith) (λ d. omega arith)
 
 pub a-move-writes-at-most-two : (s : State) (t : ℕ) → length (clockMove s t .records) ≤ 2
 a-move-writes-at-most-two s t = omega (arith, moves-show (clock-moves s t), two-show (s .phase))

@@ -10,7 +10,7 @@ use lib.Dec.{eqb}
 use borrow.Author.Tests.{eq-eqb, ne-eqb}
 use Rattle.rules.specs.declared.parameters.Params.{Params}
 use Rattle.rules.specs.declared.phase.Phase.{Phase}
-use Rattle.rules.specs.declared.phase.Phase.the-variants.{Dark, Lit, Starting, Timed, Warning, Ending}
+use Rattle.rules.specs.declared.phase.Phase.the-variants.{Dark, Lit, Timed, Warning, Ending}
 use Rattle.rules.specs.declared.input.Force.{Force}
 use Rattle.rules.specs.declared.input.Force.the-variants.{Free, Off, On}
 use Rattle.rules.specs.declared.input.Event.{Event}
@@ -28,6 +28,7 @@ use Rattle.rules.specs.Said.{NotedWhere, OnlyItsValue, setTo, NothingHol
 use Rattle.rules.specs.Facts.{ParamsFit}
 use Rattle.base.specs.Time.{earlier}
 use Rattle.base.proofs.Tests.{no, by-order}
+use Rattle.rules.proofs.Laws.Cases.{each-phase}
 use Rattle.rules.proofs.Laws.Facts.{held-exactly-when}
 use Rattle.rules.proofs.Laws.Barriers.{noted-where}
 
@@ -107,21 +108,11 @@ modes-set s f =
 
 lit-is-timed : (p : Params) (t : ℕ) (phase : Phase) → output phase ≡ true → timedStart p t phase ≡ Timed (t + p .timedon)
 unfolding timedStart
-lit-is-timed p t Dark h = no h
-lit-is-timed p t Lit h = refl
-lit-is-timed p t (Starting timed d) h = no h
-lit-is-timed p t (Timed d) h = refl
-lit-is-timed p t (Warning d) h = refl
-lit-is-timed p t (Ending d) h = refl
+lit-is-timed p t = each-phase (λ phase. output phase ≡ true → timedStart p t phase ≡ Timed (t + p .timedon)) no (λ lit. refl) (λ timed d. no) (λ d lit. refl) (λ d lit. refl) (λ d lit. refl)
 
 stop-is-off : (p : Params) (t : ℕ) (phase : Phase) → timedStop p t phase ≡ cond (runsTimed phase) (off p t phase) phase
 unfolding timedStop
-stop-is-off p t Dark = refl
-stop-is-off p t Lit = refl
-stop-is-off p t (Starting timed d) = refl
-stop-is-off p t (Timed d) = refl
-stop-is-off p t (Warning d) = refl
-stop-is-off p t (Ending d) = refl
+stop-is-off p t = each-phase (λ phase. timedStop p t phase ≡ cond (runsTimed phase) (off p t phase) phase) refl refl (λ timed d. refl) (λ d. refl) (λ d. refl) (λ d. refl)
 
 pub timed-orders : (p : Params) (t : ℕ) → TimedOrders p t
 unfolding timedStart

@@ -15,6 +15,7 @@ use Rattle.rules.specs.declared.state.State.{State}
 use Rattle.rules.specs.Phases.{deadline, litAt, atDeadline}
 use Rattle.rules.specs.Steps.{atMoment, tickAt, tick, Quiet, fired}
 use Rattle.base.proofs.Tests.{cond-case, cond-zero}
+use Rattle.rules.proofs.Laws.Cases.{each-phase}
 
 -- what holds after a due timer, and where none is due, holds after a tick
 pub tick-case : (P : State → Type 0) (s : State) (t : ℕ) → ((d : ℕ) → deadline (s .phase) ≡ At d → d ≤ t → P (fired s d)) → (Quiet t (deadline (s .phase)) → P s) → P (tick s t)
@@ -62,12 +63,8 @@ tick-left s n t (inr few) = tick-case (λ (u : State). Left n t (u .phase)) s t 
 
 none-left : (t : ℕ) (phase : Phase) → Left 0 t phase → Quiet t (deadline phase)
 none-left t phase (inl q) = q
-none-left t Dark (inr few) = tt
-none-left t Lit (inr few) = tt
-none-left t (Starting timed d) (inr few) = omega arith
-none-left t (Timed d) (inr few) = omega arith
-none-left t (Warning d) (inr few) = omega arith
-none-left t (Ending d) (inr few) = omega arith
+none-left t phase (inr few) =
+    each-phase (λ phase. rank phase ≤ 0 → Quiet t (deadline phase)) (λ few. tt) (λ few. tt) (λ timed d few. omega arith) (λ d few. omega arith) (λ d few. omega arith) (λ d few. omega arith) phase few
 
 -- so a timer that runs always leaves fewer
 pub a-timer-lowers-the-rank : (p : Params) (night : Bool) (phase : Phase) (d : ℕ) → deadline phase ≡ At d → rank (atDeadline p night phase) < rank phase
@@ -78,12 +75,7 @@ a-timer-lowers-the-rank p night phase d e = go (rank phase) refl
     go (suc n) some = omega (arith, timer-rank p night phase, some)
 
 most-left : (t : ℕ) (phase : Phase) → Left 3 t phase
-most-left t Dark = inl tt
-most-left t Lit = inl tt
-most-left t (Starting timed d) = inr (omega arith)
-most-left t (Timed d) = inr (omega arith)
-most-left t (Warning d) = inr (omega arith)
-most-left t (Ending d) = inr (omega arith)
+most-left t = each-phase (Left 3 t) (inl tt) (inl tt) (λ timed d. inr (omega arith)) (λ d. inr (omega arith)) (λ d. inr (omega arith)) (λ d. inr (omega arith))
 
 -- a phase has at most three timers to run, and each tick leaves one less
 pub three-are-enough : (s : State) (t : ℕ) → Quiet t (deadline (tick (tick (tick s t) t) t .phase))
