@@ -188,7 +188,7 @@ pub fn take(p: Params, k: [Scene; 8], l: Lamp, i: Input, noted: bool) -> Done
     }
 }
 
-// The scene table after an input at the moved clock that counts. Only a lesson can change it, so no other input pays for it.
+// The scene table after an input at the moved clock that counts.
 pub fn scenes_after(p: Params, k: [Scene; 8], l: Lamp, i: Input) -> [Scene; 8]
     requires { ⌜ ((noted : Bool) × (fate (barrier (stateOf p k l) i) ≡ Fate.Counts noted)) ⌝ }
     ensures { λ r. ⌜ r ≡ act (still (stateOf p k l)) i .state .scenes ⌝ }

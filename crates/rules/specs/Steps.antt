@@ -45,10 +45,14 @@ abbrev pub atMoment : State → ℕ → Phase → State
 atMoment s t phase =
     record { params = s .params; scenes = s .scenes; clock = t; night = s .night; lock = s .lock; force = s .force; link = s .link; atlocking = s .atlocking; atfailure = s .atfailure; phase = phase }
 
+-- the state right after its timer ran at d
+abbrev pub fired : State → ℕ → State
+fired s d = atMoment s d (atDeadline (s .params) (s .night) (s .phase))
+
 -- "every deadline at or before t is run, each at its own moment": one of them, where there is one
 unfoldable pub tickAt : State → ℕ → Deadline → State
 tickAt s t Never = s
-tickAt s t (At d) = cond (leb d t) (atMoment s d (atDeadline (s .params) (s .night) (s .phase))) s
+tickAt s t (At d) = cond (leb d t) (fired s d) s
 
 unfoldable pub tick : State → ℕ → State
 tick s t = tickAt s t (deadline (s .phase))
@@ -75,10 +79,6 @@ clockMove s t = ticked s (tick s t) (tick (tick s t) t) (tick (tick (tick s t) t
 abbrev pub Quiet : ℕ → Deadline → Type 0
 Quiet t Never = Unit {0}
 Quiet t (At d) = t < d
-
--- the state right after its timer ran at d
-abbrev pub fired : State → ℕ → State
-fired s d = atMoment s d (atDeadline (s .params) (s .night) (s .phase))
 
 -- the timers due from s up to t, one after the other, and their records; then the clock stands at t
 pub data Moves (t : ℕ) : State → State → List Record → Type 0 where
