@@ -1,20 +1,23 @@
 -- How many records are written: at most one by a timer or an order, two by a clock move, three by an input; and their places by value.
 use Prim.Native.Nat.{ℕ, zero, suc, _+_, _-_, _≤_}
-use mathlib.Core.Bool.{_||_}
+use mathlib.Core.Bool.{cond, _||_}
 use mathlib.Core.List.{List, [], _∷_, _++_}
 use mathlib.Core.Path.{_≡_, refl, ap}
 use native.Mathlib.Nat.{sub-zero, suc-sub-suc}
 use native.Mathlib.Omega.{arith}
 use lib.ListN.{length, take, getD, length-append}
+use Rattle.rules.specs.declared.parameters.Params.{Params}
 use Rattle.rules.specs.declared.phase.Phase.{Phase}
 use Rattle.rules.specs.declared.phase.Phase.the-variants.{Dark, Lit, Starting, Timed, Warning, Ending}
+use Rattle.rules.specs.declared.phase.Deadline.{Deadline}
+use Rattle.rules.specs.declared.phase.Deadline.the-variants.{Never, At}
 use Rattle.rules.specs.declared.input.Input.{Input}
 use Rattle.rules.specs.declared.state.State.{State}
 use Rattle.rules.specs.declared.barrier.Barrier.{Barrier}
 use Rattle.rules.specs.declared.barrier.Barrier.the-variants.{Open, Notes, Stopped}
 use Rattle.rules.specs.declared.record.Record.{Record}
 use Rattle.rules.specs.Inputs.{kind}
-use Rattle.rules.specs.Phases.{output, litAt, atDeadline}
+use Rattle.rules.specs.Phases.{output, litAt, atDeadline, ownEnd}
 use Rattle.rules.specs.Orders.{withPhase, order, noted}
 use Rattle.rules.specs.Barriers.{barrier}
 use Rattle.rules.specs.Status.{value, staircase, attributes, sameStatus, written, byItself}
@@ -22,6 +25,7 @@ use Rattle.rules.specs.Steps.{atMoment, Moved, clockMove, counted, meet,
 use Rattle.rules.specs.Calls.{blank, places}
 use Rattle.base.proofs.Tests.{cond-case, cond-zero}
 use Rattle.rules.proofs.Laws.Cases.{each-phase}
+use Rattle.rules.proofs.Laws.Making.{awaited}
 use Rattle.rules.proofs.Laws.Timers.{alike-writes-nothing, clock-moves}
 
 -- none where nothing shows, else one
@@ -29,23 +33,22 @@ pub one-record-at-most : (cause : ℕ) (before after : State) → length (writte
 unfolding written
 one-record-at-most cause before after = cond-case (λ (l : List Record). length l ≤ 1) (sameStatus before after) _ _ (λ same. omega arith) (λ differs. omega arith)
 
--- how many timers of a phase can still show
-abbrev shows : Phase → ℕ
-shows Dark = 0
-shows Lit = 0
-shows (Starting timed d) = 2
-shows (Timed d) = 1
-shows (Warning d) = 1
-shows (Ending d) = 1
+-- how often the timers of a phase can still show: that its light ends by itself, and before that a light that is awaited
+abbrev ending : Deadline → ℕ
+ending Never = 0
+ending (At d) = 1
+
+abbrev shows : Params → Phase → ℕ
+shows p phase = cond (awaited phase) 2 (ending (ownEnd p phase))
 
 -- the record of a timer that leads from a phase to the next, if it writes one, is taken from those of the phase
 abbrev Spends : State → ℕ → Phase → Phase → Type 0
-Spends s d phase next = length (written byItself (withPhase s phase) (atMoment s d next)) + shows next ≤ shows phase
+Spends s d phase next = length (written byItself (withPhase s phase) (atMoment s d next)) + shows (s .params) next ≤ shows (s .params) phase
 
-may-write : (s : State) (d : ℕ) (phase next : Phase) → shows next + 1 ≤ shows phase → Spends s d phase next
+may-write : (s : State) (d : ℕ) (phase next : Phase) → shows (s .params) next + 1 ≤ shows (s .params) phase → Spends s d phase next
 may-write s d phase next less = omega (arith, one-record-at-most byItself (withPhase s phase) (atMoment s d next))
 
-writes-nothing : (s : State) (d : ℕ) (phase next : Phase) → output phase ≡ output next → staircase phase ≡ staircase next → shows next ≤ shows phase → Spends s d phase next
+writes-nothing : (s : State) (d : ℕ) (phase next : Phase) → output phase ≡ output next → staircase phase ≡ staircase next → shows (s .params) next ≤ shows (s .params) phase → Spends s d phase next
 unfolding value attributes
 writes-nothing s d phase next lit timed less = rw (alike-writes-nothing byItself (withPhase s phase) (atMoment s d next) (rw lit) (rw timed)) (omega arith)
 
@@ -65,15 +68,15 @@ timer-spends s d (Timed x) =
 timer-spends s d (Warning x) = may-write s d (Warning x) Dark (omega arith)
 timer-spends s d (Ending x) = may-write s d (Ending x) Dark (omega arith)
 
-moves-show : {t : ℕ} {s u : State} {l : List Record} → Moves t s u l → length l ≤ shows (s .phase)
+moves-show : {t : ℕ} {s u : State} {l : List Record} → Moves t s u l → length l ≤ shows (s .params) (s .phase)
 moves-show (rest q) = omega arith
 moves-show {s} (fire d e past x) = rw length-append (omega (arith, timer-spends s d (s .phase), moves-show x))
 
-two-show : (phase : Phase) → shows phase ≤ 2
-two-show = each-phase (λ phase. shows phase ≤ 2) (omega arith) (omega arith) (λ timed d. omega arith) (λ d. omega arith) (λ d. omega arith) (λ d. omega arith)
+two-show : (p : Params) (phase : Phase) → shows p phase ≤ 2
+two-show p = each-phase (λ phase. shows p phase ≤ 2) (omega arith) (omega arith) (λ timed d. omega arith) (λ d. omega arith) (λ d. omega arith) (λ d. omega arith)
 
 pub a-move-writes-at-most-two : (s : State) (t : ℕ) → length (clockMove s t .records) ≤ 2
-a-move-writes-at-most-two s t = omega (arith, moves-show (clock-moves s t), two-show (s .phase))
+a-move-writes-at-most-two s t = omega (arith, moves-show (clock-moves s t), two-show (s .params) (s .phase))
 
 meet-writes : (x : Barrier) (m : Moved) (i : Input) → length (meet x m i .records) ≤ length (m .records) + 1
 unfolding meet counted
