@@ -25,7 +25,7 @@ use Rattle.rules.specs.declared.barrier.Barrier.{Barrier}
 use Rattle.rules.specs.declared.barrier.Barrier.the-variants.{Open, Notes, Stopped}
 use Rattle.rules.specs.Phases.{output, deadline, litAt, atDeadline, setOn}
 use Rattle.rules.specs.Scenes.{recalled}
-use Rattle.rules.specs.Orders.{on, timedStart, off, timedStop, nightFalls, withPhase, withForce, held, standing, settle, switch, timed, recall, learn, scene, nightMode, forced, locked, unlockingOutput, unlocked, lockDevice, busMode, bus, powerFails, powerReturns, power, order, noted}
+use Rattle.rules.specs.Orders.{fromDark, on, timedStart, off, timedStop, nightFalls, withPhase, withForce, held, standing, settle, switch, timed, recall, learn, scene, nightMode, forced, locked, unlockingOutput, unlocked, lockDevice, busMode, bus, powerFails, powerReturns, power, order, noted}
 use Rattle.rules.specs.Barriers.{barrier}
 use Rattle.rules.specs.Inputs.{kind}
 use Rattle.rules.specs.Status.{value, attributes, recordOf, byItself, sameStatus, written}
@@ -56,11 +56,11 @@ module _ (v : ℕ) where
   -- ---- the phases
 
   alike-on : (p : Params) (night held : Bool) (t : ℕ) (ph : Phase) → on (ofVersion v p) night held t ph ≡ on p night held t ph
-  unfolding on setOn litAt
+  unfolding fromDark on setOn litAt
   alike-on p night held t = each-phase (λ ph. on (ofVersion v p) night held t ph ≡ on p night held t ph) refl refl (λ timed d. refl) (λ d. refl) (λ d. refl) (λ d. refl)
 
   alike-start : (p : Params) (t : ℕ) (ph : Phase) → timedStart (ofVersion v p) t ph ≡ timedStart p t ph
-  unfolding timedStart
+  unfolding fromDark timedStart litAt
   alike-start p t = each-phase (λ ph. timedStart (ofVersion v p) t ph ≡ timedStart p t ph) refl refl (λ timed d. refl) (λ d. refl) (λ d. refl) (λ d. refl)
 
   alike-off : (p : Params) (t : ℕ) (ph : Phase) → off (ofVersion v p) t ph ≡ off p t ph

@@ -7,7 +7,7 @@ use Rattle.rules.specs.Parameters.{timeAt, delay, paramsOf, sceneAt, scenesOf, 
 use Rattle.rules.specs.Inputs.{zeroOrOne, decoded, inputAt}
 use Rattle.rules.specs.Scenes.{entryInRange, absent, scenesInRange}
 use Rattle.rules.specs.Phases.{litAt, atDeadline, setOn}
-use Rattle.rules.specs.Orders.{on, timedStart, earliestEnd, off, nightFalls, held, settle, byMode, switch, timed, nightMode, busMode, bus, order}
+use Rattle.rules.specs.Orders.{fromDark, on, timedStart, earliestEnd, off, nightFalls, held, settle, byMode, switch, timed, nightMode, busMode, bus, order}
 use Rattle.rules.specs.Barriers.{rows, rowOf, setsValue, outranked, firstBarrier, barrierTo, barrier}
 use Rattle.rules.specs.Status.{value, attributes, recordOf, sameStatus, written}
 use Rattle.rules.specs.Answers.{samePhase, sameScene, sameScenes, sameFlags, sameButClock}
@@ -29,7 +29,7 @@ use Rattle.pairs.specs.Calls.{pairSound, jointDone, jointRefused, jointMeant, j
 use Rattle.pairs.specs.Walls.{fileIn, actionsIn, checkWall, itemIn, readWall, readWallCall, playWall}
 
 unfoldable pub playingPairs : Unit {0}
-unfolding playItems pairPlaysTo pairPlays pairStep pairMove pressed told tell hears react press hear freshSensor actionOf fresh step act meet counted clockMove ticked tick tickAt litAt atDeadline setOn on timedStart earliestEnd off nightFalls held settle byMode switch timed nightMode busMode bus order rows rowOf setsValue outranked firstBarrier barrierTo barrier value attributes recordOf sameStatus written samePhase sameScene sameScenes sameFlags sameButClock leastParams unused noScenes
+unfolding playItems pairPlaysTo pairPlays pairStep pairMove pressed told tell hears react press hear freshSensor actionOf fresh step act meet counted clockMove ticked tick tickAt litAt atDeadline setOn fromDark on timedStart earliestEnd off nightFalls held settle byMode switch timed nightMode busMode bus order rows rowOf setsValue outranked firstBarrier barrierTo barrier value attributes recordOf sameStatus written samePhase sameScene sameScenes sameFlags sameButClock leastParams unused noScenes
 playingPairs = tt
 
 unfoldable pub readingWalls : Unit {0}

@@ -9,7 +9,7 @@ use Rattle.rules.specs.declared.input.Event.the-variants.{Failure, Return}
 use Rattle.rules.specs.declared.input.Input.the-variants.{SwitchOnOff, TimedStartStop, NumberedSceneControl, SwitchOnOffForced, LockDevice, Bus, Power}
 use Rattle.rules.specs.declared.input.Force.the-variants.{Free}
 use Rattle.rules.specs.Phases.{output, litAt, atDeadline, setOn}
-use Rattle.rules.specs.Orders.{on, earliestEnd, off, nightFalls, held, switch, nightMode, busMode, bus, order}
+use Rattle.rules.specs.Orders.{fromDark, on, earliestEnd, off, nightFalls, held, switch, nightMode, busMode, bus, order}
 use Rattle.rules.specs.Barriers.{rows, rowOf, setsValue, outranked, firstBarrier, barrierTo, barrier}
 use Rattle.rules.specs.Steps.{fresh, tickAt, tick, ticked, clockMove, counted, meet, act, step}
 use Rattle.rules.specs.Calls.{noScenes}
@@ -24,7 +24,7 @@ use Rattle.rules.proofs.Mistakes.Waiting.{an-on-is-idle-while-it-waits, a-repea
 
 -- what is opened to play them
 playing : Unit {0}
-unfolding turns upTo stateAt plays step act meet counted clockMove ticked tick tickAt fresh litAt atDeadline setOn on earliestEnd off nightFalls held switch nightMode busMode bus order rows rowOf setsValue outranked firstBarrier barrierTo barrier
+unfolding turns upTo stateAt plays step act meet counted clockMove ticked tick tickAt fresh litAt atDeadline setOn fromDark on earliestEnd off nightFalls held switch nightMode busMode bus order rows rowOf setsValue outranked firstBarrier barrierTo barrier
 playing = tt
 
 -- On 0, night 100, bus failure 300 (keep), On 400 (dropped): from after 100 on night rules and nothing lights, so it is off at 820

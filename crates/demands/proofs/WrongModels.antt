@@ -19,7 +19,7 @@ use Rattle.rules.specs.Parameters.{timeAt, delay, paramsOf, sceneAt, scenesOf, 
 use Rattle.rules.specs.Inputs.{zeroOrOne, decoded, inputAt}
 use Rattle.octets.specs.Groups.{stampAt}
 use Rattle.rules.specs.Phases.{output, litAt, atDeadline}
-use Rattle.rules.specs.Orders.{on, off, nightFalls, switch, nightMode, order}
+use Rattle.rules.specs.Orders.{fromDark, on, off, nightFalls, switch, nightMode, order}
 use Rattle.rules.specs.Barriers.{rows, rowOf, setsValue, outranked, firstBarrier, barrierTo, barrier}
 use Rattle.rules.specs.Status.{value, recordOf}
 use Rattle.rules.specs.Steps.{fresh, tickAt, tick, ticked, clockMove, counted, meet, act, step}
@@ -155,7 +155,7 @@ lit-counts a z l h x = rw (← (x .split)) (one-among a (x .earlier) (x .lit) (x
 
 -- what is opened to play them
 playing : Unit {0}
-unfolding plays clockMove ticked tick tickAt fresh rows rowOf setsValue outranked firstBarrier barrierTo barrier step act meet counted order switch on off litAt nightMode nightFalls leastParams
+unfolding plays clockMove ticked tick tickAt fresh rows rowOf setsValue outranked firstBarrier barrierTo barrier step act meet counted order switch fromDark on off litAt nightMode nightFalls leastParams
 playing = tt
 
 -- an On at a is taken, with nothing after it

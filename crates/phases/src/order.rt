@@ -1,6 +1,6 @@
 // What each order makes of a phase, at t: one small function for each.
 ghost use mathlib.Core.Path.{_≡_};
-ghost use Rattle.rules.specs.Orders.{on, timedStart, earliestEnd, off, nightFalls};
+ghost use Rattle.rules.specs.Orders.{fromDark, on, timedStart, earliestEnd, off, nightFalls};
 ghost use Rattle.phases.specs.Room.{Room, Roomy};
 use crate::phase::lit_at;
 use crate::phase::output_of;
@@ -14,19 +14,25 @@ use rules::parameters::Params;
 use rules::phase::Deadline;
 use rules::phase::Phase;
 
+// Light from Dark: at once, or after the on delay; the light timed or to stay, the wait likewise.
+fn from_dark(p: Params, timed: bool, waits: bool, t: u32) -> Phase
+    requires { ⌜ Room p t ⌝ }
+    ensures { λ r. ⌜ r ≡ fromDark p timed waits t ⌝ }
+{
+    let none = p.ondelay == 0;
+    if none {
+        lit_at(p, timed, t)
+    } else {
+        Phase::Starting(waits, later(t, p.ondelay))
+    }
+}
+
 pub fn order_on(p: Params, night: bool, held: bool, t: u32, phase: Phase) -> Phase
     requires { ⌜ Room p t ⌝ }
     ensures { λ r. ⌜ r ≡ on p night held t phase ⌝ }
 {
     match phase {
-        Phase::Dark => {
-            let none = p.ondelay == 0;
-            if none {
-                lit_at(p, night, t)
-            } else {
-                Phase::Starting(false, later(t, p.ondelay))
-            }
-        }
+        Phase::Dark => from_dark(p, night, false, t),
         Phase::Lit => Phase::Lit,
         Phase::Starting(_, deadline) => Phase::Starting(false, deadline),
         Phase::Timed(_) => set_on(p, night, held, t),
@@ -40,14 +46,7 @@ pub fn order_timed_start(p: Params, t: u32, phase: Phase) -> Phase
     ensures { λ r. ⌜ r ≡ timedStart p t phase ⌝ }
 {
     match phase {
-        Phase::Dark => {
-            let none = p.ondelay == 0;
-            if none {
-                Phase::Timed(later(t, p.timedon))
-            } else {
-                Phase::Starting(true, later(t, p.ondelay))
-            }
-        }
+        Phase::Dark => from_dark(p, true, true, t),
         Phase::Lit => Phase::Timed(later(t, p.timedon)),
         Phase::Starting(_, deadline) => Phase::Starting(true, deadline),
         Phase::Timed(_) => Phase::Timed(later(t, p.timedon)),

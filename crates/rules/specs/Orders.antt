@@ -28,10 +28,14 @@ use Rattle.rules.specs.Phases.{output, ownEnd, litAt, setOn, setOff}
 
 -- ---- orders to the phase
 
+-- "Dark becomes lit at once when OnDelay is 0 .., otherwise Starting .. until t+OnDelay": the light `timed` or to stay, the wait likewise
+unfoldable pub fromDark : Params → Bool → Bool → ℕ → Phase
+fromDark p timed waits t = cond (eqb (p .ondelay) 0) (litAt p timed t) (Starting waits (t + p .ondelay))
+
 -- "On: Dark becomes lit at once when OnDelay is 0 (Timed if night, else Lit), otherwise Starting, steady, until t+OnDelay.
 -- Starting keeps its deadline and becomes steady. Lit stays. Timed, Warning, Ending: set on."
 unfoldable pub on : Params → Bool → Bool → ℕ → Phase → Phase
-on p night held t Dark = cond (eqb (p .ondelay) 0) (litAt p night t) (Starting false (t + p .ondelay))
+on p night held t Dark = fromDark p night false t
 on p night held t (Starting timed d) = Starting false d
 on p night held t Lit = Lit
 on p night held t (Timed d) = setOn p night held t
@@ -40,7 +44,7 @@ on p night held t (Ending d) = setOn p night held t
 
 -- "Timed start: the same from Dark and Starting but timed; every lit phase becomes Timed until t+TimedOn."
 unfoldable pub timedStart : Params → ℕ → Phase → Phase
-timedStart p t Dark = cond (eqb (p .ondelay) 0) (Timed (t + p .timedon)) (Starting true (t + p .ondelay))
+timedStart p t Dark = fromDark p true true t
 timedStart p t (Starting timed d) = Starting true d
 timedStart p t Lit = Timed (t + p .timedon)
 timedStart p t (Timed d) = Timed (t + p .timedon)

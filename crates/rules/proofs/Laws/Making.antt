@@ -2,7 +2,7 @@
 -- no deadline is set too early or too far off, that night leaves no light that lasts, how long light lasts, and that an Off is heard.
 use Prim.Native.Nat.{ℕ, _+_, _≤_}
 use mathlib.Core.Bool.{Bool, true, false, not, _&&_, _||_, or-true, and-false}
-use mathlib.Core.Path.{_≡_, refl}
+use mathlib.Core.Path.{_≡_, refl, sym}
 use mathlib.Core.Logic.{_⊎_, inl, inr}
 use lib.Dec.{eqb}
 use Rattle.rules.specs.declared.parameters.Params.{Params}
@@ -22,7 +22,7 @@ use Rattle.rules.specs.declared.state.State.{State}
 use Rattle.base.specs.Time.{earlier}
 use Rattle.rules.specs.Scenes.{recalled}
 use Rattle.rules.specs.Phases.{output, ownEnd, litAt, setOn}
-use Rattle.rules.specs.Orders.{on, timedStart, earliestEnd, off, timedStop, nightFalls, withForce, withLink, withLock, standing, held, settle, plain, byMode, switch, timed, recall, learn, scene, nightMode, forced, locked, unlocked, lockDevice, busMode, bus, powerFails, powerReturns, power, order}
+use Rattle.rules.specs.Orders.{fromDark, on, timedStart, earliestEnd, off, timedStop, nightFalls, withForce, withLink, withLock, standing, held, settle, plain, byMode, switch, timed, recall, learn, scene, nightMode, forced, locked, unlocked, lockDevice, busMode, bus, powerFails, powerReturns, power, order}
 use Rattle.rules.specs.Barriers.{powerDown}
 use Rattle.rules.specs.Promises.{recallsOn, recallsOff, lights, dims, modeOn, busOn}
 use Rattle.rules.specs.Mistakes.{overrides}
@@ -90,9 +90,13 @@ module _ {p : Params} {t : ℕ} {night before : Bool} {Bright Holds Dims : Type 
   night-falls-makes now (Ending d) day = night-ends d refl day
 
   -- the others leave it to night whether it rules
+  from-dark-makes : (timed waits : Bool) → Bright → (timed ≡ false → before ≡ false) → Makes p t night before before Bright Holds Dims Dark (fromDark p timed waits t)
+  unfolding fromDark
+  from-dark-makes timed waits b steady = cond-zero (Makes p t night before before Bright Holds Dims Dark) (p .ondelay) _ _ (lit-makes before timed Dark b no steady) (begins waits refl b)
+
   on-makes : (is-held : Bool) (phase : Phase) → Bright → before ≡ (night && not is-held) → Makes p t night before before Bright Holds Dims phase (on p night is-held t phase)
   unfolding on setOn
-  on-makes is-held Dark b e = cond-zero (Makes p t night before before Bright Holds Dims Dark) (p .ondelay) _ _ (lit-makes before night Dark b no (λ day. rw (e, day))) (begins false refl b)
+  on-makes is-held Dark b e = from-dark-makes night false b (λ day. rw (e, day))
   on-makes is-held Lit b e = keeps (λ lasts on. on)
   on-makes is-held (Starting timed d) b e = awaits timed false d refl
   on-makes is-held (Timed d) b e = rw (← e) (lit-makes before before (Timed d) b no (λ same. same))
@@ -101,7 +105,7 @@ module _ {p : Params} {t : ℕ} {night before : Bool} {Bright Holds Dims : Type 
 
   timed-start-makes : (phase : Phase) → Bright → Makes p t night before before Bright Holds Dims phase (timedStart p t phase)
   unfolding timedStart
-  timed-start-makes Dark b = cond-zero (Makes p t night before before Bright Holds Dims Dark) (p .ondelay) _ _ (times b no) (begins true refl b)
+  timed-start-makes Dark b = from-dark-makes true true b (λ never. no (sym never))
   timed-start-makes Lit b = times b no
   timed-start-makes (Starting timed d) b = awaits timed true d refl
   timed-start-makes (Timed d) b = times b no

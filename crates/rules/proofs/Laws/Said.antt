@@ -22,7 +22,7 @@ use Rattle.rules.specs.declared.state.Link.{Link}
 use Rattle.rules.specs.declared.state.Link.the-variants.{Up, BusDown, PowerDown}
 use Rattle.rules.specs.declared.state.State.{State}
 use Rattle.rules.specs.Phases.{output, litAt, setOn}
-use Rattle.rules.specs.Orders.{timedStart, earliestEnd, off, timedStop, nightFalls, withLock, withLink, held, settle, plain, byMode, locked, unlockingOutput, unlocked, lockDevice, busMode, bus, powerReturns, power, order, noted}
+use Rattle.rules.specs.Orders.{fromDark, timedStart, earliestEnd, off, timedStop, nightFalls, withLock, withLink, held, settle, plain, byMode, locked, unlockingOutput, unlocked, lockDevice, busMode, bus, powerReturns, power, order, noted}
 use Rattle.rules.specs.Barriers.{barrier}
 use Rattle.rules.specs.Said.{NotedWhere, OnlyItsValue, setTo, NothingHolds, ModesSet, runsTimed, EndsAtEarlier, OffOrders, TimedOrders, NightFalls}
 use Rattle.rules.specs.Facts.{ParamsFit}
@@ -115,7 +115,7 @@ unfolding timedStop
 stop-is-off p t = each-phase (λ phase. timedStop p t phase ≡ cond (runsTimed phase) (off p t phase) phase) refl refl (λ timed d. refl) (λ d. refl) (λ d. refl) (λ d. refl)
 
 pub timed-orders : (p : Params) (t : ℕ) → TimedOrders p t
-unfolding timedStart
+unfolding fromDark timedStart litAt
 timed-orders p t =
     record {
       at-once = λ none. rw (eq-eqb (p .ondelay) 0 none);

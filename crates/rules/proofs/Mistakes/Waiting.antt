@@ -27,7 +27,7 @@ use Rattle.rules.specs.declared.barrier.Barrier.{Barrier}
 use Rattle.rules.specs.declared.barrier.Barrier.the-variants.{Open, Notes, Stopped}
 use Rattle.rules.specs.Scenes.{recalled, learnt}
 use Rattle.rules.specs.Phases.{output, deadline, litAt, setOn}
-use Rattle.rules.specs.Orders.{on, timedStart, off, timedStop, nightFalls, withPhase, withNight, withForce, withLink, withLock, withScenes, standing, held, settle, plain, byMode, switch, timed, recall, learn, scene, nightMode, forced, locked, unlockingOutput, unlocked, lockDevice, busMode, bus, powerFails, powerReturns, power, order, noted}
+use Rattle.rules.specs.Orders.{fromDark, on, timedStart, off, timedStop, nightFalls, withPhase, withNight, withForce, withLink, withLock, withScenes, standing, held, settle, plain, byMode, switch, timed, recall, learn, scene, nightMode, forced, locked, unlockingOutput, unlocked, lockDevice, busMode, bus, powerFails, powerReturns, power, order, noted}
 use Rattle.rules.specs.Barriers.{barrier}
 use Rattle.rules.specs.Steps.{fresh, atMoment, Moved, clockMove, step, Quiet}
 use Rattle.rules.specs.Lists.{Cue, cue, plays}
@@ -90,12 +90,12 @@ module _ (unstopped : Bool) (d : ℕ) (timed : Bool) where
   -- an order that finds it so at t waits for the whole on delay, and d is within that
   module _ (p : Params) (t : ℕ) (early : t < d) (within : d ≤ t + p .ondelay) where
     on-behind : (night held : Bool) (phase : Phase) → Behind unstopped d timed phase → Behind unstopped d false (on p night held t phase)
-    unfolding on
+    unfolding fromDark on
     on-behind night held Dark h = rw (ne-eqb (p .ondelay) 0 (λ none. omega arith)) (within, λ stops e. no e)
     on-behind night held (Starting other e) h = (h .0, λ stops e. no e)
 
     timed-start-behind : (phase : Phase) → Behind unstopped d timed phase → Behind unstopped d true (timedStart p t phase)
-    unfolding timedStart
+    unfolding fromDark timedStart
     timed-start-behind Dark h = rw (ne-eqb (p .ondelay) 0 (λ none. omega arith)) (within, λ stops e. refl)
     timed-start-behind (Starting other e) h = (h .0, λ stops e. refl)
 
@@ -395,7 +395,7 @@ lit-waits-for-nothing p false t d h = h
 -- an On that leaves a wait leaves a steady one, and has found a wait for the same moment, or Dark
 module _ (p : Params) (night held : Bool) (t d : ℕ) where
   on-leaves : (phase : Phase) → Waits d (on p night held t phase) → on p night held t phase ≡ Starting false d
-  unfolding on setOn
+  unfolding fromDark on setOn
   on-leaves Dark h =
       cond-case (λ (x : Phase). Waits d x → x ≡ Starting false d) (eqb (p .ondelay) 0) (litAt p night t) (Starting false (t + p .ondelay))
       (λ none w. absurd (lit-waits-for-nothing p night t d w)) (λ some w. ap (Starting false) w) h
@@ -405,7 +405,7 @@ module _ (p : Params) (night held : Bool) (t d : ℕ) where
   on-leaves (Ending e) h = absurd (lit-waits-for-nothing p (night && not held) t d h)
 
   on-found : (phase : Phase) → Waits d (on p night held t phase) → Behind false d false phase
-  unfolding on setOn
+  unfolding fromDark on setOn
   on-found Dark h = tt
   on-found (Starting timed e) h = (omega arith, λ stops lit. no lit)
   on-found (Timed e) h = absurd (lit-waits-for-nothing p (night && not held) t d h)
@@ -414,14 +414,14 @@ module _ (p : Params) (night held : Bool) (t d : ℕ) where
 
 -- a timed start leaves a timed one
 timed-start-leaves : (p : Params) (t d : ℕ) (phase : Phase) → Waits d (timedStart p t phase) → timedStart p t phase ≡ Starting true d
-unfolding timedStart
+unfolding fromDark timedStart litAt
 timed-start-leaves p t d Dark h =
     cond-case (λ (x : Phase). Waits d x → x ≡ Starting true d) (eqb (p .ondelay) 0) (Timed (t + p .timedon)) (Starting true (t + p .ondelay))
     (λ none w. absurd w) (λ some w. ap (Starting true) w) h
 timed-start-leaves p t d (Starting timed e) h = ap (Starting true) h
 
 timed-start-found : (p : Params) (t d : ℕ) (phase : Phase) → Waits d (timedStart p t phase) → Behind true d true phase
-unfolding timedStart
+unfolding fromDark timedStart
 timed-start-found p t d Dark h = tt
 timed-start-found p t d (Starting timed e) h = (omega arith, λ stops. no (sym stops))
 

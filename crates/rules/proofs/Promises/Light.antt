@@ -18,7 +18,7 @@ use Rattle.rules.specs.declared.input.Input.the-variants.{SwitchOnOff, T
 use Rattle.rules.specs.declared.state.State.{State}
 use Rattle.rules.specs.Scenes.{recalled}
 use Rattle.rules.specs.Phases.{output, deadline, litAt, atDeadline, setOn}
-use Rattle.rules.specs.Orders.{on, timedStart, held, switch, timed, recall, scene, order}
+use Rattle.rules.specs.Orders.{fromDark, on, timedStart, held, switch, timed, recall, scene, order}
 use Rattle.rules.specs.Steps.{fresh, ticked, clockMove, step, Quiet, fired}
 use Rattle.rules.specs.Lists.{Cue, cue, plays}
 use Rattle.rules.specs.Promises.{Rises, Turn, turn, turns, Each, stateAt, Taken, recallsOn, recallsOff, lights, dims, longestLight, NotBefore, ShowsLight, turnAfter, LightDue, LightPromise, StrongLightPromise}
@@ -109,10 +109,14 @@ module _ (p : Params) (some : 1 ≤ p .timedon) (a : ℕ) where
   wait-shines : (timed : Bool) (d : ℕ) → a < d → d ≤ a + p .ondelay → Shines p a (Starting timed d)
   wait-shines timed d after within = inr (d, refl, after, within)
 
+  from-dark-shines : (timed waits : Bool) → Shines p a (fromDark p timed waits a)
+  unfolding fromDark
+  from-dark-shines timed waits = cond-zero (Shines p a) (p .ondelay) _ _ (lit-shines timed) (λ delayed. wait-shines waits _ (omega arith) (omega arith))
+
   -- a wait that an earlier order began is still within that order's own delay
   on-shines : (night held ruled : Bool) (phase : Phase) → OverBy p ruled (a + longestLight p) phase → Quiet a (deadline phase) → Shines p a (on p night held a phase)
   unfolding on setOn
-  on-shines night held ruled Dark over quiet = cond-zero (Shines p a) (p .ondelay) _ _ (lit-shines night) (λ delayed. wait-shines false _ (omega arith) (omega arith))
+  on-shines night held ruled Dark over quiet = from-dark-shines night false
   on-shines night held ruled (Starting timed d) over quiet = wait-shines false d quiet (omega arith)
   on-shines night held ruled Lit over quiet = inl (refl, tt)
   on-shines night held ruled (Timed d) over quiet = lit-shines (night && not held)
@@ -121,7 +125,7 @@ module _ (p : Params) (some : 1 ≤ p .timedon) (a : ℕ) where
 
   timed-start-shines : (ruled : Bool) (phase : Phase) → OverBy p ruled (a + longestLight p) phase → Quiet a (deadline phase) → Shines p a (timedStart p a phase)
   unfolding timedStart litAt
-  timed-start-shines ruled Dark over quiet = cond-zero (Shines p a) (p .ondelay) _ _ (lit-shines true) (λ delayed. wait-shines true _ (omega arith) (omega arith))
+  timed-start-shines ruled Dark over quiet = from-dark-shines true true
   timed-start-shines ruled (Starting timed d) over quiet = wait-shines true d quiet (omega arith)
   timed-start-shines ruled Lit over quiet = lit-shines true
   timed-start-shines ruled (Timed d) over quiet = lit-shines true
