@@ -72,12 +72,9 @@ of-these-kinds k h =
     ⊎-elim (λ e. (omega arith, λ six. omega arith)) (⊎-elim (λ e. (omega arith, λ six. omega arith)) (⊎-elim (λ e. (omega arith, λ six. omega arith)) (λ e. (omega arith, λ six. omega arith)))) h
 
 kind-dims : (s : State) (i : Input) → (kind i ≡ 4) ⊎ (kind i ≡ 5) ⊎ (kind i ≡ 7) ⊎ (kind i ≡ 8) → dims s i ≡ true
-kind-dims s (SwitchOnOff true) h = absurd (omega (arith, of-these-kinds 1 h .0))
-kind-dims s (SwitchOnOff false) h = absurd (omega (arith, of-these-kinds 1 h .0))
-kind-dims s (TimedStartStop true) h = absurd (omega (arith, of-these-kinds 2 h .0))
-kind-dims s (TimedStartStop false) h = absurd (omega (arith, of-these-kinds 2 h .0))
-kind-dims s (NumberedSceneControl true number) h = absurd (omega (arith, of-these-kinds 3 h .0))
-kind-dims s (NumberedSceneControl false number) h = absurd (omega (arith, of-these-kinds 3 h .0))
+kind-dims s (SwitchOnOff value) h = absurd (omega (arith, of-these-kinds 1 h .0))
+kind-dims s (TimedStartStop value) h = absurd (omega (arith, of-these-kinds 2 h .0))
+kind-dims s (NumberedSceneControl learns number) h = absurd (omega (arith, of-these-kinds 3 h .0))
 kind-dims s (SwitchOnOffForced force) h = refl
 kind-dims s (LockDevice value) h = refl
 kind-dims s (NightMode value) h = absurd (of-these-kinds 6 h .1 refl)
@@ -93,12 +90,9 @@ dims-exactly-when s i = (dims-view s i, dims-whole s i)
 -- ---- "bus event [that] has mode On"
 
 bus-on-view : (s : State) (i : Input) → busOn s i ≡ true → BusOn s i
-bus-on-view s (SwitchOnOff true) h = no h
-bus-on-view s (SwitchOnOff false) h = no h
-bus-on-view s (TimedStartStop true) h = no h
-bus-on-view s (TimedStartStop false) h = no h
-bus-on-view s (NumberedSceneControl true number) h = no h
-bus-on-view s (NumberedSceneControl false number) h = no h
+bus-on-view s (SwitchOnOff value) h = no h
+bus-on-view s (TimedStartStop value) h = no h
+bus-on-view s (NumberedSceneControl learns number) h = no h
 bus-on-view s (SwitchOnOffForced force) h = no h
 bus-on-view s (LockDevice value) h = no h
 bus-on-view s (NightMode value) h = no h
