@@ -20,9 +20,9 @@ use Rattle.rules.proofs.Refusals.Readings.{bad-read, good-read}
 use Rattle.rules.proofs.Refusals.Files.{good-file, good-start}
 use Rattle.rules.proofs.Refusals.Runs.{a-bad-file-is-refused, a-short-buffer-is-refused, a-good-file-is-played}
 use Rattle.sensor.specs.declared.state.Sensor.{Sensor}
-use Rattle.pairs.specs.Lists.{Listed}
+use Rattle.pairs.specs.Lists.{Listed, actuatorPart}
 use Rattle.pairs.specs.Walls.{itemsRead}
-use Rattle.pairs.proofs.Halves.{actuatorPart, plainItems}
+use Rattle.pairs.proofs.Halves.{plainItems}
 use Rattle.pairs.proofs.Reading.{reads-plain, a-plain-list-is-the-actuators}
 use Rattle.runs.specs.declared.play.Ended.{Ended}
 use Rattle.player.specs.Playing.{Filled}

@@ -27,17 +27,13 @@ use Rattle.sensor.proofs.LastValue.{one-part-then-the-other}
 use Rattle.pairs.specs.declared.item.Item.{Item}
 use Rattle.pairs.specs.declared.item.Item.the-variants.{Plain, Button1, Button2}
 use Rattle.pairs.specs.Pairs.{Pair, shows, hears, PairMoved, pairMove, PairStepped, tell, told, pressed, pairStep}
-use Rattle.pairs.specs.Lists.{Listed, listed, PairPlayed, pairThen, pairMoved, pairStepped, pairPlays, pairPlaysTo, pairStart, playItems}
+use Rattle.pairs.specs.Lists.{Listed, listed, PairPlayed, actuatorPart, pairThen, pairMoved, pairStepped, pairPlays, pairPlaysTo, pairStart, playItems}
 use Rattle.pairs.specs.Halves.{ItemsRise, sentAs, cueOf, givenAt, cuesFor, given, answered, ActuatorHalf, ActuatorAlone, statuses, recordedBy, aroundEdge, signalsOf, signalsFor, spoken, SensorHalf, SensorAlone}
 use Rattle.pairs.proofs.Playing.{pair-plays-to-end, pair-plays-to-next}
 use Rattle.rules.proofs.Laws.Moments.{next-is-later}
 use Rattle.rules.proofs.Mistakes.Rank.{plays-by-way-of}
 
 -- ---- a list without edges
-
--- what the actuator has of it all
-abbrev pub actuatorPart : PairPlayed → Played
-actuatorPart a = record { state = a .pair .actuator; answers = a .answers; records = a .records }
 
 abbrev pub actuatorStep : PairStepped → Stepped
 actuatorStep d = record { state = d .pair .actuator; answer = d .answer; records = d .records }

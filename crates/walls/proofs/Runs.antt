@@ -17,13 +17,13 @@ use Rattle.rules.specs.Files.{inputCount, endTime, lentEnough}
 use Rattle.rules.proofs.Refusals.Readings.{bad-read, good-read}
 use Rattle.sensor.specs.Sensors.{freshSensor}
 use Rattle.pairs.specs.Lists.{Listed}
-use Rattle.pairs.specs.Walls.{fileIn, actionsIn, readWall, playWall, wallAccepted, wallRefusal, wallRefused, wallCall}
+use Rattle.pairs.specs.Walls.{fileIn, actionsIn, readWall, wallWhole, playWall, wallAccepted, wallRefusal, wallRefused, wallCall}
 use Rattle.pairs.proofs.Refusals.Walls.{good-wall, good-wall-is-read, a-bad-wall-is-refused, a-short-wall-buffer-is-refused, a-good-wall-is-played}
 use Rattle.runs.specs.declared.play.Ended.{Ended}
 use Rattle.player.specs.Playing.{Filled}
 use Rattle.runs.specs.Runs.{itemsIn, playIn, Fit}
 use Rattle.buffers.proofs.Splices.{splice-front}
-use Rattle.walls.specs.Reports.{wallReport, wallWhole}
+use Rattle.walls.specs.Reports.{wallReport}
 
 -- the items that the check of a list has found are those of its file
 pub wall-passed : (wall : List ℕ) → verdict (readWall wall) ≡ Passed → readWall wall ≡ cues (itemsIn (fileIn wall))

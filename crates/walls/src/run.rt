@@ -1,7 +1,7 @@
 // The run over a wall list.
 ghost use mathlib.Core.Path.{_≡_};
-ghost use Rattle.pairs.specs.Walls.{wallRefusal, wallCall};
-ghost use Rattle.walls.specs.Reports.{wallReport, wallWhole};
+ghost use Rattle.pairs.specs.Walls.{wallWhole, wallRefusal, wallCall};
+ghost use Rattle.walls.specs.Reports.{wallReport};
 use base::refusal::Check;
 use base::refusal::Refusal;
 use base::refusal::number_of;
