@@ -3,6 +3,7 @@
 use Prim.Native.Nat.{ℕ, _+_, _*_, _≤_}
 use mathlib.Core.List.{List, [], _∷_, _++_, append-nil}
 use mathlib.Core.Path.{_≡_, refl, sym, ap, _∙_}
+use native.Mathlib.Nat.{zero-add}
 use native.Mathlib.Omega.{arith}
 use lib.ListN.{length, take, length-append}
 use Rattle.octets.specs.Splice.{splice}
@@ -17,7 +18,6 @@ use Rattle.rules.specs.Readings.{cues, found, readInputs}
 use Rattle.base.specs.Time.{lastStamp}
 use Rattle.rules.proofs.Refusals.Files.{inputs-whole}
 use Rattle.rules.proofs.Refusals.Readings.{read-for-longer}
-use Rattle.pairs.specs.Walls.{itemIn}
 use Rattle.rules.specs.Runs.{recordOctets, recordsOctets}
 use Rattle.rules.proofs.Laws.Forms.{file-row}
 use Rattle.rules.proofs.Laws.Parameters.{passed-is-sound}
@@ -25,13 +25,14 @@ use Rattle.sensor.specs.declared.state.Sensor.{Sensor}
 use Rattle.sensor.specs.Reactions.{hear}
 use Rattle.pairs.specs.Pairs.{Pair, pairOf, hears, pairMove}
 use Rattle.pairs.specs.Lists.{PairPlayed, pairPlays, pairPlaysTo, playItems}
+use Rattle.pairs.specs.Walls.{itemIn, wallWhole, wallAccepted}
 use Rattle.pairs.proofs.Soundness.{sound-pair-exactly-when}
 use Rattle.lamps.specs.Lamps.{lampOf, alone}
 use Rattle.records.specs.Notes.{notes}
 use Rattle.timers.specs.declared.clock.Clocked.{Clocked}
 use Rattle.timers.specs.Ticks.{clocked}
 use Rattle.timers.proofs.Moves.{moved-count, moved-records}
-use Rattle.buffers.proofs.Splices.{records-one, records-more}
+use Rattle.buffers.proofs.Splices.{splice-front, records-one, records-more}
 use Rattle.turns.specs.Turns.{listened}
 use Rattle.turns.proofs.Turning.{all-heard}
 use Rattle.turns.proofs.Hearing.{put-is-heard}
@@ -128,3 +129,9 @@ module _ (file : List ℕ) (z : Sensor) (r r₁ : List ℕ) (first : r₁ ≡ sp
         records = rw whole three;
         answers = rw whole (f .answers);
       }
+
+-- what the buffers are then filled with is all that an accepted run hands out
+pub filled-is-accepted : (p : PairPlayed) (r a r₁ a₁ : List ℕ) (s : State) (z : Sensor) (k : ℕ) → Filled 0 p r a s z k r₁ a₁ →
+    wallWhole (record { state = s; sensor = z; code = 0; place = 0; count = k }) r₁ a₁ ≡ wallAccepted p r a
+unfolding wallAccepted
+filled-is-accepted p r a r₁ a₁ s z k f = rw (f .state, f .sensor, f .count, f .records, f .answers, splice-front r, splice-front a, zero-add) refl

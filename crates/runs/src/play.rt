@@ -4,13 +4,14 @@ ghost use Prim.Native.Nat.{_≤_};
 ghost use lib.ListN.{length};
 ghost use Rattle.rules.specs.Forms.{formIn};
 ghost use Rattle.rules.specs.Layout.{inputsAt, recordsRoom};
-ghost use Rattle.player.specs.Playing.{Filled};
+ghost use Rattle.pairs.specs.Walls.{wallWhole, wallAccepted};
 ghost use Rattle.runs.specs.Runs.{freshIn, playIn, Fit};
 use buffers::put::put_notes;
 use buffers::put::put_record;
 use lamps::lamp::lamp_of;
 use layout::inputs_in;
 use layout::parameters_in;
+use pairs::call::WallRan;
 use parameters::read::params_of;
 use parameters::read::scenes_of;
 use player::items::play_items;
@@ -22,13 +23,6 @@ use states::fresh::fresh_with;
 use timers::clock::move_clock;
 use turns::heard::listen;
 
-// Where it ends: the sensor has heard them all.
-pub struct Ended {
-    pub state: State,
-    pub sensor: Sensor,
-    pub count: u32,
-}
-
 // The fresh state of a file's own parameters and scenes.
 fn fresh_in(file: &[u8], form: Form) -> State
     requires { ⌜ (form ≡ formIn (now file)) × (inputsAt form ≤ length (now file)) ⌝ }
@@ -38,8 +32,9 @@ fn fresh_in(file: &[u8], form: Form) -> State
     fresh_with(params_of(parameters, form), scenes_of(parameters, form))
 }
 
-// The whole run, to an actuator with this sensor beside it: the start record, the items, and the clock's move to the end time.
-pub fn play(
+// The whole run, to an actuator with this sensor beside it: the start record, the items, and the clock's move to the end time; the sensor has heard
+// them all.
+pub(crate) fn play(
     file: &[u8],
     form: Form,
     first: Sensor,
@@ -47,9 +42,9 @@ pub fn play(
     end: u32,
     records: &mut [u8],
     answers: &mut [u8],
-) -> Ended
+) -> WallRan
     requires { ⌜ Fit (now file) form n end × (recordsRoom n ≤ length (now records)) × (n ≤ length (now answers)) ⌝ }
-    ensures { λ r. ⌜ Filled 0 (playIn (now (file .entry)) first) (now (records .entry)) (now (answers .entry)) (r .state) (r .sensor) (r .count) (now (records .exit)) (now (answers .exit)) ⌝ }
+    ensures { λ r. ⌜ wallWhole r (now (records .exit)) (now (answers .exit)) ≡ wallAccepted (playIn (now (file .entry)) first) (now (records .entry)) (now (answers .entry)) ⌝ }
 {
     let start = fresh_in(file, form);
     put_record(records, 0, record_of(0, lamp_of(start)));
@@ -61,9 +56,11 @@ pub fn play(
     let written = last.notes;
     put_notes(records, played.count, written);
     let count = played.count + (written.count as u32);
-    Ended {
+    WallRan {
         state,
         sensor: listen(records, count, z, played.heard),
+        code: 0,
+        place: 0,
         count,
     }
 }

@@ -12,7 +12,7 @@ use Rattle.player.specs.Playing.{Ready}
 use Rattle.rules.specs.Files.{inputsIn}
 use Rattle.runs.specs.Runs.{freshIn}
 use Rattle.timers.proofs.Moves.{moved-few}
-use Rattle.runs.proofs.Ends.{record-alone, fit-ready, ended}
+use Rattle.runs.proofs.Ends.{record-alone, fit-ready, ended, filled-is-accepted}
 use Rattle.runs.proofs.play.play.Statement.{statement}
 use Rattle.runs.proofs.play.play.Tie as tie
 
@@ -63,7 +63,7 @@ returns c =
     let a = c .before .before .before .before .before .before .before .before .before .before .before .before .before .before .before .before .before .before .before .before .before .before .before .before .before .before .before .before .before .before .before in
     let items = c .before .before .before .before .before .before .before .before .before .before .before .before .before .before .before .before .before .play-items in
     rw (c .listen .ensures)
-    (ended _ _ _ _ (begun (c .before .before .before .before .before .before .before .before .before .before .before .before .before .before .before .before .before .before .before .before .before .before .before)) _ _ _ (a .pre .0) _ _ _ _ _ _ _ _ (items .ensures .behind) (omega (arith, items .ensures .few, items .kept .1 .1 .1 .1 .1 .0, c .before .before .before .before .before .before .before .before .before .before .before .before .before .before .before .before .before .before .before .before .before .before .before .put-record .kept .0, a .pre .1)) (rw (c .before .before .before .before .before .before .before .before .before .before .before .before .before .before .before .before .before .before .before .before .before .before .before .before .before .before .before .fresh-in .ensures, c .before .before .before .before .before .before .before .before .before .before .before .before .before .before .before .before .before .before .before .before .inputs-in .ensures) at (items .ensures .filled)) _ (c .before .before .before .before .before .before .before .before .before .before .move-clock .ensures) (c .before .before .before .before .before .before .put-notes .ensures))
+    (filled-is-accepted _ _ _ _ _ _ _ _ (ended _ _ _ _ (begun (c .before .before .before .before .before .before .before .before .before .before .before .before .before .before .before .before .before .before .before .before .before .before .before)) _ _ _ (a .pre .0) _ _ _ _ _ _ _ _ (items .ensures .behind) (omega (arith, items .ensures .few, items .kept .1 .1 .1 .1 .1 .0, c .before .before .before .before .before .before .before .before .before .before .before .before .before .before .before .before .before .before .before .before .before .before .before .put-record .kept .0, a .pre .1)) (rw (c .before .before .before .before .before .before .before .before .before .before .before .before .before .before .before .before .before .before .before .before .before .before .before .before .before .before .before .fresh-in .ensures, c .before .before .before .before .before .before .before .before .before .before .before .before .before .before .before .before .before .before .before .before .inputs-in .ensures) at (items .ensures .filled)) _ (c .before .before .before .before .before .before .before .before .before .before .move-clock .ensures) (c .before .before .before .before .before .before .put-notes .ensures)))
 
 pub play-spec : {M : Type 1} → statement M
 play-spec =
