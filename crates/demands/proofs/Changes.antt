@@ -531,7 +531,7 @@ module _ (s : State) (inputs r a : List ℕ) where
   pub every-change-is-answered : ChangeAnswered s inputs r a (changeCall s inputs r a)
   unfolding changed
   every-change-is-answered =
-      by-check (ChangeAnswered s inputs r a) (λ safe good room. played (singles-met safe) (stands s inputs r a safe good room)) (λ why one. inr (inl (one, record { state = refl; place = refl; count = refl; records = refl; answers = refl })))
+      by-check (ChangeAnswered s inputs r a) (λ safe good room. played (singles-met safe) (stands s inputs r a safe good room)) (λ why one. inr (inl (one, record { untouched = record { records = refl; answers = refl; count = refl; state = refl }; place = refl })))
     where
       played : {c : Singles} → Met c → ((c .code ≡ 0 → ⊥) → RefusedFrom s inputs r a (c .place)) → ChangeAnswered s inputs r a (changed c r a)
       played (all-played p clock) from = inl refl

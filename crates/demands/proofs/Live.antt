@@ -421,10 +421,11 @@ module _ (state inputs r a : List ℕ) (is : isImage state ≡ true) where
   image-refused : Among (w .report .code) (9 ∷ 12 ∷ 8 ∷ []) → (placeIn (houseChange state inputs r a .number) ≡ 0) × AsLent state r a (houseChange state inputs r a)
   unfolding imaged
   image-refused one =
-      let n = refused-as-a-whole (stateIn state) inputs r a one in
+      let whole = refused-as-a-whole (stateIn state) inputs r a one in
+      let n = whole .untouched in
       let c = an-image-is-changed state inputs r a is in
       let t = the-change-number-is-taken-apart state inputs r a is in (
-        t .place ∙ n .place,
+        t .place ∙ whole .place,
         record { count = t .count ∙ n .count; state = rw c (ap image (n .state) ∙ accepted-is-the-image state is); records = rw c (n .records); answers = rw c (n .answers) },
       )
 

@@ -2,7 +2,7 @@
 use Prim.Native.Nat.{ℕ, _+_, _*_, _≤_}
 use mathlib.Core.Bool.{Bool, true, false, cond}
 use mathlib.Core.Path.{_≡_, refl, sym, ap, _∙_}
-use mathlib.Core.Logic.{_⊎_, inl, inr}
+use mathlib.Core.Logic.{inl, inr}
 use mathlib.Core.List.{List, [], _∷_, _++_, append-assoc}
 use mathlib.Core.Option.{Option}
 use native.Mathlib.Omega.{arith}
@@ -18,14 +18,14 @@ use Rattle.rules.specs.Status.{recordOf, sameStatus, written}
 use Rattle.rules.specs.Steps.{fresh, ticked, clockMove, step}
 use Rattle.rules.specs.Lists.{Cue, cue, Played, plays, playsTo}
 use Rattle.base.specs.Refusals.{number, codeOf, placeOf}
-use Rattle.rules.specs.Calls.{singleDone, singleRefused, singleCall}
+use Rattle.rules.specs.Calls.{ownState, singleDone, singleRefused, singleCall}
 use Rattle.rules.specs.Readings.{Reading, cues, bad, ifLentEnough, verdict}
 use Rattle.rules.specs.Files.{inputCount, endTime, readFile, lentFor, lentEnough, readCall, paramsIn, scenesIn}
 use Rattle.octets.specs.BigEndian.{octets32}
 use Rattle.octets.proofs.BothWays.{what-is-written-is-read}
 use Rattle.rules.specs.Runs.{recordOctets, recordsOctets, over, Whole, playFile, accepted, refused, runCall}
 use Rattle.rules.specs.Promises.{DarkShown, LightStamped}
-use Rattle.demands.specs.Demands.{Model, AnswersAll, Untouched, RefusesCleanly, StaysWithin, HandedBack, SingleAnswers, Holds, PlaysAll, changed, changedByTimers, changes, CountsChanges, recordsIn, recordsOf, Keeps, Meets}
+use Rattle.demands.specs.Demands.{Model, Among, AnswersAll, Untouched, RefusesCleanly, StaysWithin, HandedBack, SingleAnswers, Holds, PlaysAll, changed, changedByTimers, changes, CountsChanges, recordsIn, recordsOf, Keeps, Meets}
 use Rattle.base.proofs.Codes.{some-number}
 use Rattle.rules.specs.Refusals.{StartWhen, InputsWhen, GivenWhen}
 use Rattle.rules.proofs.Refusals.Calls.{SingleFinds, single-finds, single-refusal-changes-nothing, single-place-is-zero}
@@ -85,15 +85,14 @@ our-run-refuses-cleanly file records answers refused =
 
 -- ---- 1, of every single input
 
-our-single-input-is-numbered : (s : State) (octets : List ℕ) →
-    (singleCall s octets .code ≡ 0) ⊎ (singleCall s octets .code ≡ 6) ⊎ (singleCall s octets .code ≡ 7) ⊎ (singleCall s octets .code ≡ 9)
+our-single-input-is-numbered : (s : State) (octets : List ℕ) → Among (singleCall s octets .code) (0 ∷ 6 ∷ 7 ∷ 9 ∷ [])
 our-single-input-is-numbered s octets = by (single-finds s octets)
   where
-    by : {r : Single} → SingleFinds s octets r → (r .code ≡ 0) ⊎ (r .code ≡ 6) ⊎ (r .code ≡ 7) ⊎ (r .code ≡ 9)
+    by : {r : Single} → SingleFinds s octets r → Among (r .code) (0 ∷ 6 ∷ 7 ∷ 9 ∷ [])
     by (SingleFinds.plays i h m t) = unfold singleDone in inl refl
     by (SingleFinds.wrong h m) = unfold singleRefused in inr (inl refl)
     by (SingleFinds.untimely i h m t) = unfold singleRefused in inr (inr (inl refl))
-    by (SingleFinds.not-sound h) = unfold singleRefused in inr (inr (inr refl))
+    by (SingleFinds.not-sound h) = unfold singleRefused in inr (inr (inr (inl refl)))
 
 our-single-input-is-handed-back : (s : State) (octets : List ℕ) → (singleCall s octets .code ≡ 0 → ⊥) → HandedBack s (singleCall s octets)
 our-single-input-is-handed-back s octets refused =
@@ -209,7 +208,7 @@ not-zero {A} x why place code read judged zero = let table : code ≡ number why
 -- is played.
 pub record Settled {A : Type 0} (x : Reading A) (play : List A → Played) (count : List A → ℕ) (records answers : List ℕ) (w : Whole) : Type 0 where
   pub judged : (w .report .code ≡ codeOf (verdict x)) × (w .report .place ≡ placeOf (verdict x))
-  pub refused : (w .report .code ≡ 0 → ⊥) → Untouched records answers w
+  pub refused : (w .report .code ≡ 0 → ⊥) → Untouched ownState records answers w
   pub played : (list : List A) → x ≡ cues list → Holds records answers (play list) w
   pub counted : (list : List A) → x ≡ cues list → w .report .count ≡ count list
 

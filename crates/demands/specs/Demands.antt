@@ -39,17 +39,17 @@ Among n (one ∷ others) = (n ≡ one) ⊎ Among n others
 abbrev pub AnswersAll : Model → Type 0
 AnswersAll m = (file records answers : List ℕ) → m file records answers .report .code ≤ 8
 
--- both buffers are as they were lent, no record is counted, and the state is a refusal's own: "Where no state was handed in, a
--- refusal's state is the fresh one with TimedOn 1 second, other times and modes 0, no scenes."
-pub record Untouched (lentRecords lentAnswers : List ℕ) (w : Whole) : Type 0 where
+-- both buffers are as they were lent, no record is counted, and the state is this one
+pub record Untouched (given : State) (lentRecords lentAnswers : List ℕ) (w : Whole) : Type 0 where
   pub records : w .records ≡ lentRecords
   pub answers : w .answers ≡ lentAnswers
   pub count : w .report .count ≡ 0
-  pub state : w .report .state ≡ ownState
+  pub state : w .report .state ≡ given
 
--- "A refused call writes nothing to the lent memory and hands back the state it was given."
+-- "A refused call writes nothing to the lent memory and hands back the state it was given."; "Where no state was handed in, a refusal's state is
+-- the fresh one with TimedOn 1 second, other times and modes 0, no scenes."
 abbrev pub RefusesCleanly : Model → Type 0
-RefusesCleanly m = (file records answers : List ℕ) → (m file records answers .report .code ≡ 0 → ⊥) → Untouched records answers (m file records answers)
+RefusesCleanly m = (file records answers : List ℕ) → (m file records answers .report .code ≡ 0 → ⊥) → Untouched ownState records answers (m file records answers)
 
 -- 01: "two lent octet buffers": what is lent keeps its length, so that nothing is written past its end
 abbrev pub StaysWithin : Model → Type 0
@@ -65,7 +65,7 @@ pub record HandedBack (given : State) (r : Single) : Type 0 where
 -- the same of any call that plays a single input, from a state and eight octets by value: ".. and each single input to a state,
 -- gets a numbered answer" ("For a single input 9, 6, 7, place 0."), and a refused one "hands back the state it was given"
 pub record SingleAnswers (call : State → List ℕ → Single) : Type 0 where
-  pub numbered : (s : State) (octets : List ℕ) → (call s octets .code ≡ 0) ⊎ (call s octets .code ≡ 6) ⊎ (call s octets .code ≡ 7) ⊎ (call s octets .code ≡ 9)
+  pub numbered : (s : State) (octets : List ℕ) → Among (call s octets .code) (0 ∷ 6 ∷ 7 ∷ 9 ∷ [])
   pub placed : (s : State) (octets : List ℕ) → call s octets .place ≡ 0
   pub handed-back : (s : State) (octets : List ℕ) → (call s octets .code ≡ 0 → ⊥) → HandedBack s (call s octets)
 
