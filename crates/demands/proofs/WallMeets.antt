@@ -20,7 +20,7 @@ use Rattle.pairs.specs.Walls.{fileIn, readWall, readWallCall, WallWhole, playWa
 use Rattle.pairs.specs.Refusals.{WallWhen}
 use Rattle.pairs.proofs.Refusals.Walls.{wall-decides, WallFinds, at-fault, no-room, played, wall-finds, wall-is-read, a-good-wall-is-played, a-refused-wall-writes-nothing, wall-count, wall-answers-are-n}
 use Rattle.demands.specs.Demands.{RefusesCleanly, StaysWithin, recordsOf}
-use Rattle.demands.specs.Walls.{wallParams, wallScenes, wallEnd, cuesGiven, WallModel, actuatorsRun, WallAnswersAll, RefusesIdle, WallPlaysAll, WallKeeps, WallMeets}
+use Rattle.demands.specs.Walls.{wallParams, wallScenes, wallEnd, cuesGiven, WallModel, actuatorsRun, WallAnswersAll, WallRefusesIdle, WallPlaysAll, WallKeeps, WallMeets}
 use Rattle.demands.proofs.WallShown.{dark-shown-in-every-accepted-wall, light-stamped-in-every-accepted-wall}
 use Rattle.demands.proofs.Meets.{start-numbered, inputs-numbered, records-read-back, stays-as-long, if-accepted, not-zero, Settled, settled-is-one}
 
@@ -46,7 +46,7 @@ our-wall-run-refuses-cleanly : RefusesCleanly (actuatorsRun wallCall)
 our-wall-run-refuses-cleanly wall records answers refused =
     rw (a-refused-wall-writes-nothing wall records answers refused) (record { records = refl; answers = refl; count = refl; state = refl })
 
-our-wall-run-refuses-idle : RefusesIdle wallCall
+our-wall-run-refuses-idle : WallRefusesIdle wallCall
 our-wall-run-refuses-idle wall records answers refused = rw (a-refused-wall-writes-nothing wall records answers refused)
 
 our-wall-run-stays-within : StaysWithin (actuatorsRun wallCall)
@@ -77,7 +77,7 @@ module _ (wall records answers : List ℕ) (items : List Listed) (read : readWal
 our-wall-run-plays-all : WallPlaysAll wallCall
 unfolding wallAccepted
 our-wall-run-plays-all wall records answers items read =
-    rw (our-wall-run-is-played wall records answers items read) (record { actuators = record { state = refl; records = refl; answers = refl }; sensor = refl; count = refl })
+    rw (our-wall-run-is-played wall records answers items read) (record { actuator = record { state = refl; records = refl; answers = refl }; sensor = refl; count = refl })
 
 -- what the records of every accepted list keep
 our-wall-run-keeps : (Promise : Params → List Scene → List Cue → ℕ → List Record → Type 0) →
@@ -108,7 +108,7 @@ with-its-sensor w x same sensor =
 module _ (wall records answers : List ℕ) where
   settled : (m : WallModel) → WallMeets m →
       Settled (readWallCall wall records answers) (λ items. actuatorPart (playWall wall items)) (λ items. length (playWall wall items .records)) records answers (actuatorsRun m wall records answers)
-  settled m f = record { judged = f .judges wall records answers; refused = f .refuses-cleanly wall records answers; played = λ items read. f .plays-all wall records answers items read .actuators; counted = λ items read. f .plays-all wall records answers items read .count }
+  settled m f = record { judged = f .judges wall records answers; refused = f .refuses-cleanly wall records answers; played = λ items read. f .plays-all wall records answers items read .actuator; counted = λ items read. f .plays-all wall records answers items read .count }
 
   one-sensor : (m n : WallModel) → WallMeets m → WallMeets n → m wall records answers .report .sensor ≡ n wall records answers .report .sensor
   one-sensor m n f g = by (readWallCall wall records answers) refl

@@ -52,6 +52,6 @@ module _ (old new : List ℕ) (same : SameShow (fileIn old) (fileIn new)) (actio
       let p = walls-played-alike items in
       rw (a-good-wall-is-played old records answers items read room, a-good-wall-is-played new records answers items (walls-accepted-alike items .0 read) enough)
       (unfold wallAccepted in record {
-        actuators = unfold accepted in handed-out-alike 2 (actuatorPart (playWall old items)) (actuatorPart (playWall new items)) records answers (record { state = ap (λ (x : Pair). x .actuator) (p .pair); answers = p .answers; records = p .records });
+        actuator = unfold accepted in handed-out-alike 2 (actuatorPart (playWall old items)) (actuatorPart (playWall new items)) records answers (record { state = ap (λ (x : Pair). x .actuator) (p .pair); answers = p .answers; records = p .records });
         sensor = ap (λ (x : Pair). x .sensor) (p .pair);
       })

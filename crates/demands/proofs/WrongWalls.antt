@@ -67,7 +67,7 @@ hasty-leaves-it-dark = refl
 its-end : (item : ItemRule) (move : MoveRule) → WallPlaysAll (wallRunBy item move) → (t : ℕ) → readWallCall (pressAt t) room room ≡ cues (itemsAt t) →
     output (wallPlayedBy item move (pressAt t) (itemsAt t) .pair .actuator .phase) ≡ output (playWall (pressAt t) (itemsAt t) .pair .actuator .phase)
 unfolding wallRunBy wallReadBy wallAccepted
-its-end item move plays t read = ap (λ (s : State). output (s .phase)) (rw read at (plays (pressAt t) room room (itemsAt t) read .actuators .state))
+its-end item move plays t read = ap (λ (s : State). output (s .phase)) (rw read at (plays (pressAt t) room room (itemsAt t) read .actuator .state))
 
 pub the-run-that-hears-no-record-breaks-demand-2 : WallPlaysAll deafWallRun → ⊥
 unfolding deafWallRun

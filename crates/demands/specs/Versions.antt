@@ -69,5 +69,5 @@ pub record RanAlike (v : ℕ) (old new : Whole) : Type 0 where
 
 -- and with the same sensor beside it
 pub record WallRanAlike (v : ℕ) (old new : WallWhole) : Type 0 where
-  pub actuators : RanAlike v (withoutSensor old) (withoutSensor new)
+  pub actuator : RanAlike v (withoutSensor old) (withoutSensor new)
   pub sensor : new .report .sensor ≡ old .report .sensor

@@ -52,12 +52,12 @@ abbrev pub WallAnswersAll : WallModel → Type 0
 WallAnswersAll m = (wall records answers : List ℕ) → (m wall records answers .report .code ≤ 8) ⊎ (m wall records answers .report .code ≡ 11)
 
 -- the sensor of a refused call is a refusal's own too
-abbrev pub RefusesIdle : WallModel → Type 0
-RefusesIdle m = (wall records answers : List ℕ) → (m wall records answers .report .code ≡ 0 → ⊥) → m wall records answers .report .sensor ≡ ownSensor
+abbrev pub WallRefusesIdle : WallModel → Type 0
+WallRefusesIdle m = (wall records answers : List ℕ) → (m wall records answers .report .code ≡ 0 → ⊥) → m wall records answers .report .sensor ≡ ownSensor
 
 -- 2: what the pair played: both end states, how much was recorded, and both buffers
 pub record WallHolds (lentRecords lentAnswers : List ℕ) (p : PairPlayed) (w : WallWhole) : Type 0 where
-  pub actuators : Holds lentRecords lentAnswers (actuatorPart p) (withoutSensor w)
+  pub actuator : Holds lentRecords lentAnswers (actuatorPart p) (withoutSensor w)
   pub sensor : w .report .sensor ≡ p .pair .sensor
   pub count : w .report .count ≡ length (p .records)
 
@@ -73,7 +73,7 @@ WallKeeps Promise m =
 pub record WallMeets (m : WallModel) : Type 0 where
   pub answers-all : WallAnswersAll m
   pub refuses-cleanly : RefusesCleanly (actuatorsRun m)
-  pub refuses-idle : RefusesIdle m
+  pub refuses-idle : WallRefusesIdle m
   pub stays-within : StaysWithin (actuatorsRun m)
   pub judges : Judges readWallCall (actuatorsRun m)
   pub plays-all : WallPlaysAll m
