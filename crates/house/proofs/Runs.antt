@@ -10,7 +10,6 @@ use Rattle.rules.specs.Lists.{Cue, Played}
 use Rattle.rules.specs.Readings.{Reading, cues, found, verdict}
 use Rattle.rules.specs.Files.{inputCount, endTime, inputsIn, readFile, lentEnough}
 use Rattle.rules.specs.Runs.{whole, playFile, accepted, refusal, refused, runCall}
-use Rattle.rules.specs.Refusals.{GoodStart}
 use Rattle.rules.proofs.Refusals.Readings.{bad-read, good-read}
 use Rattle.rules.proofs.Refusals.Files.{good-file, good-start}
 use Rattle.rules.proofs.Refusals.Runs.{a-bad-file-is-refused, a-short-buffer-is-refused, a-good-file-is-played}
@@ -19,7 +18,7 @@ use Rattle.pairs.specs.Lists.{Listed, actuatorPart}
 use Rattle.pairs.specs.Walls.{itemsRead, WallWhole, wallAccepted, wallRefused, withoutSensor}
 use Rattle.pairs.proofs.Halves.{plainItems}
 use Rattle.pairs.proofs.Reading.{reads-plain, a-plain-list-is-the-actuators}
-use Rattle.runs.specs.Runs.{itemsIn, playIn, ranIn}
+use Rattle.runs.specs.Runs.{itemsIn, playIn, ranIn, Fit}
 
 -- what the check of a file has found
 unfoldable pub listIn : List ℕ → List Cue
@@ -39,8 +38,8 @@ module _ (file : List ℕ) (read : readFile file ≡ cues (listIn file)) where
   unfolding itemsIn
   items-are-cues = ap (λ (x : Reading Listed). found x) items-read
 
-  pub file-reads : GoodStart file × (itemsRead file ≡ cues (itemsIn file))
-  file-reads = (good-file file (listIn file) read .start, items-read ∙ ap (λ (l : List Listed). cues l) (sym items-are-cues))
+  pub file-fits : Fit file
+  file-fits = record { start = good-file file (listIn file) read .start; reads = items-read ∙ ap (λ (l : List Listed). cues l) (sym items-are-cues) }
 
   -- and its run is the actuator's, whatever sensor stands beside it
   pub played-alone : (z : Sensor) → playFile file (listIn file) ≡ actuatorPart (playIn file z)

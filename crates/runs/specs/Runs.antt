@@ -4,12 +4,10 @@ use mathlib.Core.Bool.{cond}
 use mathlib.Core.List.{List}
 use mathlib.Core.Path.{_≡_}
 use Rattle.base.specs.declared.refusal.Refusal.the-variants.{ShortBuffer}
-use Rattle.rules.specs.declared.form.Form.{Form}
 use Rattle.rules.specs.declared.state.State.{State}
-use Rattle.rules.specs.Forms.{formIn}
 use Rattle.rules.specs.Steps.{fresh}
 use Rattle.rules.specs.Readings.{cues, found}
-use Rattle.rules.specs.Files.{inputCount, endTime, lentEnough, paramsIn, scenesIn}
+use Rattle.rules.specs.Files.{lentEnough, paramsIn, scenesIn}
 use Rattle.rules.specs.Refusals.{GoodStart}
 use Rattle.sensor.specs.declared.state.Sensor.{Sensor}
 use Rattle.pairs.specs.Lists.{Listed, PairPlayed}
@@ -31,10 +29,7 @@ playIn file z = playOver file z (itemsIn file)
 unfoldable pub ranIn : List ℕ → Sensor → List ℕ → List ℕ → WallWhole
 ranIn file z records answers = cond (lentEnough file records answers) (wallAccepted (playIn file z) records answers) (wallRefused ShortBuffer 0 records answers)
 
--- nothing is wrong with the file, and these are the row of its version, its count of inputs and its end time
-pub record Fit (file : List ℕ) (form : Form) (n end : ℕ) : Type 0 where
+-- nothing is wrong with the file
+pub record Fit (file : List ℕ) : Type 0 where
   pub start : GoodStart file
-  pub row : form ≡ formIn file
   pub reads : itemsRead file ≡ cues (itemsIn file)
-  pub inputs : n ≡ inputCount file
-  pub ends : end ≡ endTime file

@@ -1,15 +1,11 @@
 // The run over a checked list, cue file or wall list.
 ghost use mathlib.Core.Path.{_≡_};
-ghost use Rattle.rules.specs.Readings.{cues};
-ghost use Rattle.rules.specs.Refusals.{GoodStart};
-ghost use Rattle.pairs.specs.Walls.{itemsRead, wallWhole, wallRefusal};
-ghost use Rattle.runs.specs.Runs.{itemsIn, ranIn};
+ghost use Rattle.pairs.specs.Walls.{wallWhole, wallRefusal};
+ghost use Rattle.runs.specs.Runs.{ranIn, Fit};
 use crate::play::play;
 use base::refusal::Refusal;
 use base::refusal::number_of;
 use buffers::put::is_roomy;
-use cues::header::end_time;
-use cues::header::form_in;
 use cues::header::input_count;
 use pairs::call::WallRan;
 use sensor::state::Sensor;
@@ -31,14 +27,11 @@ pub fn refused(why: Refusal, place: u16) -> WallRan
 
 // A list with nothing wrong in it, to an actuator with this sensor beside it: a short buffer is refused, and then both are left as they were.
 pub fn run_checked(file: &[u8], first: Sensor, records: &mut [u8], answers: &mut [u8]) -> WallRan
-    requires { ⌜ GoodStart (now file) × (itemsRead (now file) ≡ cues (itemsIn (now file))) ⌝ }
+    requires { ⌜ Fit (now file) ⌝ }
     ensures { λ r. ⌜ wallWhole r (now (records .exit)) (now (answers .exit)) ≡ ranIn (now (file .entry)) first (now (records .entry)) (now (answers .entry)) ⌝ }
 {
-    let n = input_count(file);
-    if is_roomy(n, records.len(), answers.len()) {
-        let form = form_in(file);
-        let end = end_time(file);
-        play(file, form, first, n, end, records, answers)
+    if is_roomy(input_count(file), records.len(), answers.len()) {
+        play(file, first, records, answers)
     } else {
         refused(Refusal::ShortBuffer, 0)
     }

@@ -7,13 +7,12 @@ use Rattle.base.specs.declared.refusal.Check.the-variants.{Passed, Refused}
 use Rattle.base.proofs.Tests.{cond-case}
 use Rattle.rules.specs.Readings.{Reading, cues, found, verdict}
 use Rattle.rules.specs.Files.{lentEnough}
-use Rattle.rules.specs.Refusals.{GoodStart}
 use Rattle.rules.proofs.Refusals.Readings.{bad-read, good-read}
 use Rattle.sensor.specs.Sensors.{freshSensor}
 use Rattle.pairs.specs.Lists.{Listed}
-use Rattle.pairs.specs.Walls.{fileIn, actionsIn, itemsRead, readWall, WallWhole, wallWhole, playWall, wallRefusal, wallRefused, wallCall}
+use Rattle.pairs.specs.Walls.{fileIn, actionsIn, readWall, WallWhole, wallWhole, playWall, wallRefusal, wallRefused, wallCall}
 use Rattle.pairs.proofs.Refusals.Walls.{good-wall, good-wall-is-read, a-bad-wall-is-refused, a-short-wall-buffer-is-refused, a-good-wall-is-played}
-use Rattle.runs.specs.Runs.{itemsIn, playIn, ranIn}
+use Rattle.runs.specs.Runs.{itemsIn, playIn, ranIn, Fit}
 
 -- the items that the check of a list has found are those of its file
 pub wall-passed : (wall : List ℕ) → verdict (readWall wall) ≡ Passed → readWall wall ≡ cues (itemsIn (fileIn wall))
@@ -22,8 +21,8 @@ wall-passed wall e =
     let read = good-read (readWall wall) e in
     read ∙ ap (λ (x : Reading Listed). cues (found x)) (good-wall-is-read wall (good-wall wall _ read))
 
-pub wall-reads : (wall : List ℕ) → readWall wall ≡ cues (itemsIn (fileIn wall)) → GoodStart (fileIn wall) × (itemsRead (fileIn wall) ≡ cues (itemsIn (fileIn wall)))
-wall-reads wall read = let good = good-wall wall _ read in (good .start, sym (good-wall-is-read wall good) ∙ read)
+pub wall-fits : (wall : List ℕ) → readWall wall ≡ cues (itemsIn (fileIn wall)) → Fit (fileIn wall)
+wall-fits wall read = let good = good-wall wall _ read in record { start = good .start; reads = sym (good-wall-is-read wall good) ∙ read }
 
 module _ (wall r a : List ℕ) where
   pub run-refused : (why : Refusal) (place : ℕ) → verdict (readWall wall) ≡ Refused why place → wallWhole (wallRefusal why place) r a ≡ wallCall wall r a

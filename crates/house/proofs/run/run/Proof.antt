@@ -4,7 +4,7 @@ use borrow.Author.Needs.{needs}
 use Rattle.rules.specs.Readings.{cues}
 use Rattle.rules.specs.Files.{readFile}
 use Rattle.pairs.specs.Walls.{withoutSensor}
-use Rattle.house.proofs.Runs.{listIn, file-passed, file-reads, run-refused, run-passed}
+use Rattle.house.proofs.Runs.{listIn, file-passed, file-fits, run-refused, run-passed}
 use Rattle.house.proofs.run.run.Statement.{statement}
 use Rattle.house.proofs.run.run.Tie as tie
 
@@ -30,7 +30,7 @@ run-spec =
     (λ c κs. search needs)
     (λ c. search needs)
     (λ c κs. search needs)
-    (λ c κs. file-reads _ (read (c .before .before .before)))
+    (λ c κs. file-fits _ (read (c .before .before .before)))
     (λ c κs. search needs)
     returns
     (λ c. search needs)

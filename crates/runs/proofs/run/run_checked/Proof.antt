@@ -9,15 +9,12 @@ use Rattle.runs.proofs.run.run_checked.Tie as tie
 
 play-requires : tie.Need-play-requires
 play-requires c κs =
-    let good = c .before .before .before .before .before .before .before .before .before .before .pre in
-    let room = enough-room _ _ _ (sym (c .before .before .before .before .before .is-roomy .ensures) ∙ c .before .before .before .before .if1 .taken) in
-    (record { start = good .0; row = c .before .before .before .form-in .ensures; reads = good .1; inputs = c .before .before .before .before .before .before .input-count .ensures; ends = c .before .before .end-time .ensures }, room .0, room .1)
+    let room = enough-room _ _ _ (rw (c .before .before .before .before .input-count .ensures) at (sym (c .before .before .before .is-roomy .ensures) ∙ c .before .before .if1 .taken)) in
+    (c .before .before .before .before .before .before .before .before .pre, room .0, room .1)
 
 returns : tie.Need-returns
 unfolding ranIn lentEnough
-returns c =
-    c .before .before .before .before .play .ensures
-    ∙ rw (← c .before .before .before .before .before .before .before .before .before .before .before .input-count .ensures, sym (c .before .before .before .before .before .before .before .before .before .before .is-roomy .ensures) ∙ c .before .before .before .before .before .before .before .before .before .if1 .taken) refl
+returns c = c .before .before .before .before .play .ensures ∙ rw (← c .before .before .before .before .before .before .before .before .before .input-count .ensures, sym (c .before .before .before .before .before .before .before .before .is-roomy .ensures) ∙ c .before .before .before .before .before .before .before .if1 .taken) refl
 
 returns-2 : tie.Need-returns-2
 unfolding ranIn lentEnough wallRefused
@@ -27,8 +24,6 @@ pub run-checked-spec : {M : Type 1} → statement M
 run-checked-spec =
     tie.close
     (tie.spec
-    (λ c κs. search needs)
-    (λ c κs. search needs)
     (λ c κs. search needs)
     (λ c κs. search needs)
     play-requires

@@ -8,7 +8,7 @@ use Rattle.rules.specs.Readings.{cues}
 use Rattle.pairs.specs.Walls.{fileIn, readWall}
 use Rattle.pairs.proofs.Refusals.Walls.{actions-length, good-wall}
 use Rattle.runs.specs.Runs.{itemsIn}
-use Rattle.walls.proofs.Runs.{wall-passed, wall-reads, run-refused, run-passed}
+use Rattle.walls.proofs.Runs.{wall-passed, wall-fits, run-refused, run-passed}
 use Rattle.walls.proofs.run.run_wall.Statement.{statement}
 use Rattle.walls.proofs.run.run_wall.Tie as tie
 
@@ -39,7 +39,7 @@ run-wall-spec =
     (λ c κs. long c)
     (λ c κs. rw (c .actions-in .ensures) (omega (arith, actions-length (now (c .before .before .before .before .before .before .before .args .wall)) (long (c .before)))))
     (λ c κs. long (c .before .before))
-    (λ c κs. rw (c .before .before .file-in .ensures) (wall-reads _ (read (c .before .before .before .before .before))))
+    (λ c κs. rw (c .before .before .file-in .ensures) (wall-fits _ (read (c .before .before .before .before .before))))
     returns
     (λ c. search needs)
     (λ c. search needs)
