@@ -22,10 +22,10 @@ use Rattle.rules.proofs.Refusals.Runs.{narrow-input}
 use Rattle.rules.proofs.Refusals.Changes.{ends, changeRead, all-are-played, played-up-to, looked-at-exactly-when}
 use Rattle.sensor.specs.Sensors.{ownSensor}
 use Rattle.pairs.specs.Pairs.{Pair, pairOf}
-use Rattle.pairs.specs.Lists.{pairPlays}
+use Rattle.pairs.specs.Lists.{actuatorPart, pairPlays}
 use Rattle.pairs.specs.Calls.{pairSound}
 use Rattle.pairs.specs.Walls.{itemIn}
-use Rattle.pairs.proofs.Halves.{actuatorPart, plainItems, plain-plays}
+use Rattle.pairs.proofs.Halves.{plainItems, plain-plays}
 use Rattle.pairs.proofs.Reading.{reads-plain}
 use Rattle.pairs.proofs.Soundness.{sound-pair-exactly-when}
 use Rattle.buffers.proofs.Splices.{splice-front}

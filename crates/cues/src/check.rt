@@ -1,6 +1,6 @@
 // The check of a whole file: the first thing that is wrong, in the order of the refusal numbers.
 ghost use mathlib.Core.Path.{_≡_};
-ghost use Prim.Native.Nat.{_+_, _*_, _≤_};
+ghost use Prim.Native.Nat.{_+_, _≤_};
 ghost use lib.ListN.{length};
 ghost use Rattle.base.specs.declared.refusal.Check.the-variants.{Refused};
 ghost use Rattle.rules.specs.Parameters.{checkParameters};

@@ -20,7 +20,7 @@ use Rattle.base.specs.declared.refusal.Refusal.the-variants.{BadInput, BadStamp
 use Rattle.base.specs.Time.{lastStamp}
 use Rattle.base.specs.Refusals.{number, ifNot, orElse}
 use Rattle.base.proofs.Codes.{some-number}
-use Rattle.base.proofs.Tests.{either-way}
+use Rattle.base.proofs.Tests.{cond-case, either-way}
 use Rattle.rules.specs.Phases.{output}
 use Rattle.rules.specs.Scenes.{learnt}
 use Rattle.rules.specs.Said.{scenesAfter}
@@ -62,18 +62,23 @@ pub one-part-then-the-other : (i : ℕ) (xs ys : List (List ℕ)) (s : State) �
 unfolding singles goesOn
 one-part-then-the-other i [] ys s = let e : i + 0 ≡ i = omega arith in rw e refl
 one-part-then-the-other i (octets ∷ xs) ys s =
-    let e : i + 1 + length xs ≡ i + suc (length xs) = omega arith in
-    by (singleCall s octets) (rw e at (one-part-then-the-other (i + 1) xs ys (singleCall s octets .state)))
+    let next : i + 1 + length xs ≡ i + suc (length xs) = omega arith in
+    by (eqb (r .code) 0) refl (rw next at (one-part-then-the-other (i + 1) xs ys (r .state)))
   where
-    by : (r : Single) → singles (i + 1) (xs ++ ys) (r .state) ≡ thenSingles (singles (i + 1) xs (r .state)) (singles (i + suc (length xs)) ys) →
-        goesOn r i (singles (i + 1) (xs ++ ys)) ≡ thenSingles (goesOn r i (singles (i + 1) xs)) (singles (i + suc (length xs)) ys)
-    by r rest = go (eqb (r .code) 0) refl
-      where
-        go : (b : Bool) → eqb (r .code) 0 ≡ b →
-            cond b (thenOthers (singlePlayed r) (singles (i + 1) (xs ++ ys))) (stopped (r .state) (r .code) i)
-            ≡ thenSingles (cond b (thenOthers (singlePlayed r) (singles (i + 1) xs)) (stopped (r .state) (r .code) i)) (singles (i + suc (length xs)) ys)
-        go true e = ap (λ (c : Singles). thenOthers (singlePlayed r) (λ x. c)) rest ∙ then-in-turn (singlePlayed r) (singles (i + 1) xs (r .state)) (singles (i + suc (length xs)) ys)
-        go false e = rw e
+    r : Single
+    r = singleCall s octets
+
+    by : (b : Bool) → eqb (r .code) 0 ≡ b → singles (i + 1) (xs ++ ys) (r .state) ≡ thenSingles (singles (i + 1) xs (r .state)) (singles (i + suc (length xs)) ys) →
+        singles i (octets ∷ (xs ++ ys)) s ≡ thenSingles (singles i (octets ∷ xs) s) (singles (i + suc (length xs)) ys)
+    by true e rest = rw e (ap (λ (c : Singles). thenOthers (singlePlayed r) (λ x. c)) rest ∙ then-in-turn (singlePlayed r) (singles (i + 1) xs (r .state)) (singles (i + suc (length xs)) ys))
+    by false e rest = rw (e, e)
+
+-- one of them is accepted, and the others follow; or it is refused, and ends them
+single-case : (P : Singles → Type 0) (i : ℕ) (octets : List ℕ) (xs : List (List ℕ)) (s : State) →
+    let r : Single = singleCall s octets in
+    P (thenOthers (singlePlayed r) (singles (i + 1) xs)) → ((r .code ≡ 0 → ⊥) → P (stopped (r .state) (r .code) i)) → P (singles i (octets ∷ xs) s)
+unfolding singles goesOn
+single-case P i octets xs s f g = cond-case P (eqb (singleCall s octets .code) 0) _ _ (λ e. f) (λ e. g (eqb-false _ 0 e))
 
 -- ---- how far they come
 
@@ -99,14 +104,10 @@ later-ended r three (one-refused p code place m bad at less each few) =
 pub singles-end : (i : ℕ) (xs : List (List ℕ)) (s : State) → Ended i (length xs) (singles i xs s)
 unfolding singles goesOn
 singles-end i [] s = none-refused (unplayed s) refl (omega arith)
-singles-end i (octets ∷ xs) s = by (singleCall s octets) (single-few s octets) (singles-end (i + 1) xs (singleCall s octets .state))
-  where
-    by : (r : Single) → length (singlePlayed r .records) ≤ 3 → Ended (i + 1) (length xs) (singles (i + 1) xs (r .state)) → Ended i (suc (length xs)) (goesOn r i (singles (i + 1) xs))
-    by r three rest = go (eqb (r .code) 0) refl
-      where
-        go : (b : Bool) → eqb (r .code) 0 ≡ b → Ended i (suc (length xs)) (cond b (thenOthers (singlePlayed r) (singles (i + 1) xs)) (stopped (r .state) (r .code) i))
-        go true e = later-ended r three rest
-        go false e = one-refused (unplayed (r .state)) (r .code) i 0 (eqb-false (r .code) 0 e) (omega arith) (omega arith) refl (omega arith)
+singles-end i (octets ∷ xs) s =
+    single-case (Ended i (suc (length xs))) i octets xs s
+    (later-ended (singleCall s octets) (single-few s octets) (singles-end (i + 1) xs (singleCall s octets .state)))
+    (λ bad. one-refused (unplayed _) _ i 0 bad (omega arith) (omega arith) refl (omega arith))
 
 -- an answer for each, where none is refused
 pub an-answer-for-each : (i : ℕ) (xs : List (List ℕ)) (s : State) → singles i xs s .code ≡ 0 → length (singles i xs s .played .answers) ≡ length xs
@@ -140,16 +141,15 @@ counted-from : (k i : ℕ) (xs : List (List ℕ)) (s : State) → singles (k + i
 unfolding singles goesOn
 counted-from k i [] s = refl
 counted-from k i (octets ∷ xs) s =
-    let e : k + i + 1 ≡ k + (i + 1) = omega arith in
-    by (singleCall s octets) (rw e (counted-from k (i + 1) xs (singleCall s octets .state)))
+    let next : k + i + 1 ≡ k + (i + 1) = omega arith in
+    by (eqb (r .code) 0) refl (rw next (counted-from k (i + 1) xs (r .state)))
   where
-    by : (r : Single) → singles (k + i + 1) xs (r .state) ≡ shifted k (singles (i + 1) xs (r .state)) → goesOn r (k + i) (singles (k + i + 1) xs) ≡ shifted k (goesOn r i (singles (i + 1) xs))
-    by r rest = go (eqb (r .code) 0) refl
-      where
-        go : (b : Bool) → eqb (r .code) 0 ≡ b →
-            cond b (thenOthers (singlePlayed r) (singles (k + i + 1) xs)) (stopped (r .state) (r .code) (k + i)) ≡ shifted k (cond b (thenOthers (singlePlayed r) (singles (i + 1) xs)) (stopped (r .state) (r .code) i))
-        go true e = rw rest refl
-        go false e = rw e refl
+    r : Single
+    r = singleCall s octets
+
+    by : (b : Bool) → eqb (r .code) 0 ≡ b → singles (k + i + 1) xs (r .state) ≡ shifted k (singles (i + 1) xs (r .state)) → singles (k + i) (octets ∷ xs) s ≡ shifted k (singles i (octets ∷ xs) s)
+    by true e rest = rw (e, rest) refl
+    by false e rest = rw (e, e) refl
 
 -- ---- where they lead
 
@@ -193,15 +193,9 @@ pub singles-keep : (i : ℕ) (xs : List (List ℕ)) (s : State) → sound s ≡ 
 unfolding singles goesOn
 singles-keep i [] s safe = (safe, refl, refl)
 singles-keep i (octets ∷ xs) s safe =
-    let here = single-call-keeps-sound s octets safe in
-    by (singleCall s octets) (here, single-call-keeps-version s octets, single-scenes s octets) (singles-keep (i + 1) xs (singleCall s octets .state) here)
-  where
-    by : (r : Single) → Kept s (r .state) → Kept (r .state) (singles (i + 1) xs (r .state) .played .state) → Kept s (goesOn r i (singles (i + 1) xs) .played .state)
-    by r here rest = go (eqb (r .code) 0)
-      where
-        go : (b : Bool) → Kept s (cond b (thenOthers (singlePlayed r) (singles (i + 1) xs)) (stopped (r .state) (r .code) i) .played .state)
-        go true = (rest .0, rest .1 ∙ here .1, rest .2 ∙ here .2)
-        go false = here
+    let here : Kept s (singleCall s octets .state) = (single-call-keeps-sound s octets safe, single-call-keeps-version s octets, single-scenes s octets) in
+    let rest = singles-keep (i + 1) xs (singleCall s octets .state) (here .0) in
+    single-case (λ (c : Singles). Kept s (c .played .state)) i octets xs s (rest .0, rest .1 ∙ here .1, rest .2 ∙ here .2) (λ bad. here)
 
 -- ---- the groups of two strings
 
@@ -390,21 +384,14 @@ in-parts (p ∷ later) s good safe passed =
 first-refused : (i : ℕ) (xs : List (List ℕ)) (s : State) → (singles i xs s .code ≡ 0 → ⊥) → singles i xs s .place ≡ i → singles i xs s .played ≡ unplayed s
 unfolding singles goesOn
 first-refused i [] s bad at = absurd (bad refl)
-first-refused i (octets ∷ xs) s bad at = by (singleCall s octets) (λ f. ap (λ (r : Single). r .state) (single-refusal-changes-nothing s octets f)) (singles-end (i + 1) xs (singleCall s octets .state)) bad at
+first-refused i (octets ∷ xs) s bad at =
+    single-case (λ (c : Singles). (c .code ≡ 0 → ⊥) → c .place ≡ i → c .played ≡ unplayed s) i octets xs s
+    (λ f here. absurd (after (singles-end (i + 1) xs (singleCall s octets .state)) f here))
+    (λ refused f here. ap (λ (r : Single). unplayed (r .state)) (single-refusal-changes-nothing s octets refused)) bad at
   where
-    by : (r : Single) → ((r .code ≡ 0 → ⊥) → r .state ≡ s) → Ended (i + 1) (length xs) (singles (i + 1) xs (r .state)) → (goesOn r i (singles (i + 1) xs) .code ≡ 0 → ⊥) → goesOn r i (singles (i + 1) xs) .place ≡ i →
-        goesOn r i (singles (i + 1) xs) .played ≡ unplayed s
-    by r back rest = go (eqb (r .code) 0) refl
-      where
-        after : {c : Singles} → Ended (i + 1) (length xs) c → (c .code ≡ 0 → ⊥) → c .place ≡ i → ⊥
-        after (none-refused p each few) f e = f refl
-        after (one-refused p code place m f at less each few) g e = omega arith
-
-        go : (b : Bool) → eqb (r .code) 0 ≡ b → (cond b (thenOthers (singlePlayed r) (singles (i + 1) xs)) (stopped (r .state) (r .code) i) .code ≡ 0 → ⊥) →
-            cond b (thenOthers (singlePlayed r) (singles (i + 1) xs)) (stopped (r .state) (r .code) i) .place ≡ i →
-            cond b (thenOthers (singlePlayed r) (singles (i + 1) xs)) (stopped (r .state) (r .code) i) .played ≡ unplayed s
-        go true e f at = absurd (after rest f at)
-        go false e f at = rw (back (eqb-false (r .code) 0 e)) refl
+    after : {c : Singles} → Ended (i + 1) (length xs) c → (c .code ≡ 0 → ⊥) → c .place ≡ i → ⊥
+    after (none-refused p each few) f e = f refl
+    after (one-refused p code place m f at less each few) g e = omega arith
 
 -- so all that was played, up to the refused one, the inputs before it play by themselves
 up-to : (xs ys : List (List ℕ)) (s : State) → (singles 0 (xs ++ ys) s .code ≡ 0 → ⊥) → singles 0 (xs ++ ys) s .place ≡ length xs →
@@ -544,7 +531,7 @@ module _ (s : State) (inputs r a : List ℕ) where
   pub every-change-is-answered : ChangeAnswered s inputs r a (changeCall s inputs r a)
   unfolding changed
   every-change-is-answered =
-      by-check (ChangeAnswered s inputs r a) (λ safe good room. played (singles-met safe) (stands s inputs r a safe good room)) (λ why one. inr (inl (one, record { state = refl; place = refl; count = refl; records = refl; answers = refl })))
+      by-check (ChangeAnswered s inputs r a) (λ safe good room. played (singles-met safe) (stands s inputs r a safe good room)) (λ why one. inr (inl (one, record { untouched = record { records = refl; answers = refl; count = refl; state = refl }; place = refl })))
     where
       played : {c : Singles} → Met c → ((c .code ≡ 0 → ⊥) → RefusedFrom s inputs r a (c .place)) → ChangeAnswered s inputs r a (changed c r a)
       played (all-played p clock) from = inl refl

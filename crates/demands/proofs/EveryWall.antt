@@ -23,14 +23,14 @@ use Rattle.sensor.specs.Sensors.{freshSensor}
 use Rattle.sensor.specs.Reactions.{reacts}
 use Rattle.sensor.specs.Refusals.{GoodActions}
 use Rattle.pairs.specs.Pairs.{Pair, pairStep}
-use Rattle.pairs.specs.Lists.{Listed, listed, PairPlayed, pairPlaysTo, pairStart, playItems}
+use Rattle.pairs.specs.Lists.{Listed, listed, PairPlayed, actuatorPart, pairPlaysTo, pairStart, playItems}
 use Rattle.pairs.specs.Calls.{pairSound}
-use Rattle.pairs.specs.Halves.{ItemsRise, ActuatorHalf, statuses, signalsFor, SensorHalf}
+use Rattle.pairs.specs.Halves.{ItemsRise, cuesFor, ActuatorHalf, statuses, signalsFor, SensorHalf}
 use Rattle.pairs.specs.Refusals.{GoodWall}
 use Rattle.pairs.specs.Walls.{fileIn, actionsIn, itemIn, readWall, playWall}
 use Rattle.demands.specs.Walls.{wallParams, wallScenes, wallEnd, begun, cuesGiven}
 use Rattle.pairs.proofs.Playing.{pair-plays-to-next, pair-plays-to-end}
-use Rattle.pairs.proofs.Halves.{actuatorPart, plainItems, cues-rise, the-run-is-the-actuators, the-run-is-the-sensors}
+use Rattle.pairs.proofs.Halves.{plainItems, cues-rise, the-run-is-the-actuators, the-run-is-the-sensors}
 use Rattle.pairs.proofs.Ties.{item-clock}
 use Rattle.pairs.proofs.Soundness.{SceneFits, pair-move-keeps-sound, pair-step-keeps-sound, pair-start-is-sound}
 use Rattle.pairs.proofs.Items.{item-fits}
@@ -88,7 +88,7 @@ module _ (wall : List ℕ) (items : List Listed) (read : readWall wall ≡ cues 
   a-wall-has-some-time = passed-has-some-time (formIn file) (parametersIn file) (good .start .passed)
 
   -- demand 2 over the pair: state, records and answers are the actuator's, over what it is given
-  pub a-wall-run-is-the-actuators : ActuatorHalf items (begun wall) (playWall wall items) (playList (wallParams wall) (wallScenes wall) (cuesGiven wall items) (wallEnd wall))
+  pub a-wall-run-is-the-actuators : ActuatorHalf (cuesFor items (begun wall)) (playWall wall items) (playList (wallParams wall) (wallScenes wall) (cuesGiven wall items) (wallEnd wall))
   unfolding playWall
   a-wall-run-is-the-actuators = the-run-is-the-actuators (wallParams wall) (wallScenes wall) (freshSensor (actionsIn wall)) items (wallEnd wall) items-rise
 

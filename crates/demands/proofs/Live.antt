@@ -12,7 +12,7 @@ use Rattle.base.specs.declared.refusal.Refusal.{Refusal}
 use Rattle.base.specs.declared.refusal.Refusal.the-variants.{WrongLength, BadParameter, BadStamp, ShortBuffer, UnsoundState}
 use Rattle.base.specs.declared.refusal.Check.{Check}
 use Rattle.base.specs.declared.refusal.Check.the-variants.{Passed, Refused}
-use Rattle.base.specs.Refusals.{number, codeOf, placeOf, stampInRange, orElse, Only, Then, Decides, Codes, Timely}
+use Rattle.base.specs.Refusals.{number, codeOf, placeOf, stampInRange, ifNot, orElse, Only, Then, Decides, Codes, Timely}
 use Rattle.base.proofs.Tests.{no}
 use Rattle.base.proofs.Codes.{some-number, codes-of-a-check, one-test-decides, then-decides, timely-exactly-when}
 use Rattle.rules.specs.Layout.{formAlone, inputPlace, recordPlace}
@@ -25,7 +25,7 @@ use Rattle.rules.specs.Lists.{Cue}
 use Rattle.rules.specs.Soundness.{sound}
 use Rattle.rules.specs.Calls.{noScenes, ownState, freshBy, freshCall, moveDone, moveRefused, moveCall}
 use Rattle.rules.specs.Files.{inputCount, endTime, parametersIn, inputsIn, readFile, lentEnough, readCall}
-use Rattle.rules.specs.Refusals.{FoundWhen, GoodParameters, GivenWhen, GoodFile, RoomFor, GoodGroups, TakenApart}
+use Rattle.rules.specs.Refusals.{FoundWhen, GoodParameters, GoodFile, RoomFor, GoodGroups, TakenApart}
 use Rattle.rules.specs.Readings.{cues, verdict}
 use Rattle.rules.specs.Changes.{groupCount, groupsIn, singles, changeCall}
 use Rattle.rules.specs.Runs.{Whole, recordsOctets, accepted, runCall, packing, packed}
@@ -47,7 +47,7 @@ use Rattle.demands.proofs.Changes.{singles-keep, cut-in-two, no-two-cod
 use Rattle.demands.specs.Changes.{joinedAfter, recordsLeft, answersLeft, ChangeAnswered}
 use Rattle.demands.specs.Joined.{calls, startOf, callsOf}
 use Rattle.demands.specs.Demands.{Among}
-use Rattle.demands.specs.Live.{codeIn, placeIn, countIn, FreshAnswered, MoveAnswered, RunToAnswered, AsLent, RanAs, Within, HouseRefusedFrom, HouseChangeAnswered, houseJoined, houseOneThenTheOther, NumberCodes, HouseFreshCodes, HouseMoveCodes, HouseRunToCodes, HouseChangeCodes}
+use Rattle.demands.specs.Live.{codeIn, placeIn, countIn, FreshAnswered, MoveAnswered, RunToAnswered, AsLent, RanAs, Within, HouseRefusedFrom, HouseChangeAnswered, houseJoined, houseOneThenTheOther, NumberCodes, HouseFreshWhen, HouseFreshCodes, HouseMoveCodes, HouseRunToWhen, HouseRunToCodes, HouseChangeCodes}
 
 -- ---- numbers
 
@@ -93,7 +93,7 @@ long-exactly-when : (octets : List ℕ) → (eqb (length octets) 56 ≡ true) �
 long-exactly-when octets = (eqb-true (length octets) 56, eq-eqb (length octets) 56)
 
 module _ (parameters state : List ℕ) where
-  fresh-decides : Decides (Then (λ why p. FoundWhen (formAlone parameters) parameters (Refused why p)) (GoodParameters (formAlone parameters) parameters) (Only ShortBuffer 0 (length state ≡ 56 → ⊥))) (GoodParameters (formAlone parameters) parameters × (length state ≡ 56)) (checkFresh parameters state)
+  fresh-decides : Decides (HouseFreshWhen parameters state) (GoodParameters (formAlone parameters) parameters × (length state ≡ 56)) (checkFresh parameters state)
   unfolding checkFresh checkAlone
   fresh-decides =
       then-decides _ _
@@ -108,20 +108,21 @@ module _ (parameters state : List ℕ) where
       by Passed = unfold freshImaged in refl
       by (Refused why place) = unfold freshImaged in refl
 
+  -- 1 and 5 have the place of an octet at most
+  fresh-rows : (why : Refusal) (p : ℕ) → HouseFreshWhen parameters state why p → (p < 65_536) × Among (number why) (0 ∷ 1 ∷ 5 ∷ 8 ∷ [])
+  fresh-rows why p (inr g) = (omega (arith, g .1 .1), rw (g .1 .0) (inr (inr (inr (inl refl)))))
+  fresh-rows why p (inl g) = found why g
+    where
+      found : (why : Refusal) → FoundWhen (formAlone parameters) parameters (Refused why p) → (p < 65_536) × Among (number why) (0 ∷ 1 ∷ 5 ∷ 8 ∷ [])
+      found WrongLength h = (omega (arith, h .0), inr (inl refl))
+      found BadParameter h = (omega (arith, h .within, few-octets (formAlone parameters .scale) .1), inr (inr (inl refl)))
+
   fresh-narrow : placeOf (checkFresh parameters state) < 65_536
   fresh-narrow = by (checkFresh parameters state) refl
     where
-      found : (why : Refusal) (p : ℕ) → FoundWhen (formAlone parameters) parameters (Refused why p) → p < 65_536
-      found WrongLength p g = omega (arith, g .0)
-      found BadParameter p g = omega (arith, g .within, few-octets (formAlone parameters .scale) .1)
-
       by : (c : Check) → checkFresh parameters state ≡ c → placeOf c < 65_536
       by Passed e = omega arith
-      by (Refused why place) e = given (fresh-decides .refused why place .0 e)
-        where
-          given : Then (λ why p. FoundWhen (formAlone parameters) parameters (Refused why p)) (GoodParameters (formAlone parameters) parameters) (Only ShortBuffer 0 (length state ≡ 56 → ⊥)) why place → place < 65_536
-          given (inl g) = found why place g
-          given (inr g) = omega (arith, g .1 .1)
+      by (Refused why place) e = fresh-rows why place (fresh-decides .refused why place .0 e) .0
 
   pub house-fresh-refused-exactly-when : HouseFreshCodes parameters state (houseFresh parameters state .number)
   house-fresh-refused-exactly-when = by-its-check (checkFresh parameters state) 0 (houseFresh parameters state .number) fresh-decides fresh-number fresh-narrow (omega arith)
@@ -134,14 +135,6 @@ module _ (parameters state : List ℕ) where
   pub house-fresh-is-answered : FreshAnswered parameters state (houseFresh parameters state)
   house-fresh-is-answered = by (checkFresh parameters state) refl
     where
-      found : (why : Refusal) (p : ℕ) → FoundWhen (formAlone parameters) parameters (Refused why p) → Among (number why) (0 ∷ 1 ∷ 5 ∷ 8 ∷ [])
-      found WrongLength p g = inr (inl refl)
-      found BadParameter p g = inr (inr (inl refl))
-
-      row : (why : Refusal) (p : ℕ) → Then (λ why p. FoundWhen (formAlone parameters) parameters (Refused why p)) (GoodParameters (formAlone parameters) parameters) (Only ShortBuffer 0 (length state ≡ 56 → ⊥)) why p → Among (number why) (0 ∷ 1 ∷ 5 ∷ 8 ∷ [])
-      row why p (inl g) = found why p g
-      row why p (inr g) = rw (g .1 .0) (inr (inr (inr (inl refl))))
-
       by : (c : Check) → checkFresh parameters state ≡ c → FreshAnswered parameters state (houseFresh parameters state)
       by Passed e =
           rw (fresh-as-checked Passed e)
@@ -149,7 +142,7 @@ module _ (parameters state : List ℕ) where
       by (Refused why place) e =
           let t = taken (number why) place 0 (rw e at fresh-narrow) (omega arith) in
           rw (fresh-as-checked (Refused why place) e)
-          (unfold freshImaged in record { numbered = rw (t .0) (row why place (fresh-decides .refused why place .0 e)); counted = t .2; refused = λ f. refl; accepted = λ z. absurd (omega (arith, z, t .0, some-number why)); within = refl })
+          (unfold freshImaged in record { numbered = rw (t .0) (fresh-rows why place (fresh-decides .refused why place .0 e) .1); counted = t .2; refused = λ f. refl; accepted = λ z. absurd (omega (arith, z, t .0, some-number why)); within = refl })
 
   -- an accepted one leaves an image, to be played on from
   pub a-fresh-state-is-an-image : codeIn (houseFresh parameters state .number) ≡ 0 → isImage (houseFresh parameters state .state) ≡ true
@@ -170,15 +163,16 @@ module _ (state : List ℕ) (stamp : ℕ) (records : List ℕ) where
       (then-decides _ _ (one-test-decides (Timely (stateIn state .clock) stamp) (stampInRange (stateIn state .clock) stamp) BadStamp 0 (timely-exactly-when (stateIn state .clock) stamp))
       (one-test-decides (16 ≤ length records) (leb 16 (length records)) ShortBuffer 0 (leb-true 16 (length records), le-leb 16 (length records))))
 
-  move-place : placeOf (checkMove state stamp records) ≡ 0
+  -- 9, 7 and 8, each with the place 0
+  move-rows : let found : Check = checkMove state stamp records in (placeOf found ≡ 0) × Among (codeOf found) (0 ∷ 9 ∷ 7 ∷ 8 ∷ [])
   unfolding checkMove
-  move-place = by (isImage state) (stampInRange (stateIn state .clock) stamp) (leb 16 (length records))
+  move-rows = by (isImage state) (stampInRange (stateIn state .clock) stamp) (leb 16 (length records))
     where
-      by : (a b c : Bool) → placeOf (orElse (cond a Passed (Refused UnsoundState 0)) (orElse (cond b Passed (Refused BadStamp 0)) (cond c Passed (Refused ShortBuffer 0)))) ≡ 0
-      by false b c = refl
-      by true false c = refl
-      by true true false = refl
-      by true true true = refl
+      by : (a b c : Bool) → let found : Check = orElse (ifNot a UnsoundState) (orElse (ifNot b BadStamp) (ifNot c ShortBuffer)) in (placeOf found ≡ 0) × Among (codeOf found) (0 ∷ 9 ∷ 7 ∷ 8 ∷ [])
+      by false b c = (refl, inr (inl refl))
+      by true false c = (refl, inr (inr (inl refl)))
+      by true true false = (refl, inr (inr (inr (inl refl))))
+      by true true true = (refl, inl refl)
 
   move-as-checked : (c : Check) → checkMove state stamp records ≡ c → houseMove state stamp records ≡ moveBy c state stamp records
   unfolding houseMove
@@ -201,17 +195,7 @@ module _ (state : List ℕ) (stamp : ℕ) (records : List ℕ) where
   pub house-move-refused-exactly-when : HouseMoveCodes state stamp records (houseMove state stamp records .number)
   house-move-refused-exactly-when =
       let n = move-number in
-      by-its-check (checkMove state stamp records) (n .0) (houseMove state stamp records .number) move-decides (n .2) (omega (arith, move-place)) (omega (arith, n .1))
-
-  move-among : Among (codeOf (checkMove state stamp records)) (0 ∷ 9 ∷ 7 ∷ 8 ∷ [])
-  unfolding checkMove
-  move-among = by (isImage state) (stampInRange (stateIn state .clock) stamp) (leb 16 (length records))
-    where
-      by : (a b c : Bool) → Among (codeOf (orElse (cond a Passed (Refused UnsoundState 0)) (orElse (cond b Passed (Refused BadStamp 0)) (cond c Passed (Refused ShortBuffer 0))))) (0 ∷ 9 ∷ 7 ∷ 8 ∷ [])
-      by false b c = inr (inl refl)
-      by true false c = inr (inr (inl refl))
-      by true true false = inr (inr (inr (inl refl)))
-      by true true true = inl refl
+      by-its-check (checkMove state stamp records) (n .0) (houseMove state stamp records .number) move-decides (n .2) (omega (arith, move-rows .0)) (omega (arith, n .1))
 
   -- a numbered answer, whatever is lent: 9, 7 or 8 write nothing, an accepted one gives what the clock move by value gives, and what is lent keeps its length
   pub house-move-is-answered : MoveAnswered state stamp records (houseMove state stamp records)
@@ -220,9 +204,9 @@ module _ (state : List ℕ) (stamp : ℕ) (records : List ℕ) where
     where
       by : (c : Check) → checkMove state stamp records ≡ c → MoveAnswered state stamp records (houseMove state stamp records)
       by (Refused why place) e =
-          let t = taken (number why) place 0 (omega (arith, rw e at move-place)) (omega arith) in
+          let t = taken (number why) place 0 (omega (arith, rw e at (move-rows .0))) (omega arith) in
           rw (move-as-checked (Refused why place) e)
-          (record { numbered = rw (t .0) (rw e at move-among); refused = λ f. (t .2, refl, refl); accepted = λ z. absurd (omega (arith, z, t .0, some-number why)); within = (refl, refl) })
+          (record { numbered = rw (t .0) (rw e at (move-rows .1)); refused = λ f. (t .2, refl, refl); accepted = λ z. absurd (omega (arith, z, t .0, some-number why)); within = (refl, refl) })
       by Passed e =
           let good = move-decides .passed .0 e in
           let m : Move = moveCall (stateIn state) stamp in
@@ -257,7 +241,7 @@ module _ (file state records answers : List ℕ) where
   abbrev Room : Type 0
   Room = RoomFor (inputCount file) records answers
 
-  run-to-decides : Decides (Then (Then (GivenWhen file) (GoodFile file) (Only ShortBuffer 0 (Room → ⊥))) (GoodFile file × Room) (Only ShortBuffer 0 (length state ≡ 56 → ⊥))) ((GoodFile file × Room) × (length state ≡ 56)) (checkRunTo file state records answers)
+  run-to-decides : Decides (HouseRunToWhen file state records answers) ((GoodFile file × Room) × (length state ≡ 56)) (checkRunTo file state records answers)
   unfolding checkRunTo readCall
   run-to-decides =
       let room = one-test-decides Room (lentEnough file records answers) ShortBuffer 0 (lent-enough-exactly-when file records answers) in
@@ -271,7 +255,7 @@ module _ (file state records answers : List ℕ) where
       by Passed e = omega arith
       by (Refused why place) e = given (run-to-decides .refused why place .0 e)
         where
-          given : Then (Then (GivenWhen file) (GoodFile file) (Only ShortBuffer 0 (Room → ⊥))) (GoodFile file × Room) (Only ShortBuffer 0 (length state ≡ 56 → ⊥)) why place → place < 65_536
+          given : HouseRunToWhen file state records answers why place → place < 65_536
           given (inl (inl g)) = narrow-place file why place g
           given (inl (inr g)) = omega (arith, g .1 .1)
           given (inr g) = omega (arith, g .1 .1)
@@ -437,10 +421,11 @@ module _ (state inputs r a : List ℕ) (is : isImage state ≡ true) where
   image-refused : Among (w .report .code) (9 ∷ 12 ∷ 8 ∷ []) → (placeIn (houseChange state inputs r a .number) ≡ 0) × AsLent state r a (houseChange state inputs r a)
   unfolding imaged
   image-refused one =
-      let n = refused-as-a-whole (stateIn state) inputs r a one in
+      let whole = refused-as-a-whole (stateIn state) inputs r a one in
+      let n = whole .untouched in
       let c = an-image-is-changed state inputs r a is in
       let t = the-change-number-is-taken-apart state inputs r a is in (
-        t .place ∙ n .place,
+        t .place ∙ whole .place,
         record { count = t .count ∙ n .count; state = rw c (ap image (n .state) ∙ accepted-is-the-image state is); records = rw c (n .records); answers = rw c (n .answers) },
       )
 

@@ -2,13 +2,11 @@
 use Prim.Native.Nat.{ℕ, _+_, _*_, _≤_}
 use mathlib.Core.Bool.{Bool, true, false, cond}
 use mathlib.Core.Path.{_≡_, refl, sym, ap, _∙_}
-use mathlib.Core.Logic.{_⊎_, inl, inr}
+use mathlib.Core.Logic.{inl, inr}
 use mathlib.Core.List.{List, [], _∷_, _++_, append-assoc}
 use mathlib.Core.Option.{Option}
 use native.Mathlib.Omega.{arith}
 use lib.ListN.{length, drop, length-append, length-drop}
-use lib.Dec.{leb}
-use borrow.Author.Tests.{leb-true}
 use Rattle.rules.specs.declared.parameters.Params.{Params}
 use Rattle.rules.specs.declared.parameters.Scene.{Scene}
 use Rattle.rules.specs.declared.state.State.{State}
@@ -20,20 +18,19 @@ use Rattle.rules.specs.Status.{recordOf, sameStatus, written}
 use Rattle.rules.specs.Steps.{fresh, ticked, clockMove, step}
 use Rattle.rules.specs.Lists.{Cue, cue, Played, plays, playsTo}
 use Rattle.base.specs.Refusals.{number, codeOf, placeOf}
-use Rattle.rules.specs.Calls.{singleDone, singleRefused, singleCall}
+use Rattle.rules.specs.Calls.{ownState, singleDone, singleRefused, singleCall}
 use Rattle.rules.specs.Readings.{Reading, cues, bad, ifLentEnough, verdict}
-use Rattle.rules.specs.Files.{inputCount, endTime, readFile, lentEnough, readCall, paramsIn, scenesIn}
+use Rattle.rules.specs.Files.{inputCount, endTime, readFile, lentFor, lentEnough, readCall, paramsIn, scenesIn}
 use Rattle.octets.specs.BigEndian.{octets32}
 use Rattle.octets.proofs.BothWays.{what-is-written-is-read}
-use Rattle.rules.specs.Runs.{recordOctets, recordsOctets, over, Whole, playFile, accepted, refused, runBy, runCall}
+use Rattle.rules.specs.Runs.{recordOctets, recordsOctets, over, Whole, playFile, accepted, refused, runCall}
 use Rattle.rules.specs.Promises.{DarkShown, LightStamped}
-use Rattle.demands.specs.Demands.{Model, AnswersAll, RefusesCleanly, StaysWithin, HandedBack, SingleAnswers, Judges, PlaysAll, changed, changedByTimers, changes, CountsChanges, recordsIn, recordsOf, Keeps, Meets}
-use Rattle.base.proofs.Tests.{both}
+use Rattle.demands.specs.Demands.{Model, Among, AnswersAll, Untouched, RefusesCleanly, StaysWithin, HandedBack, SingleAnswers, Holds, PlaysAll, changed, changedByTimers, changes, CountsChanges, recordsIn, recordsOf, Keeps, Meets}
 use Rattle.base.proofs.Codes.{some-number}
 use Rattle.rules.specs.Refusals.{StartWhen, InputsWhen, GivenWhen}
 use Rattle.rules.proofs.Refusals.Calls.{SingleFinds, single-finds, single-refusal-changes-nothing, single-place-is-zero}
 use Rattle.rules.proofs.Refusals.Files.{refused-exactly-when}
-use Rattle.rules.proofs.Refusals.Runs.{RunFinds, at-fault, no-room, played, run-finds, a-good-file-is-played, a-refused-run-writes-nothing, records-length, record-count-is-one-plus-changes, answers-are-n}
+use Rattle.rules.proofs.Refusals.Runs.{RunFinds, at-fault, no-room, played, run-finds, run-is-read, room-exactly-when, a-good-file-is-played, a-refused-run-writes-nothing, records-length, record-count-is-one-plus-changes, answers-are-n}
 use Rattle.rules.proofs.Laws.Lists.{plays-to-next}
 use Rattle.rules.proofs.Promises.Stamps.{step-records}
 use Rattle.demands.proofs.Shown.{dark-shown-in-every-accepted-file, light-stamped-in-every-accepted-file}
@@ -86,25 +83,16 @@ our-run-refuses-cleanly : RefusesCleanly runCall
 our-run-refuses-cleanly file records answers refused =
     rw (a-refused-run-writes-nothing file records answers refused) (record { records = refl; answers = refl; count = refl; state = refl })
 
-our-run-judges : Judges runCall
-unfolding runCall runBy accepted refused
-our-run-judges file records answers = by (readCall file records answers)
-  where
-    by : (x : Reading Cue) → (runBy x file records answers .report .code ≡ codeOf (verdict x)) × (runBy x file records answers .report .place ≡ placeOf (verdict x))
-    by (cues list) = (refl, refl)
-    by (bad why place) = (refl, refl)
-
 -- ---- 1, of every single input
 
-our-single-input-is-numbered : (s : State) (octets : List ℕ) →
-    (singleCall s octets .code ≡ 0) ⊎ (singleCall s octets .code ≡ 6) ⊎ (singleCall s octets .code ≡ 7) ⊎ (singleCall s octets .code ≡ 9)
+our-single-input-is-numbered : (s : State) (octets : List ℕ) → Among (singleCall s octets .code) (0 ∷ 6 ∷ 7 ∷ 9 ∷ [])
 our-single-input-is-numbered s octets = by (single-finds s octets)
   where
-    by : {r : Single} → SingleFinds s octets r → (r .code ≡ 0) ⊎ (r .code ≡ 6) ⊎ (r .code ≡ 7) ⊎ (r .code ≡ 9)
+    by : {r : Single} → SingleFinds s octets r → Among (r .code) (0 ∷ 6 ∷ 7 ∷ 9 ∷ [])
     by (SingleFinds.plays i h m t) = unfold singleDone in inl refl
     by (SingleFinds.wrong h m) = unfold singleRefused in inr (inl refl)
     by (SingleFinds.untimely i h m t) = unfold singleRefused in inr (inr (inl refl))
-    by (SingleFinds.not-sound h) = unfold singleRefused in inr (inr (inr refl))
+    by (SingleFinds.not-sound h) = unfold singleRefused in inr (inr (inr (inl refl)))
 
 our-single-input-is-handed-back : (s : State) (octets : List ℕ) → (singleCall s octets .code ≡ 0 → ⊥) → HandedBack s (singleCall s octets)
 our-single-input-is-handed-back s octets refused =
@@ -135,28 +123,26 @@ module _ (file records answers : List ℕ) (list : List Cue) (read : readCall fi
   our-records : recordsOf (runCall file records answers) ≡ playFile file list .records
   our-records = ap recordsOf our-run-is-played ∙ accepted-records (playFile file list) records answers
 
-  -- three records for each input and three more fit into the buffer that is asked for, and so does an answer for each
-  our-run-fits : (length (recordsOctets (playFile file list .records)) ≤ length records) × (length (playFile file list .answers) ≤ length answers)
-  unfolding lentEnough accepted
-  our-run-fits =
-      let e = call-accepted in
-      let room = both (leb (8 * (3 * inputCount file + 3)) (length records)) (leb (inputCount file) (length answers)) (e .1) in
-      let few = rw our-run-is-played at (record-count-is-one-plus-changes file records answers list (e .0) (e .1) .1) in (
-        omega (arith, records-length (playFile file list .records), few, leb-true (8 * (3 * inputCount file + 3)) (length records) (room .0)),
-        omega (arith, answers-are-n file records answers list (e .0) (e .1) .0, leb-true (inputCount file) (length answers) (room .1)),
-      )
-
 pub over-length : (octets buffer : List ℕ) → length octets ≤ length buffer → length (over octets buffer) ≡ length buffer
 unfolding over
 over-length octets buffer fits = rw (length-append, length-drop (length octets) buffer) (omega arith)
 
+-- three records for each input and three more fit into the buffer that is asked for, and so does an answer for each
+pub stays-as-long : (n : ℕ) (wrote : List Record) (said records answers : List ℕ) → lentFor n records answers ≡ true → length wrote ≤ 3 * n + 3 → length said ≡ n →
+    (length (over (recordsOctets wrote) records) ≡ length records) × (length (over said answers) ≡ length answers)
+stays-as-long n wrote said records answers room few each =
+    let enough = room-exactly-when n records answers .0 room in
+    (over-length _ records (omega (arith, records-length wrote, few, enough .wide)), over-length _ answers (omega (arith, each, enough .long)))
+
 our-run-stays-within : StaysWithin runCall
-unfolding runCall runBy accepted refused
-our-run-stays-within file records answers = by (readCall file records answers) refl
+our-run-stays-within file records answers = by (run-finds file records answers) refl
   where
-    by : (x : Reading Cue) → readCall file records answers ≡ x → (length (runBy x file records answers .records) ≡ length records) × (length (runBy x file records answers .answers) ≡ length answers)
-    by (bad why place) e = (refl, refl)
-    by (cues list) e = let fits = our-run-fits file records answers list e in (over-length _ records (fits .0), over-length _ answers (fits .1))
+    by : {w : Whole} → RunFinds file records answers w → runCall file records answers ≡ w → (length (w .records) ≡ length records) × (length (w .answers) ≡ length answers)
+    by (at-fault why place read) e = unfold refused in (refl, refl)
+    by (no-room list read room) e = unfold refused in (refl, refl)
+    by (played list read room) e =
+        let few = rw e at (record-count-is-one-plus-changes file records answers list read room .1) in
+        unfold accepted lentEnough in stays-as-long (inputCount file) _ _ records answers room few (answers-are-n file records answers list read room .0)
 
 our-run-plays-all : PlaysAll runCall
 unfolding accepted
@@ -199,7 +185,7 @@ our-model-meets-every-demand =
       answers-all = our-run-answers-all;
       refuses-cleanly = our-run-refuses-cleanly;
       stays-within = our-run-stays-within;
-      judges = our-run-judges;
+      judges = run-is-read;
       plays-all = our-run-plays-all;
       counts-changes = our-run-counts-changes;
       keeps-dark = our-run-keeps DarkShown dark-shown-in-every-accepted-file;
@@ -214,28 +200,41 @@ same-whole : (w x : Whole) → w .report .state ≡ x .report .state → w .repo
 same-whole w x state code place count records answers =
     λ i. record { report = record { state = state i; code = code i; place = place i; count = count i }; records = records i; answers = answers i }
 
--- Demands 1 and 2 leave no part of a result open: the table gives code and place; a refused call leaves the rest as it was, and an
--- accepted one is played.
-two-models-agree : (m n : Model) → Meets m → Meets n → (file records answers : List ℕ) → m file records answers ≡ n file records answers
-two-models-agree m n f g file records answers = by (readCall file records answers) refl
+-- what the table refuses has a number of its own
+pub not-zero : {A : Type 0} (x : Reading A) (why : Refusal) (place code : ℕ) → x ≡ bad why place → code ≡ codeOf (verdict x) → code ≡ 0 → ⊥
+not-zero {A} x why place code read judged zero = let table : code ≡ number why = judged ∙ ap (λ (y : Reading A). codeOf (verdict y)) read in omega (arith, table, zero, some-number why)
+
+-- What leaves no part of a result open: the table gives code and place of what is read; a refused call leaves the rest as it was, and an accepted one
+-- is played.
+pub record Settled {A : Type 0} (x : Reading A) (play : List A → Played) (count : List A → ℕ) (records answers : List ℕ) (w : Whole) : Type 0 where
+  pub judged : (w .report .code ≡ codeOf (verdict x)) × (w .report .place ≡ placeOf (verdict x))
+  pub refused : (w .report .code ≡ 0 → ⊥) → Untouched ownState records answers w
+  pub played : (list : List A) → x ≡ cues list → Holds records answers (play list) w
+  pub counted : (list : List A) → x ≡ cues list → w .report .count ≡ count list
+
+pub settled-is-one : {A : Type 0} {x : Reading A} {play : List A → Played} {count : List A → ℕ} {records answers : List ℕ} (w v : Whole) → Settled x play count records answers w → Settled x play count records answers v → w ≡ v
+settled-is-one {A} {x} w v f g = by x refl
   where
-    code : m file records answers .report .code ≡ n file records answers .report .code
-    code = f .judges file records answers .0 ∙ sym (g .judges file records answers .0)
+    code : w .report .code ≡ v .report .code
+    code = f .judged .0 ∙ sym (g .judged .0)
 
-    place : m file records answers .report .place ≡ n file records answers .report .place
-    place = f .judges file records answers .1 ∙ sym (g .judges file records answers .1)
+    place : w .report .place ≡ v .report .place
+    place = f .judged .1 ∙ sym (g .judged .1)
 
-    by : (x : Reading Cue) → readCall file records answers ≡ x → m file records answers ≡ n file records answers
+    by : (y : Reading A) → x ≡ y → w ≡ v
     by (cues list) read =
-        let a = f .plays-all file records answers list read in
-        let b = g .plays-all file records answers list read in
-        let count = f .counts-changes file records answers list read ∙ sym (g .counts-changes file records answers list read) in
-        same-whole (m file records answers) (n file records answers) (a .state ∙ sym (b .state)) code place count (a .records ∙ sym (b .records)) (a .answers ∙ sym (b .answers))
-    by (bad why x) read =
-        let table : codeOf (verdict (readCall file records answers)) ≡ number why = ap (λ (x : Reading Cue). codeOf (verdict x)) read in
-        let a = f .refuses-cleanly file records answers (λ zero. omega (arith, f .judges file records answers .0, table, zero, some-number why)) in
-        let b = g .refuses-cleanly file records answers (λ zero. omega (arith, g .judges file records answers .0, table, zero, some-number why)) in
-        same-whole (m file records answers) (n file records answers) (a .state ∙ sym (b .state)) code place (a .count ∙ sym (b .count)) (a .records ∙ sym (b .records)) (a .answers ∙ sym (b .answers))
+        let a = f .played list read in
+        let b = g .played list read in
+        same-whole w v (a .state ∙ sym (b .state)) code place (f .counted list read ∙ sym (g .counted list read)) (a .records ∙ sym (b .records)) (a .answers ∙ sym (b .answers))
+    by (bad why p) read =
+        let a = f .refused (not-zero x why p _ read (f .judged .0)) in
+        let b = g .refused (not-zero x why p _ read (g .judged .0)) in
+        same-whole w v (a .state ∙ sym (b .state)) code place (a .count ∙ sym (b .count)) (a .records ∙ sym (b .records)) (a .answers ∙ sym (b .answers))
+
+settled : (m : Model) → Meets m → (file records answers : List ℕ) →
+    Settled (readCall file records answers) (playFile file) (λ list. 1 + changes (endTime file) list (fresh (paramsIn file) (scenesIn file))) records answers (m file records answers)
+settled m f file records answers = record { judged = f .judges file records answers; refused = f .refuses-cleanly file records answers; played = f .plays-all file records answers; counted = f .counts-changes file records answers }
 
 pub no-other-model-meets-every-demand : (m : Model) → Meets m → (file records answers : List ℕ) → m file records answers ≡ runCall file records answers
-no-other-model-meets-every-demand m meets = two-models-agree m runCall meets our-model-meets-every-demand
+no-other-model-meets-every-demand m f file records answers =
+    settled-is-one _ _ (settled m f file records answers) (settled runCall our-model-meets-every-demand file records answers)

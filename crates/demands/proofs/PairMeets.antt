@@ -1,8 +1,8 @@
 -- Our calls of the pair by value meet what is demanded of them, and no others do.
 use Prim.Native.Nat.{ℕ}
 use mathlib.Core.Path.{_≡_, refl}
-use mathlib.Core.Logic.{_⊎_, inl, inr}
-use mathlib.Core.List.{List}
+use mathlib.Core.Logic.{inl, inr}
+use mathlib.Core.List.{List, [], _∷_}
 use native.Mathlib.Omega.{arith}
 use Rattle.octets.specs.Groups.{stampAt}
 use Rattle.base.specs.declared.refusal.Refusal.{Refusal}
@@ -20,6 +20,7 @@ use Rattle.pairs.specs.Calls.{jointDone, jointRefused, jointCall, jointMoveDone
 use Rattle.pairs.specs.Refusals.{SoundPair, JointCodes, JointMoveCodes}
 use Rattle.pairs.proofs.Soundness.{sound-pair-exactly-when}
 use Rattle.pairs.proofs.Refusals.Calls.{JointFinds, joint-finds, a-good-item-is-played, joint-refused-exactly-when, joint-refusal-changes-nothing, JointMoveFinds, joint-move-finds, a-good-move-is-made, joint-move-refused-exactly-when, joint-move-refusal-changes-nothing}
+use Rattle.demands.specs.Demands.{Among}
 use Rattle.demands.specs.Pairs.{PairModel, PairAnswersAll, PairRefusesCleanly, PairPlays, PairMeets, PairMoveModel, PairMoveAnswersAll, PairMoveRefusesCleanly, PairMoves, PairMoveMeets}
 
 -- ---- one item
@@ -27,11 +28,11 @@ use Rattle.demands.specs.Pairs.{PairModel, PairAnswersAll, PairRefusesCl
 our-pair-answers-all : PairAnswersAll jointCall
 our-pair-answers-all p octets = by (joint-finds p octets)
   where
-    by : {r : Joint} → JointFinds p octets r → (r .code ≡ 0) ⊎ (r .code ≡ 6) ⊎ (r .code ≡ 7) ⊎ (r .code ≡ 9)
+    by : {r : Joint} → JointFinds p octets r → Among (r .code) (0 ∷ 6 ∷ 7 ∷ 9 ∷ [])
     by (JointFinds.plays i h k e) = unfold jointDone in inl refl
     by (JointFinds.unknown h k) = unfold jointRefused in inr (inl refl)
     by (JointFinds.untimely i h k e) = unfold jointRefused in inr (inr (inl refl))
-    by (JointFinds.not-sound h) = unfold jointRefused in inr (inr (inr refl))
+    by (JointFinds.not-sound h) = unfold jointRefused in inr (inr (inr (inl refl)))
 
 our-pair-refuses-cleanly : PairRefusesCleanly jointCall
 our-pair-refuses-cleanly p octets refused =
@@ -79,10 +80,10 @@ no-other-pair-meets-every-demand m f p octets = by (joint-finds p octets) (joint
 our-pair-move-answers-all : PairMoveAnswersAll jointMoveCall
 our-pair-move-answers-all p t = by (joint-move-finds p t)
   where
-    by : {r : JointMove} → JointMoveFinds p t r → (r .code ≡ 0) ⊎ (r .code ≡ 7) ⊎ (r .code ≡ 9)
+    by : {r : JointMove} → JointMoveFinds p t r → Among (r .code) (0 ∷ 7 ∷ 9 ∷ [])
     by (JointMoveFinds.moves h e) = unfold jointMoveDone in inl refl
     by (JointMoveFinds.untimely h e) = unfold jointMoveRefused in inr (inl refl)
-    by (JointMoveFinds.not-sound h) = unfold jointMoveRefused in inr (inr refl)
+    by (JointMoveFinds.not-sound h) = unfold jointMoveRefused in inr (inr (inl refl))
 
 our-pair-move-refuses-cleanly : PairMoveRefusesCleanly jointMoveCall
 our-pair-move-refuses-cleanly p t refused = rw (joint-move-refusal-changes-nothing p t refused) (record { state = refl; sensor = refl; place = refl; count = refl; records = refl })

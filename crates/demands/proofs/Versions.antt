@@ -9,7 +9,7 @@ use lib.ListN.{length, drop}
 use lib.Seq.{getD-drop, drop-drop}
 use Rattle.octets.specs.BigEndian.{octet}
 use Rattle.base.specs.declared.refusal.Check.the-variants.{Passed}
-use Rattle.rules.specs.Lists.{Cue}
+use Rattle.rules.specs.Lists.{Cue, Played}
 use Rattle.rules.specs.Forms.{versionOne, versionTwo, formOf, version, formIn}
 use Rattle.rules.specs.Layout.{modesAt, scenePlace, flagsPlace, inputsAt}
 use Rattle.rules.specs.Parameters.{timeAt, delay, paramsOf, sceneAt, scenesOf, badTime, numberAbove, badNumber, badFlags, badOctet}
@@ -22,6 +22,12 @@ use Rattle.rules.proofs.Refusals.Runs.{a-good-file-is-played}
 use Rattle.rules.proofs.Laws.Parameters.{lowest-bad-octet, good-time, mode-octet, number-octet, flags-octet, every-octet-good, entries}
 use Rattle.demands.specs.Versions.{ofVersion, PlayedAlike, SameShow, RanAlike}
 use Rattle.demands.proofs.Alike.{no-rule-looks-at-the-version}
+
+-- what is played alike is handed out alike
+pub handed-out-alike : (v : ℕ) (p q : Played) (records answers : List ℕ) → PlayedAlike v p q → RanAlike v (accepted p records answers) (accepted q records answers)
+unfolding accepted
+handed-out-alike v p q records answers same =
+    record { state = same .state; code = refl; place = refl; count = rw (same .records); records = rw (same .records); answers = rw (same .answers) }
 
 module _ (old new : List ℕ) (same : SameShow old new) where
   old-row : formIn old ≡ versionOne
@@ -190,16 +196,7 @@ module _ (old new : List ℕ) (same : SameShow old new) where
       RanAlike 2 (runCall old records answers) (runCall new records answers)
   two-versions-of-one-show-run-alike records answers list read room =
       let enough : lentEnough new records answers ≡ true = unfold lentEnough in rw (same .count) room in
-      let p = played-alike list in
-      rw (a-good-file-is-played old records answers list read room, a-good-file-is-played new records answers list (accepted-alike list .0 read) enough)
-      (unfold accepted in record {
-        state = p .state;
-        code = refl;
-        place = refl;
-        count = rw (p .records);
-        records = rw (p .records);
-        answers = rw (p .answers);
-      })
+      rw (a-good-file-is-played old records answers list read room, a-good-file-is-played new records answers list (accepted-alike list .0 read) enough) (handed-out-alike 2 _ _ records answers (played-alike list))
 
 -- ---- there are such shows
 

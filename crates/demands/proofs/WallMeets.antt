@@ -1,33 +1,28 @@
 -- Our run over a wall list meets what is demanded of it, and no other does.
-use Prim.Native.Nat.{ℕ, _*_, _+_, _≤_}
+use Prim.Native.Nat.{ℕ, _≤_}
 use mathlib.Core.Bool.{true}
 use mathlib.Core.Path.{_≡_, refl, sym, ap, _∙_}
 use mathlib.Core.Logic.{_⊎_, inl, inr}
 use mathlib.Core.List.{List}
 use native.Mathlib.Omega.{arith}
-use lib.Dec.{leb}
 use lib.ListN.{length}
-use borrow.Author.Tests.{leb-true}
 use Rattle.base.specs.declared.refusal.Refusal.{Refusal}
-use Rattle.base.specs.Refusals.{number, codeOf, placeOf}
-use Rattle.base.proofs.Codes.{some-number}
-use Rattle.base.proofs.Tests.{both}
+use Rattle.base.specs.Refusals.{number}
 use Rattle.rules.specs.declared.parameters.Params.{Params}
 use Rattle.rules.specs.declared.parameters.Scene.{Scene}
 use Rattle.rules.specs.declared.record.Record.{Record}
 use Rattle.rules.specs.Lists.{Cue}
 use Rattle.rules.specs.Readings.{Reading, cues, bad, verdict}
 use Rattle.rules.specs.Files.{inputCount, lentEnough}
-use Rattle.rules.specs.Runs.{recordsOctets}
 use Rattle.rules.specs.Promises.{DarkShown, LightStamped}
-use Rattle.rules.proofs.Refusals.Runs.{records-length}
-use Rattle.pairs.specs.Lists.{Listed}
-use Rattle.pairs.specs.Walls.{fileIn, readWall, readWallCall, WallWhole, playWall, wallAccepted, wallRefused, wallBy, wallCall}
+use Rattle.pairs.specs.Lists.{Listed, actuatorPart}
+use Rattle.pairs.specs.Walls.{fileIn, readWall, readWallCall, WallWhole, playWall, wallAccepted, wallRefused, wallCall, withoutSensor}
 use Rattle.pairs.specs.Refusals.{WallWhen}
-use Rattle.pairs.proofs.Refusals.Walls.{wall-decides, WallFinds, at-fault, no-room, played, wall-finds, a-good-wall-is-played, a-refused-wall-writes-nothing, wall-count, wall-answers-are-n}
-use Rattle.demands.specs.Walls.{wallParams, wallScenes, wallEnd, cuesGiven, WallModel, WallAnswersAll, WallRefusesCleanly, WallStaysWithin, WallJudges, WallPlaysAll, wallRecordsOf, WallKeeps, WallMeets}
+use Rattle.pairs.proofs.Refusals.Walls.{wall-decides, WallFinds, at-fault, no-room, played, wall-finds, wall-is-read, a-good-wall-is-played, a-refused-wall-writes-nothing, wall-count, wall-answers-are-n}
+use Rattle.demands.specs.Demands.{RefusesCleanly, StaysWithin, recordsOf}
+use Rattle.demands.specs.Walls.{wallParams, wallScenes, wallEnd, cuesGiven, WallModel, actuatorsRun, WallAnswersAll, WallRefusesIdle, WallPlaysAll, WallKeeps, WallMeets}
 use Rattle.demands.proofs.WallShown.{dark-shown-in-every-accepted-wall, light-stamped-in-every-accepted-wall}
-use Rattle.demands.proofs.Meets.{start-numbered, inputs-numbered, records-read-back, over-length, if-accepted}
+use Rattle.demands.proofs.Meets.{start-numbered, inputs-numbered, records-read-back, stays-as-long, if-accepted, not-zero, Settled, settled-is-one}
 
 -- ---- of every octet string
 
@@ -46,17 +41,23 @@ our-wall-run-answers-all wall records answers = by (wall-finds wall records answ
     by (no-room items read room) = unfold wallRefused in inl (omega arith)
     by (played items read room) = unfold wallAccepted in inl (omega arith)
 
-our-wall-run-refuses-cleanly : WallRefusesCleanly wallCall
+-- state and sensor of a refused one are a refusal's own
+our-wall-run-refuses-cleanly : RefusesCleanly (actuatorsRun wallCall)
 our-wall-run-refuses-cleanly wall records answers refused =
-    rw (a-refused-wall-writes-nothing wall records answers refused) (record { records = refl; answers = refl; count = refl; state = refl; sensor = refl })
+    rw (a-refused-wall-writes-nothing wall records answers refused) (record { records = refl; answers = refl; count = refl; state = refl })
 
-our-wall-run-judges : WallJudges wallCall
-unfolding wallCall wallBy wallAccepted wallRefused
-our-wall-run-judges wall records answers = by (readWallCall wall records answers)
+our-wall-run-refuses-idle : WallRefusesIdle wallCall
+our-wall-run-refuses-idle wall records answers refused = rw (a-refused-wall-writes-nothing wall records answers refused)
+
+our-wall-run-stays-within : StaysWithin (actuatorsRun wallCall)
+our-wall-run-stays-within wall records answers = by (wall-finds wall records answers) refl
   where
-    by : (x : Reading Listed) → (wallBy x wall records answers .report .code ≡ codeOf (verdict x)) × (wallBy x wall records answers .report .place ≡ placeOf (verdict x))
-    by (cues items) = (refl, refl)
-    by (bad why place) = (refl, refl)
+    by : {w : WallWhole} → WallFinds wall records answers w → wallCall wall records answers ≡ w → (length (w .records) ≡ length records) × (length (w .answers) ≡ length answers)
+    by (at-fault why place read) e = unfold wallRefused in (refl, refl)
+    by (no-room items read room) e = unfold wallRefused in (refl, refl)
+    by (played items read room) e =
+        let few = rw e at (wall-count wall records answers items read room .1) in
+        unfold wallAccepted lentEnough in stays-as-long (inputCount (fileIn wall)) _ _ records answers room few (wall-answers-are-n wall records answers items read room .0)
 
 -- ---- of every accepted run
 
@@ -69,33 +70,14 @@ module _ (wall records answers : List ℕ) (items : List Listed) (read : readWal
   our-wall-run-is-played : wallCall wall records answers ≡ wallAccepted (playWall wall items) records answers
   our-wall-run-is-played = a-good-wall-is-played wall records answers items (wall-accepted .0) (wall-accepted .1)
 
-  pub our-wall-records : wallRecordsOf (wallCall wall records answers) ≡ playWall wall items .records
+  pub our-wall-records : recordsOf (actuatorsRun wallCall wall records answers) ≡ playWall wall items .records
   unfolding wallAccepted
-  our-wall-records = ap wallRecordsOf our-wall-run-is-played ∙ records-read-back (playWall wall items .records) records
-
-  our-wall-run-fits : (length (recordsOctets (playWall wall items .records)) ≤ length records) × (length (playWall wall items .answers) ≤ length answers)
-  unfolding lentEnough
-  our-wall-run-fits =
-      let e = wall-accepted in
-      let n : ℕ = inputCount (fileIn wall) in
-      let room = both (leb (8 * (3 * n + 3)) (length records)) (leb n (length answers)) (e .1) in
-      let few = wall-count wall records answers items (e .0) (e .1) in (
-        omega (arith, records-length (playWall wall items .records), few .0, few .1, leb-true (8 * (3 * n + 3)) (length records) (room .0)),
-        omega (arith, wall-answers-are-n wall records answers items (e .0) (e .1) .0, leb-true n (length answers) (room .1)),
-      )
-
-our-wall-run-stays-within : WallStaysWithin wallCall
-unfolding wallCall wallBy wallAccepted wallRefused
-our-wall-run-stays-within wall records answers = by (readWallCall wall records answers) refl
-  where
-    by : (x : Reading Listed) → readWallCall wall records answers ≡ x → (length (wallBy x wall records answers .records) ≡ length records) × (length (wallBy x wall records answers .answers) ≡ length answers)
-    by (bad why place) e = (refl, refl)
-    by (cues items) e = let fits = our-wall-run-fits wall records answers items e in (over-length _ records (fits .0), over-length _ answers (fits .1))
+  our-wall-records = ap (λ (w : WallWhole). recordsOf (withoutSensor w)) our-wall-run-is-played ∙ records-read-back (playWall wall items .records) records
 
 our-wall-run-plays-all : WallPlaysAll wallCall
 unfolding wallAccepted
 our-wall-run-plays-all wall records answers items read =
-    rw (our-wall-run-is-played wall records answers items read) (record { state = refl; sensor = refl; count = refl; records = refl; answers = refl })
+    rw (our-wall-run-is-played wall records answers items read) (record { actuator = record { state = refl; records = refl; answers = refl }; sensor = refl; count = refl })
 
 -- what the records of every accepted list keep
 our-wall-run-keeps : (Promise : Params → List Scene → List Cue → ℕ → List Record → Type 0) →
@@ -108,8 +90,9 @@ our-wall-run-meets-every-demand =
     record {
       answers-all = our-wall-run-answers-all;
       refuses-cleanly = our-wall-run-refuses-cleanly;
+      refuses-idle = our-wall-run-refuses-idle;
       stays-within = our-wall-run-stays-within;
-      judges = our-wall-run-judges;
+      judges = wall-is-read;
       plays-all = our-wall-run-plays-all;
       keeps-dark = our-wall-run-keeps DarkShown dark-shown-in-every-accepted-wall;
       keeps-light = our-wall-run-keeps LightStamped light-stamped-in-every-accepted-wall;
@@ -117,37 +100,27 @@ our-wall-run-meets-every-demand =
 
 -- ---- and no other does
 
-same-wall-whole : (w x : WallWhole) → w .report .state ≡ x .report .state → w .report .sensor ≡ x .report .sensor → w .report .code ≡ x .report .code → w .report .place ≡ x .report .place →
-    w .report .count ≡ x .report .count → w .records ≡ x .records → w .answers ≡ x .answers → w ≡ x
-same-wall-whole w x state sensor code place count records answers =
-    λ i. record { report = record { state = state i; sensor = sensor i; code = code i; place = place i; count = count i }; records = records i; answers = answers i }
+with-its-sensor : (w x : WallWhole) → withoutSensor w ≡ withoutSensor x → w .report .sensor ≡ x .report .sensor → w ≡ x
+with-its-sensor w x same sensor =
+    λ i. record { report = record { state = same i .report .state; sensor = sensor i; code = same i .report .code; place = same i .report .place; count = same i .report .count }; records = same i .records; answers = same i .answers }
 
--- any two that meet it are equal at every input: the table gives code and place; a refused call leaves the rest as it was, an accepted one is played
+-- any two that meet it are equal at every input
+module _ (wall records answers : List ℕ) where
+  settled : (m : WallModel) → WallMeets m →
+      Settled (readWallCall wall records answers) (λ items. actuatorPart (playWall wall items)) (λ items. length (playWall wall items .records)) records answers (actuatorsRun m wall records answers)
+  settled m f = record { judged = f .judges wall records answers; refused = f .refuses-cleanly wall records answers; played = λ items read. f .plays-all wall records answers items read .actuator; counted = λ items read. f .plays-all wall records answers items read .count }
+
+  one-sensor : (m n : WallModel) → WallMeets m → WallMeets n → m wall records answers .report .sensor ≡ n wall records answers .report .sensor
+  one-sensor m n f g = by (readWallCall wall records answers) refl
+    where
+      by : (x : Reading Listed) → readWallCall wall records answers ≡ x → m wall records answers .report .sensor ≡ n wall records answers .report .sensor
+      by (cues items) read = f .plays-all wall records answers items read .sensor ∙ sym (g .plays-all wall records answers items read .sensor)
+      by (bad why place) read =
+          f .refuses-idle wall records answers (not-zero _ why place _ read (f .judges wall records answers .0)) ∙ sym (g .refuses-idle wall records answers (not-zero _ why place _ read (g .judges wall records answers .0)))
+
 pub no-second-wall-run-meets-every-demand : (m n : WallModel) → WallMeets m → WallMeets n → (wall records answers : List ℕ) → m wall records answers ≡ n wall records answers
-no-second-wall-run-meets-every-demand m n f g wall records answers = by (readWallCall wall records answers) refl
-  where
-    a : WallWhole
-    a = m wall records answers
-
-    b : WallWhole
-    b = n wall records answers
-
-    code : a .report .code ≡ b .report .code
-    code = f .judges wall records answers .0 ∙ sym (g .judges wall records answers .0)
-
-    place : a .report .place ≡ b .report .place
-    place = f .judges wall records answers .1 ∙ sym (g .judges wall records answers .1)
-
-    by : (x : Reading Listed) → readWallCall wall records answers ≡ x → a ≡ b
-    by (cues items) read =
-        let p = f .plays-all wall records answers items read in
-        let q = g .plays-all wall records answers items read in
-        same-wall-whole a b (p .state ∙ sym (q .state)) (p .sensor ∙ sym (q .sensor)) code place (p .count ∙ sym (q .count)) (p .records ∙ sym (q .records)) (p .answers ∙ sym (q .answers))
-    by (bad why x) read =
-        let table : codeOf (verdict (readWallCall wall records answers)) ≡ number why = ap (λ (x : Reading Listed). codeOf (verdict x)) read in
-        let p = f .refuses-cleanly wall records answers (λ zero. omega (arith, f .judges wall records answers .0, table, zero, some-number why)) in
-        let q = g .refuses-cleanly wall records answers (λ zero. omega (arith, g .judges wall records answers .0, table, zero, some-number why)) in
-        same-wall-whole a b (p .state ∙ sym (q .state)) (p .sensor ∙ sym (q .sensor)) code place (p .count ∙ sym (q .count)) (p .records ∙ sym (q .records)) (p .answers ∙ sym (q .answers))
+no-second-wall-run-meets-every-demand m n f g wall records answers =
+    with-its-sensor _ _ (settled-is-one _ _ (settled wall records answers m f) (settled wall records answers n g)) (one-sensor wall records answers m n f g)
 
 pub no-other-wall-run-meets-every-demand : (m : WallModel) → WallMeets m → (wall records answers : List ℕ) → m wall records answers ≡ wallCall wall records answers
 no-other-wall-run-meets-every-demand m meets = no-second-wall-run-meets-every-demand m wallCall meets our-wall-run-meets-every-demand

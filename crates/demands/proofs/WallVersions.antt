@@ -7,13 +7,14 @@ use mathlib.Core.Path.{_≡_, refl, sym, ap, _∙_}
 use native.Mathlib.Omega.{arith}
 use Rattle.rules.specs.Readings.{cues}
 use Rattle.rules.specs.Files.{endTime, paramsIn, scenesIn, lentEnough}
+use Rattle.rules.specs.Runs.{accepted}
 use Rattle.sensor.specs.Sensors.{freshSensor}
 use Rattle.pairs.specs.Pairs.{Pair}
-use Rattle.pairs.specs.Lists.{Listed}
+use Rattle.pairs.specs.Lists.{Listed, actuatorPart}
 use Rattle.pairs.specs.Walls.{fileIn, actionsIn, itemsRead, readWall, playWall, wallAccepted, wallCall}
 use Rattle.pairs.proofs.Refusals.Walls.{file-length, a-good-start-is-read, good-wall, good-wall-is-read, a-good-wall-is-played}
 use Rattle.demands.specs.Versions.{PairPlayedAlike, SameShow, WallRanAlike}
-use Rattle.demands.proofs.Versions.{same-inputs, good-start-of-new, good-start-of-old, same-params, same-scenes}
+use Rattle.demands.proofs.Versions.{handed-out-alike, same-inputs, good-start-of-new, good-start-of-old, same-params, same-scenes}
 use Rattle.demands.proofs.Alike.{no-rule-of-the-pair-looks-at-the-version}
 
 module _ (old new : List ℕ) (same : SameShow (fileIn old) (fileIn new)) (actions : actionsIn new ≡ actionsIn old) where
@@ -51,11 +52,6 @@ module _ (old new : List ℕ) (same : SameShow (fileIn old) (fileIn new)) (actio
       let p = walls-played-alike items in
       rw (a-good-wall-is-played old records answers items read room, a-good-wall-is-played new records answers items (walls-accepted-alike items .0 read) enough)
       (unfold wallAccepted in record {
-        state = ap (λ (x : Pair). x .actuator) (p .pair);
+        actuator = unfold accepted in handed-out-alike 2 (actuatorPart (playWall old items)) (actuatorPart (playWall new items)) records answers (record { state = ap (λ (x : Pair). x .actuator) (p .pair); answers = p .answers; records = p .records });
         sensor = ap (λ (x : Pair). x .sensor) (p .pair);
-        code = refl;
-        place = refl;
-        count = rw (p .records);
-        records = rw (p .records);
-        answers = rw (p .answers);
       })

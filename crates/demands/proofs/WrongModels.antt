@@ -191,7 +191,7 @@ night-shows m dark t late h = kept DarkShown m dark 1 (octetsOf 0 6 1) (night-at
 -- ---- "A model that refuses all files is shut out by demand 2, which accepts each file outside the table."
 
 -- whatever its numbers are
-pub the-model-that-refuses-all-files-breaks-demand-2 : (m : Model) → ((file records answers : List ℕ) → m file records answers .report .code ≡ 0 → ⊥) → Judges m → ⊥
+pub the-model-that-refuses-all-files-breaks-demand-2 : (m : Model) → ((file records answers : List ℕ) → m file records answers .report .code ≡ 0 → ⊥) → Judges readCall m → ⊥
 the-model-that-refuses-all-files-breaks-demand-2 m refuses judges = refuses (fileOf 0 []) room room (rw no-inputs at (judges (fileOf 0 []) room room .0))
 
 -- ---- "A step that changes nothing falls to the Light half of demand 3"

@@ -13,7 +13,8 @@ use Rattle.pairs.specs.declared.item.Item.the-variants.{Plain, Button1}
 use Rattle.pairs.specs.Pairs.{pairMove}
 use Rattle.pairs.specs.Lists.{Listed, listed}
 use Rattle.pairs.specs.Walls.{readWallCall, playWall, wallAccepted}
-use Rattle.demands.specs.Walls.{WallModel, WallJudges, WallPlaysAll}
+use Rattle.demands.specs.Demands.{Judges}
+use Rattle.demands.specs.Walls.{WallModel, actuatorsRun, WallPlaysAll}
 use Rattle.demands.specs.WrongWalls.{ItemRule, MoveRule, itemsBy, wallPlayedBy, wallReadBy, wallRunBy, deafItem, deafMove, deafWallRun, hastyItem, hastyWallRun, RefusesEdges}
 use Rattle.demands.proofs.Computing.{readingWalls, playingWalls}
 use Rattle.demands.proofs.WrongModels.{octetsOf, fileOf, room}
@@ -66,7 +67,7 @@ hasty-leaves-it-dark = refl
 its-end : (item : ItemRule) (move : MoveRule) → WallPlaysAll (wallRunBy item move) → (t : ℕ) → readWallCall (pressAt t) room room ≡ cues (itemsAt t) →
     output (wallPlayedBy item move (pressAt t) (itemsAt t) .pair .actuator .phase) ≡ output (playWall (pressAt t) (itemsAt t) .pair .actuator .phase)
 unfolding wallRunBy wallReadBy wallAccepted
-its-end item move plays t read = ap (λ (s : State). output (s .phase)) (rw read at (plays (pressAt t) room room (itemsAt t) read .state))
+its-end item move plays t read = ap (λ (s : State). output (s .phase)) (rw read at (plays (pressAt t) room room (itemsAt t) read .actuator .state))
 
 pub the-run-that-hears-no-record-breaks-demand-2 : WallPlaysAll deafWallRun → ⊥
 unfolding deafWallRun
@@ -77,5 +78,5 @@ unfolding hastyWallRun
 the-run-that-decides-before-the-clock-moves-breaks-demand-2 plays = true≢false (sym ours-lights-it-again ∙ sym (its-end hastyItem pairMove plays 10 late-press) ∙ hasty-leaves-it-dark)
 
 -- whatever its numbers are
-pub the-run-that-refuses-every-edge-breaks-demand-2 : (m : WallModel) → RefusesEdges m → WallJudges m → ⊥
+pub the-run-that-refuses-every-edge-breaks-demand-2 : (m : WallModel) → RefusesEdges m → Judges readWallCall (actuatorsRun m) → ⊥
 the-run-that-refuses-every-edge-breaks-demand-2 m refuses judges = refuses (pressAt 5) room room (itemsAt 5) early-press (inr (inl tt)) (rw early-press at (judges (pressAt 5) room room .0))

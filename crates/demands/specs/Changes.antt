@@ -13,7 +13,7 @@ use Rattle.rules.specs.Lists.{Played, andThen, unplayed}
 use Rattle.rules.specs.Refusals.{stampBefore, GoodGroups, RoomFor}
 use Rattle.rules.specs.Runs.{recordsOctets, over, Whole}
 use Rattle.rules.specs.Changes.{groupCount, Singles, thenOthers, changeCall}
-use Rattle.demands.specs.Demands.{Among, recordsOf}
+use Rattle.demands.specs.Demands.{Among, Untouched, recordsOf}
 
 -- ---- "a change cut in two anywhere is the two changes one after the other"
 
@@ -96,13 +96,10 @@ pub record RefusedFrom (s : State) (inputs r a : List ℕ) (place : ℕ) : Type 
   pub records : changeCall s inputs r a .records ≡ changeCall s (take (inputPlace place) inputs) r a .records
   pub answers : changeCall s inputs r a .answers ≡ changeCall s (take (inputPlace place) inputs) r a .answers
 
--- A change that is refused as a whole: the state given comes back, no record is counted, the place is 0, and both buffers are as they were lent.
+-- A change that is refused as a whole: the state given comes back, the place is 0, and nothing is written.
 pub record NothingPlayed (s : State) (r a : List ℕ) (w : Whole) : Type 0 where
-  pub state : w .report .state ≡ s
+  pub untouched : Untouched s r a w
   pub place : w .report .place ≡ 0
-  pub count : w .report .count ≡ 0
-  pub records : w .records ≡ r
-  pub answers : w .answers ≡ a
 
 -- "gets a numbered answer": a change is accepted; or it is refused as a whole, with 9, 12 or 8; or it stops at an input, with 6 or 7
 abbrev pub ChangeAnswered : State → List ℕ → List ℕ → List ℕ → Whole → Type 0

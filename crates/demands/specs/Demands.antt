@@ -18,7 +18,7 @@ use Rattle.rules.specs.Steps.{fresh, tick, clockMove, step}
 use Rattle.rules.specs.Lists.{Cue, cue, Played}
 use Rattle.base.specs.Refusals.{codeOf, placeOf}
 use Rattle.rules.specs.Calls.{ownState, places}
-use Rattle.rules.specs.Readings.{cues, verdict}
+use Rattle.rules.specs.Readings.{Reading, cues, verdict}
 use Rattle.rules.specs.Files.{endTime, readCall, paramsIn, scenesIn}
 use Rattle.rules.specs.Runs.{recordsOctets, over, Whole, playFile}
 use Rattle.rules.specs.Promises.{DarkShown, LightStamped}
@@ -39,17 +39,17 @@ Among n (one ∷ others) = (n ≡ one) ⊎ Among n others
 abbrev pub AnswersAll : Model → Type 0
 AnswersAll m = (file records answers : List ℕ) → m file records answers .report .code ≤ 8
 
--- both buffers are as they were lent, no record is counted, and the state is a refusal's own: "Where no state was handed in, a
--- refusal's state is the fresh one with TimedOn 1 second, other times and modes 0, no scenes."
-pub record Untouched (lentRecords lentAnswers : List ℕ) (w : Whole) : Type 0 where
+-- both buffers are as they were lent, no record is counted, and the state is this one
+pub record Untouched (given : State) (lentRecords lentAnswers : List ℕ) (w : Whole) : Type 0 where
   pub records : w .records ≡ lentRecords
   pub answers : w .answers ≡ lentAnswers
   pub count : w .report .count ≡ 0
-  pub state : w .report .state ≡ ownState
+  pub state : w .report .state ≡ given
 
--- "A refused call writes nothing to the lent memory and hands back the state it was given."
+-- "A refused call writes nothing to the lent memory and hands back the state it was given."; "Where no state was handed in, a refusal's state is
+-- the fresh one with TimedOn 1 second, other times and modes 0, no scenes."
 abbrev pub RefusesCleanly : Model → Type 0
-RefusesCleanly m = (file records answers : List ℕ) → (m file records answers .report .code ≡ 0 → ⊥) → Untouched records answers (m file records answers)
+RefusesCleanly m = (file records answers : List ℕ) → (m file records answers .report .code ≡ 0 → ⊥) → Untouched ownState records answers (m file records answers)
 
 -- 01: "two lent octet buffers": what is lent keeps its length, so that nothing is written past its end
 abbrev pub StaysWithin : Model → Type 0
@@ -65,21 +65,22 @@ pub record HandedBack (given : State) (r : Single) : Type 0 where
 -- the same of any call that plays a single input, from a state and eight octets by value: ".. and each single input to a state,
 -- gets a numbered answer" ("For a single input 9, 6, 7, place 0."), and a refused one "hands back the state it was given"
 pub record SingleAnswers (call : State → List ℕ → Single) : Type 0 where
-  pub numbered : (s : State) (octets : List ℕ) → (call s octets .code ≡ 0) ⊎ (call s octets .code ≡ 6) ⊎ (call s octets .code ≡ 7) ⊎ (call s octets .code ≡ 9)
+  pub numbered : (s : State) (octets : List ℕ) → Among (call s octets .code) (0 ∷ 6 ∷ 7 ∷ 9 ∷ [])
   pub placed : (s : State) (octets : List ℕ) → call s octets .place ≡ 0
   pub handed-back : (s : State) (octets : List ℕ) → (call s octets .code ≡ 0 → ⊥) → HandedBack s (call s octets)
 
 -- ---- 2: "Records, answers and end state are those of KNX 7/20/2 Supplement 1 .. and of document 01's rules where it is silent,
 -- input by input and timer by timer."
 
--- 01: "demand 2, which accepts each file outside the table"; "Given exactly when", with its place
-abbrev pub Judges : Model → Type 0
-Judges m =
-    (file records answers : List ℕ) → (m file records answers .report .code ≡ codeOf (verdict (readCall file records answers))) × (m file records answers .report .place ≡ placeOf (verdict (readCall file records answers)))
+-- 01: "demand 2, which accepts each file outside the table"; "Given exactly when", with its place. Of a cue file `readCall` says what the table
+-- finds.
+abbrev pub Judges : {A : Type 0} → (List ℕ → List ℕ → List ℕ → Reading A) → Model → Type 0
+Judges read m =
+    (file records answers : List ℕ) → (m file records answers .report .code ≡ codeOf (verdict (read file records answers))) × (m file records answers .report .place ≡ placeOf (verdict (read file records answers)))
 
 -- so it is of every run that the table accepts
-abbrev pub OfEveryAccepted : (List ℕ → List ℕ → List ℕ → List Cue → Type 0) → Type 0
-OfEveryAccepted P = (file records answers : List ℕ) (list : List Cue) → readCall file records answers ≡ cues list → P file records answers list
+abbrev pub OfEveryAccepted : {A : Type 0} → (List ℕ → List ℕ → List ℕ → Reading A) → (List ℕ → List ℕ → List ℕ → List A → Type 0) → Type 0
+OfEveryAccepted {A} read P = (file records answers : List ℕ) (list : List A) → read file records answers ≡ cues list → P file records answers list
 
 -- what was played: the end state, and both buffers ("Octets past what is written stay.")
 pub record Holds (lentRecords lentAnswers : List ℕ) (p : Played) (w : Whole) : Type 0 where
@@ -89,7 +90,7 @@ pub record Holds (lentRecords lentAnswers : List ℕ) (p : Played) (w : Whole) :
 
 -- 01: "demand 2 over the whole list"
 abbrev pub PlaysAll : Model → Type 0
-PlaysAll m = OfEveryAccepted (λ file records answers list. Holds records answers (playFile file list) (m file records answers))
+PlaysAll m = OfEveryAccepted readCall (λ file records answers list. Holds records answers (playFile file list) (m file records answers))
 
 -- 1 where value or attributes changed
 unfoldable pub changed : State → State → ℕ
@@ -111,7 +112,7 @@ changes end (cue t i ∷ later) s = changedByTimers s t + (changed (clockMove s 
 -- input that changed value or attributes."
 abbrev pub CountsChanges : Model → Type 0
 CountsChanges m =
-    OfEveryAccepted (λ file records answers list. m file records answers .report .count ≡ 1 + changes (endTime file) list (fresh (paramsIn file) (scenesIn file)))
+    OfEveryAccepted readCall (λ file records answers list. m file records answers .report .count ≡ 1 + changes (endTime file) list (fresh (paramsIn file) (scenesIn file)))
 
 -- ---- 3: "Nobody waits for ever, for any accepted list."
 
@@ -127,7 +128,7 @@ recordsOf w = recordsIn (w .report .count) (w .records)
 
 -- what is promised of a list, with its parameters, scenes and end time, is kept by the records that the model has written for it
 abbrev pub Keeps : (Params → List Scene → List Cue → ℕ → List Record → Type 0) → Model → Type 0
-Keeps Promise m = OfEveryAccepted (λ file records answers list. Promise (paramsIn file) (scenesIn file) list (endTime file) (recordsOf (m file records answers)))
+Keeps Promise m = OfEveryAccepted readCall (λ file records answers list. Promise (paramsIn file) (scenesIn file) list (endTime file) (recordsOf (m file records answers)))
 
 -- "Dark: .. the output is off at t."
 abbrev pub KeepsDark : Model → Type 0
@@ -144,7 +145,7 @@ pub record Meets (m : Model) : Type 0 where
   pub answers-all : AnswersAll m
   pub refuses-cleanly : RefusesCleanly m
   pub stays-within : StaysWithin m
-  pub judges : Judges m
+  pub judges : Judges readCall m
   pub plays-all : PlaysAll m
   pub counts-changes : CountsChanges m
   pub keeps-dark : KeepsDark m

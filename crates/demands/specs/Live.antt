@@ -37,10 +37,11 @@ abbrev pub NumberCodes : (Refusal → ℕ → Type 0) → Type 0 → ℕ → Typ
 NumberCodes Given Good number = Codes Given Good (codeIn number) (placeIn number)
 
 -- house_fresh: "1, 5, then 8"
+abbrev pub HouseFreshWhen : List ℕ → List ℕ → Refusal → ℕ → Type 0
+HouseFreshWhen parameters state = Then (λ why p. FoundWhen (formAlone parameters) parameters (Refused why p)) (GoodParameters (formAlone parameters) parameters) (Only ShortBuffer 0 (length state ≡ 56 → ⊥))
+
 abbrev pub HouseFreshCodes : List ℕ → List ℕ → ℕ → Type 0
-HouseFreshCodes parameters state =
-    let Good : Type 0 = GoodParameters (formAlone parameters) parameters in
-    NumberCodes (Then (λ why p. FoundWhen (formAlone parameters) parameters (Refused why p)) Good (Only ShortBuffer 0 (length state ≡ 56 → ⊥))) (Good × (length state ≡ 56))
+HouseFreshCodes parameters state = NumberCodes (HouseFreshWhen parameters state) (GoodParameters (formAlone parameters) parameters × (length state ≡ 56))
 
 -- house_move: "9, 7, then 8 for room under 16 octets"
 abbrev pub HouseMoveCodes : List ℕ → ℕ → List ℕ → ℕ → Type 0
@@ -51,10 +52,13 @@ HouseMoveCodes state stamp records =
     NumberCodes (Then (Only UnsoundState 0 (Image → ⊥)) Image (Then (Only BadStamp 0 (InTime → ⊥)) InTime (Only ShortBuffer 0 (Room → ⊥)))) (Image × (InTime × Room))
 
 -- house_run_to: the rows of the run, then 8 for the lent state
-abbrev pub HouseRunToCodes : List ℕ → List ℕ → List ℕ → List ℕ → ℕ → Type 0
-HouseRunToCodes file state records answers =
+abbrev pub HouseRunToWhen : List ℕ → List ℕ → List ℕ → List ℕ → Refusal → ℕ → Type 0
+HouseRunToWhen file state records answers =
     let Room : Type 0 = RoomFor (inputCount file) records answers in
-    NumberCodes (Then (Then (GivenWhen file) (GoodFile file) (Only ShortBuffer 0 (Room → ⊥))) (GoodFile file × Room) (Only ShortBuffer 0 (length state ≡ 56 → ⊥))) ((GoodFile file × Room) × (length state ≡ 56))
+    Then (Then (GivenWhen file) (GoodFile file) (Only ShortBuffer 0 (Room → ⊥))) (GoodFile file × Room) (Only ShortBuffer 0 (length state ≡ 56 → ⊥))
+
+abbrev pub HouseRunToCodes : List ℕ → List ℕ → List ℕ → List ℕ → ℕ → Type 0
+HouseRunToCodes file state records answers = NumberCodes (HouseRunToWhen file state records answers) ((GoodFile file × RoomFor (inputCount file) records answers) × (length state ≡ 56))
 
 -- house_change: the rows of a change, with 9 for octets that are no image: 9, 12, 8, then 6 or 7 as met, with the index of that input
 abbrev pub HouseChangeCodes : List ℕ → List ℕ → List ℕ → List ℕ → ℕ → Type 0

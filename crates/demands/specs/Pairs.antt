@@ -2,8 +2,7 @@
 -- ones break it (proofs/WrongPairs.antt).
 use Prim.Native.Nat.{ℕ}
 use mathlib.Core.Path.{_≡_}
-use mathlib.Core.Logic.{_⊎_}
-use mathlib.Core.List.{List, []}
+use mathlib.Core.List.{List, [], _∷_}
 use lib.ListN.{length}
 use Rattle.octets.specs.Groups.{stampAt}
 use Rattle.base.specs.Refusals.{Timely}
@@ -17,6 +16,7 @@ use Rattle.pairs.specs.declared.call.JointMove.{JointMove}
 use Rattle.pairs.specs.Items.{itemAt}
 use Rattle.pairs.specs.Pairs.{Pair, PairMoved, pairMove, PairStepped, pairStep}
 use Rattle.pairs.specs.Refusals.{SoundPair, JointCodes, JointMoveCodes}
+use Rattle.demands.specs.Demands.{Among}
 
 -- ---- one item
 
@@ -25,7 +25,7 @@ PairModel = Pair → List ℕ → Joint
 
 -- 1: "each single input to a state, gets a numbered answer": "For a single input 9, 6, 7"
 abbrev pub PairAnswersAll : PairModel → Type 0
-PairAnswersAll m = (p : Pair) (octets : List ℕ) → (m p octets .code ≡ 0) ⊎ (m p octets .code ≡ 6) ⊎ (m p octets .code ≡ 7) ⊎ (m p octets .code ≡ 9)
+PairAnswersAll m = (p : Pair) (octets : List ℕ) → Among (m p octets .code) (0 ∷ 6 ∷ 7 ∷ 9 ∷ [])
 
 -- each exactly when the table gives it
 abbrev pub PairJudges : PairModel → Type 0
@@ -75,7 +75,7 @@ PairMoveModel = Pair → ℕ → JointMove
 
 -- "A clock move: 9, 7."
 abbrev pub PairMoveAnswersAll : PairMoveModel → Type 0
-PairMoveAnswersAll m = (p : Pair) (t : ℕ) → (m p t .code ≡ 0) ⊎ (m p t .code ≡ 7) ⊎ (m p t .code ≡ 9)
+PairMoveAnswersAll m = (p : Pair) (t : ℕ) → Among (m p t .code) (0 ∷ 7 ∷ 9 ∷ [])
 
 abbrev pub PairMoveJudges : PairMoveModel → Type 0
 PairMoveJudges m = (p : Pair) (t : ℕ) → JointMoveCodes p t (m p t .code) (m p t .place)

@@ -13,7 +13,7 @@ use Rattle.rules.specs.Files.{actuators, parametersOffset, inputCount, inputsOf
 use Rattle.rules.specs.Runs.{Whole}
 use Rattle.pairs.specs.Pairs.{Pair, pairOf}
 use Rattle.pairs.specs.Lists.{PairPlayed}
-use Rattle.pairs.specs.Walls.{WallWhole}
+use Rattle.pairs.specs.Walls.{WallWhole, withoutSensor}
 
 -- ---- all but the version
 
@@ -67,11 +67,7 @@ pub record RanAlike (v : ℕ) (old new : Whole) : Type 0 where
   pub records : new .records ≡ old .records
   pub answers : new .answers ≡ old .answers
 
+-- and with the same sensor beside it
 pub record WallRanAlike (v : ℕ) (old new : WallWhole) : Type 0 where
-  pub state : new .report .state ≡ inVersion v (old .report .state)
+  pub actuator : RanAlike v (withoutSensor old) (withoutSensor new)
   pub sensor : new .report .sensor ≡ old .report .sensor
-  pub code : new .report .code ≡ old .report .code
-  pub place : new .report .place ≡ old .report .place
-  pub count : new .report .count ≡ old .report .count
-  pub records : new .records ≡ old .records
-  pub answers : new .answers ≡ old .answers

@@ -5,22 +5,18 @@ use mathlib.Core.Path.{_≡_}
 use mathlib.Core.Logic.{_⊎_}
 use mathlib.Core.List.{List}
 use lib.ListN.{length}
-use Rattle.base.specs.Refusals.{codeOf, placeOf}
 use Rattle.rules.specs.declared.parameters.Params.{Params}
 use Rattle.rules.specs.declared.parameters.Scene.{Scene}
 use Rattle.rules.specs.declared.record.Record.{Record}
 use Rattle.rules.specs.Lists.{Cue}
-use Rattle.rules.specs.Calls.{ownState}
-use Rattle.rules.specs.Readings.{cues, verdict}
 use Rattle.rules.specs.Files.{endTime, paramsIn, scenesIn}
-use Rattle.rules.specs.Runs.{recordsOctets, over}
 use Rattle.rules.specs.Promises.{DarkShown, LightStamped}
 use Rattle.sensor.specs.Sensors.{freshSensor, ownSensor}
 use Rattle.pairs.specs.Pairs.{Pair}
-use Rattle.pairs.specs.Lists.{Listed, PairPlayed, pairStart}
+use Rattle.pairs.specs.Lists.{Listed, PairPlayed, actuatorPart, pairStart}
 use Rattle.pairs.specs.Halves.{cuesFor, given}
-use Rattle.pairs.specs.Walls.{fileIn, actionsIn, readWallCall, WallWhole, playWall}
-use Rattle.demands.specs.Demands.{recordsIn}
+use Rattle.pairs.specs.Walls.{fileIn, actionsIn, readWallCall, WallWhole, playWall, withoutSensor}
+use Rattle.demands.specs.Demands.{Model, RefusesCleanly, StaysWithin, Judges, OfEveryAccepted, Holds, recordsOf}
 
 -- ---- what a wall list holds
 
@@ -46,59 +42,40 @@ cuesGiven wall items = given (cuesFor items (begun wall))
 abbrev pub WallModel : Type 0
 WallModel = List ℕ → List ℕ → List ℕ → WallWhole
 
+-- the same without its sensor, of which the demands of a run over a cue file are asked
+abbrev pub actuatorsRun : WallModel → Model
+actuatorsRun m wall records answers = withoutSensor (m wall records answers)
+
 -- 1: "Every octet string .. gets a numbered answer": 0 where it is accepted, 1 to 8, or 11 for an action above 3 (9 is for a state that was
 -- handed in)
 abbrev pub WallAnswersAll : WallModel → Type 0
 WallAnswersAll m = (wall records answers : List ℕ) → (m wall records answers .report .code ≤ 8) ⊎ (m wall records answers .report .code ≡ 11)
 
--- "A refused call writes nothing to the lent memory", no record is counted, and state and sensor are a refusal's own
-pub record WallUntouched (lentRecords lentAnswers : List ℕ) (w : WallWhole) : Type 0 where
-  pub records : w .records ≡ lentRecords
-  pub answers : w .answers ≡ lentAnswers
-  pub count : w .report .count ≡ 0
-  pub state : w .report .state ≡ ownState
-  pub sensor : w .report .sensor ≡ ownSensor
+-- the sensor of a refused call is a refusal's own too
+abbrev pub WallRefusesIdle : WallModel → Type 0
+WallRefusesIdle m = (wall records answers : List ℕ) → (m wall records answers .report .code ≡ 0 → ⊥) → m wall records answers .report .sensor ≡ ownSensor
 
-abbrev pub WallRefusesCleanly : WallModel → Type 0
-WallRefusesCleanly m = (wall records answers : List ℕ) → (m wall records answers .report .code ≡ 0 → ⊥) → WallUntouched records answers (m wall records answers)
-
--- what is lent keeps its length
-abbrev pub WallStaysWithin : WallModel → Type 0
-WallStaysWithin m = (wall records answers : List ℕ) → (length (m wall records answers .records) ≡ length records) × (length (m wall records answers .answers) ≡ length answers)
-
--- 2: code and place of every octet string are the table's
-abbrev pub WallJudges : WallModel → Type 0
-WallJudges m =
-    (wall records answers : List ℕ) → (m wall records answers .report .code ≡ codeOf (verdict (readWallCall wall records answers))) × (m wall records answers .report .place ≡ placeOf (verdict (readWallCall wall records answers)))
-
-abbrev pub OfEveryAcceptedWall : (List ℕ → List ℕ → List ℕ → List Listed → Type 0) → Type 0
-OfEveryAcceptedWall P = (wall records answers : List ℕ) (items : List Listed) → readWallCall wall records answers ≡ cues items → P wall records answers items
-
--- what the pair played: both end states, how much was recorded, and both buffers ("Octets past what is written stay.")
+-- 2: what the pair played: both end states, how much was recorded, and both buffers
 pub record WallHolds (lentRecords lentAnswers : List ℕ) (p : PairPlayed) (w : WallWhole) : Type 0 where
-  pub state : w .report .state ≡ p .pair .actuator
+  pub actuator : Holds lentRecords lentAnswers (actuatorPart p) (withoutSensor w)
   pub sensor : w .report .sensor ≡ p .pair .sensor
   pub count : w .report .count ≡ length (p .records)
-  pub records : w .records ≡ over (recordsOctets (p .records)) lentRecords
-  pub answers : w .answers ≡ over (p .answers) lentAnswers
 
 abbrev pub WallPlaysAll : WallModel → Type 0
-WallPlaysAll m = OfEveryAcceptedWall (λ wall records answers items. WallHolds records answers (playWall wall items) (m wall records answers))
+WallPlaysAll m = OfEveryAccepted readWallCall (λ wall records answers items. WallHolds records answers (playWall wall items) (m wall records answers))
 
 -- 3: the promises are kept by the records that the model has written, over what the actuator was given: an edge's On or Off counts as On or Off
 -- where it is taken
-abbrev pub wallRecordsOf : WallWhole → List Record
-wallRecordsOf w = recordsIn (w .report .count) (w .records)
-
 abbrev pub WallKeeps : (Params → List Scene → List Cue → ℕ → List Record → Type 0) → WallModel → Type 0
 WallKeeps Promise m =
-    OfEveryAcceptedWall (λ wall records answers items. Promise (wallParams wall) (wallScenes wall) (cuesGiven wall items) (wallEnd wall) (wallRecordsOf (m wall records answers)))
+    OfEveryAccepted readWallCall (λ wall records answers items. Promise (wallParams wall) (wallScenes wall) (cuesGiven wall items) (wallEnd wall) (recordsOf (actuatorsRun m wall records answers)))
 
 pub record WallMeets (m : WallModel) : Type 0 where
   pub answers-all : WallAnswersAll m
-  pub refuses-cleanly : WallRefusesCleanly m
-  pub stays-within : WallStaysWithin m
-  pub judges : WallJudges m
+  pub refuses-cleanly : RefusesCleanly (actuatorsRun m)
+  pub refuses-idle : WallRefusesIdle m
+  pub stays-within : StaysWithin (actuatorsRun m)
+  pub judges : Judges readWallCall (actuatorsRun m)
   pub plays-all : WallPlaysAll m
   pub keeps-dark : WallKeeps DarkShown m
   pub keeps-light : WallKeeps LightStamped m

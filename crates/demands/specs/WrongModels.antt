@@ -25,7 +25,7 @@ modelBy play file records answers = playedBy play (readCall file records answers
 -- where a step changes nothing, the start record is the only one; end state and answers may be any
 abbrev pub StartRecordOnly : Model → Type 0
 StartRecordOnly m =
-    OfEveryAccepted (λ file records answers list. recordsOf (m file records answers) ≡ recordOf byItself (fresh (paramsIn file) (scenesIn file)) ∷ [])
+    OfEveryAccepted readCall (λ file records answers list. recordsOf (m file records answers) ≡ recordOf byItself (fresh (paramsIn file) (scenesIn file)) ∷ [])
 
 -- as when each input leaves the fresh state as it is and is answered 1
 unfoldable pub playsNothing : List ℕ → List Cue → Played

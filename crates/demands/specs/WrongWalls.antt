@@ -21,7 +21,8 @@ use Rattle.pairs.specs.declared.item.Item.the-variants.{Plain, Button1, Button2
 use Rattle.pairs.specs.Pairs.{Pair, pairOf, PairMoved, heardMove, pairMove, PairStepped, heardStep, told, pairStep}
 use Rattle.pairs.specs.Lists.{Listed, listed, PairPlayed, pairThen, pairMoved, pairStepped, pairStart}
 use Rattle.pairs.specs.Walls.{actionsIn, readWallCall, WallWhole, wallAccepted, wallRefused}
-use Rattle.demands.specs.Walls.{wallParams, wallScenes, wallEnd, WallModel, OfEveryAcceptedWall}
+use Rattle.demands.specs.Walls.{wallParams, wallScenes, wallEnd, WallModel}
+use Rattle.demands.specs.Demands.{OfEveryAccepted}
 
 -- ---- a run by other rules for an item and for a clock move
 
@@ -96,4 +97,4 @@ HasEdge [] = ⊥
 HasEdge (listed t i ∷ later) = IsEdge i ⊎ HasEdge later
 
 abbrev pub RefusesEdges : WallModel → Type 0
-RefusesEdges m = OfEveryAcceptedWall (λ wall records answers items. HasEdge items → m wall records answers .report .code ≡ 0 → ⊥)
+RefusesEdges m = OfEveryAccepted readWallCall (λ wall records answers items. HasEdge items → m wall records answers .report .code ≡ 0 → ⊥)

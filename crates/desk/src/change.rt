@@ -35,8 +35,15 @@ fn play_image(
     pack(r.code, r.place, r.count)
 }
 
-// Any octets as a state, any as inputs, and any pair of buffers: 9, 12 and 8 leave all of them as they were.
-pub fn change_image(state: &mut [u8], inputs: &[u8], records: &mut [u8], answers: &mut [u8]) -> u64
+// Inputs to a state: its image is replaced, and both buffers are filled. Any octets as a state, any as inputs, and any pair of buffers: 9, 12 and 8
+// leave all of them as they were.
+#[no_mangle]
+pub extern "C" fn house_change(
+    state: &mut [u8],
+    inputs: &[u8],
+    records: &mut [u8],
+    answers: &mut [u8],
+) -> u64
     ensures { λ r. ⌜ imagedRunBy r (now (state .exit)) (now (records .exit)) (now (answers .exit)) ≡ houseChange (now (state .entry)) (now (inputs .entry)) (now (records .entry)) (now (answers .entry)) ⌝ }
 {
     if state.len() != IMAGE_SIZE {

@@ -38,8 +38,9 @@ fn move_state(s: State, state: &mut [u8], stamp: u32, records: &mut [u8]) -> u64
     }
 }
 
-// Any octets as a state, any stamp, and any room for records.
-pub fn move_image(state: &mut [u8], stamp: u32, records: &mut [u8]) -> u64
+// The clock of a state moves: its image is replaced, and the records are filled. Any octets as a state, any stamp, and any room for records.
+#[no_mangle]
+pub extern "C" fn house_move(state: &mut [u8], stamp: u32, records: &mut [u8]) -> u64
     ensures { λ r. ⌜ imagedMoveBy r (now (state .exit)) (now (records .exit)) ≡ houseMove (now (state .entry)) stamp (now (records .entry)) ⌝ }
 {
     if state.len() != IMAGE_SIZE {

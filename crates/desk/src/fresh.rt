@@ -9,8 +9,9 @@ use images::IMAGE_SIZE;
 use images::put::put_image;
 use live::fresh::fresh_state;
 
-// Any octets as parameters, and any lent state: what is wrong with the parameters comes first.
-pub fn fresh_image(parameters: &[u8], state: &mut [u8]) -> u64
+// The image of the fresh state of parameters alone. Any octets as parameters, and any lent state: what is wrong with the parameters comes first.
+#[no_mangle]
+pub extern "C" fn house_fresh(parameters: &[u8], state: &mut [u8]) -> u64
     ensures { λ r. ⌜ imagedBy r (now (state .exit)) ≡ houseFresh (now (parameters .entry)) (now (state .entry)) ⌝ }
 {
     let f = fresh_state(parameters);

@@ -1,11 +1,10 @@
-// The live calls in lent memory: a state goes in and comes out as its image, records and answers as octets, the report as one number.
+// The live calls from C, in lent memory: a state goes in and comes out as its image, records and answers as octets, the report as one number.
 ghost use mathlib.Core.Path.{_≡_};
 ghost use Rattle.rules.specs.Live.{refusedNumber};
 use base::refusal::Refusal;
 use base::refusal::number_of;
 use buffers::report::pack;
 
-pub mod c;
 pub mod change;
 pub mod clock;
 pub mod fresh;

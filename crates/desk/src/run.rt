@@ -22,8 +22,15 @@ fn no_room(file: &[u8]) -> u64
     }
 }
 
-// Any octets as a file, any lent state and any pair of buffers: a refused run leaves all of them as they were.
-pub fn run_image(file: &[u8], state: &mut [u8], records: &mut [u8], answers: &mut [u8]) -> u64
+// A cue file, and the image of the state at its end. Any octets as a file, any lent state and any pair of buffers: a refused run leaves all of
+// them as they were.
+#[no_mangle]
+pub extern "C" fn house_run_to(
+    file: &[u8],
+    state: &mut [u8],
+    records: &mut [u8],
+    answers: &mut [u8],
+) -> u64
     ensures { λ r. ⌜ imagedRunBy r (now (state .exit)) (now (records .exit)) (now (answers .exit)) ≡ houseRunTo (now (file .entry)) (now (state .entry)) (now (records .entry)) (now (answers .entry)) ⌝ }
 {
     if state.len() != IMAGE_SIZE {

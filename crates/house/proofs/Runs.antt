@@ -1,17 +1,11 @@
 -- The whole run, one law for each way out.
 use Prim.Native.Nat.{ℕ}
-use mathlib.Core.Bool.{true, false, _&&_}
 use mathlib.Core.List.{List}
 use mathlib.Core.Path.{_≡_, sym, ap, _∙_}
-use native.Mathlib.Nat.{zero-add}
-use lib.ListN.{length}
-use lib.Dec.{leb}
 use Rattle.base.specs.declared.refusal.Refusal.{Refusal}
 use Rattle.base.specs.declared.refusal.Refusal.the-variants.{ShortBuffer}
 use Rattle.base.specs.declared.refusal.Check.the-variants.{Passed, Refused}
-use Rattle.rules.specs.declared.form.Form.{Form}
-use Rattle.rules.specs.Forms.{formIn}
-use Rattle.rules.specs.Layout.{recordsRoom}
+use Rattle.base.proofs.Tests.{cond-case}
 use Rattle.rules.specs.Lists.{Cue, Played}
 use Rattle.rules.specs.Readings.{Reading, cues, found, verdict}
 use Rattle.rules.specs.Files.{inputCount, endTime, inputsIn, readFile, lentEnough}
@@ -20,15 +14,11 @@ use Rattle.rules.proofs.Refusals.Readings.{bad-read, good-read}
 use Rattle.rules.proofs.Refusals.Files.{good-file, good-start}
 use Rattle.rules.proofs.Refusals.Runs.{a-bad-file-is-refused, a-short-buffer-is-refused, a-good-file-is-played}
 use Rattle.sensor.specs.declared.state.Sensor.{Sensor}
-use Rattle.pairs.specs.Lists.{Listed}
-use Rattle.pairs.specs.Walls.{itemsRead}
-use Rattle.pairs.proofs.Halves.{actuatorPart, plainItems}
+use Rattle.pairs.specs.Lists.{Listed, actuatorPart}
+use Rattle.pairs.specs.Walls.{itemsRead, WallWhole, wallAccepted, wallRefused, withoutSensor}
+use Rattle.pairs.proofs.Halves.{plainItems}
 use Rattle.pairs.proofs.Reading.{reads-plain, a-plain-list-is-the-actuators}
-use Rattle.runs.specs.declared.play.Ended.{Ended}
-use Rattle.player.specs.Playing.{Filled}
-use Rattle.runs.specs.Runs.{itemsIn, playIn, Fit}
-use Rattle.house.specs.Reports.{report}
-use Rattle.buffers.proofs.Splices.{splice-front}
+use Rattle.runs.specs.Runs.{itemsIn, playIn, ranIn, Fit}
 
 -- what the check of a file has found
 unfoldable pub listIn : List ℕ → List Cue
@@ -48,8 +38,8 @@ module _ (file : List ℕ) (read : readFile file ≡ cues (listIn file)) where
   unfolding itemsIn
   items-are-cues = ap (λ (x : Reading Listed). found x) items-read
 
-  pub file-fits : (form : Form) (n end : ℕ) → form ≡ formIn file → n ≡ inputCount file → end ≡ endTime file → Fit file form n end
-  file-fits form n end row inputs ends = record { start = good-file file (listIn file) read .start; row = row; reads = items-read ∙ ap (λ (l : List Listed). cues l) (sym items-are-cues); inputs = inputs; ends = ends }
+  pub file-fits : Fit file
+  file-fits = record { start = good-file file (listIn file) read .start; reads = items-read ∙ ap (λ (l : List Listed). cues l) (sym items-are-cues) }
 
   -- and its run is the actuator's, whatever sensor stands beside it
   pub played-alone : (z : Sensor) → playFile file (listIn file) ≡ actuatorPart (playIn file z)
@@ -63,14 +53,10 @@ module _ (file r a : List ℕ) where
   unfolding refused
   run-refused why place e = sym (a-bad-file-is-refused file r a why place (bad-read (readFile file) why place e))
 
-  pub run-short : (n : ℕ) → n ≡ inputCount file → readFile file ≡ cues (listIn file) → (leb (recordsRoom n) (length r) && leb n (length a)) ≡ false
-      → whole (refusal ShortBuffer 0) r a ≡ runCall file r a
-  unfolding lentEnough refused
-  run-short n same read short = sym (a-short-buffer-is-refused file r a (listIn file) read (rw (← same) short))
-
-  pub run-accepted : (n : ℕ) → n ≡ inputCount file → readFile file ≡ cues (listIn file) → (leb (recordsRoom n) (length r) && leb n (length a)) ≡ true
-      → (z : Sensor) (e : Ended) (r₁ a₁ : List ℕ) → Filled 0 (playIn file z) r a (e .state) (e .sensor) (e .count) r₁ a₁ → whole (report e) r₁ a₁ ≡ runCall file r a
-  unfolding lentEnough accepted report
-  run-accepted n same read room z e r₁ a₁ f =
-      rw (f .state, f .count, f .records, f .answers, splice-front r, splice-front a, zero-add)
-      (sym (a-good-file-is-played file r a (listIn file) read (rw (← same) room) ∙ ap (λ (p : Played). accepted p r a) (played-alone file read z)))
+  -- a checked file is run as a list of items, and the sensor is left out
+  pub run-passed : readFile file ≡ cues (listIn file) → (z : Sensor) → withoutSensor (ranIn file z r a) ≡ runCall file r a
+  unfolding ranIn wallAccepted wallRefused accepted refused
+  run-passed read z =
+      cond-case (λ (w : WallWhole). withoutSensor w ≡ runCall file r a) (lentEnough file r a) (wallAccepted (playIn file z) r a) (wallRefused ShortBuffer 0 r a)
+      (λ room. sym (a-good-file-is-played file r a (listIn file) read room ∙ ap (λ (p : Played). accepted p r a) (played-alone file read z)))
+      (λ short. sym (a-short-buffer-is-refused file r a (listIn file) read short))

@@ -3,13 +3,13 @@ use Prim.Native.Nat.{ℕ, zero, suc, _+_, _-_, _*_, _≤_, _<_}
 use mathlib.Core.Bool.{Bool, true, false, not, _&&_}
 use mathlib.Core.List.{List}
 use mathlib.Core.Logic.{_↔_}
-use mathlib.Core.Path.{_≡_, refl, sym, _∙_}
+use mathlib.Core.Path.{_≡_, refl, sym}
 use native.Mathlib.Omega.{arith}
 use lib.ListN.{length}
 use lib.Dec.{eqb, leb}
 use borrow.Author.Tests.{leb-true, eqb-true, eqb-false, le-leb, lt-leb, eq-eqb, ne-eqb, not-true}
-use Rattle.base.proofs.Tests.{no, both, cond-case, by-order}
-use Rattle.octets.specs.BigEndian.{octet, be32}
+use Rattle.base.proofs.Tests.{both, cond-case, by-order}
+use Rattle.octets.specs.BigEndian.{octet}
 use Rattle.rules.specs.Soundness.{sound}
 use Rattle.rules.specs.Images.{stateIn, isImage}
 use Rattle.rules.specs.Facts.{OnlyMeant}

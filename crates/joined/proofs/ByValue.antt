@@ -81,11 +81,11 @@ pub sound-actuator : (s : State) (z : Sensor) → pairSound (pairOf s z) ≡ tru
 unfolding pairSound
 sound-actuator s z h = and-left _ _ (and-left _ _ h)
 
-pub step-is-done : (t : ℕ) (d : PairStepped) → jointBy t (jointStep d) ≡ jointDone t d
+pub step-is-done : (t : ℕ) (d : PairStepped) → jointBy 0 t (jointStep d) ≡ jointDone t d
 unfolding jointBy jointStep notes jointDone
 step-is-done t d = refl
 
-pub move-is-done : (s : State) (z : Sensor) (t : ℕ) → moveBy z (clocked (clockMove s t)) ≡ jointMoveDone (pairMove (pairOf s z) t)
+pub move-is-done : (s : State) (z : Sensor) (t : ℕ) → moveBy 0 z (clocked (clockMove s t)) ≡ jointMoveDone (pairMove (pairOf s z) t)
 unfolding moveBy clocked notes jointMoveDone pairMove
 move-is-done s z t =
     let l : List Record = clockMove s t .records in

@@ -42,13 +42,13 @@ jointStep d = record { state = d .pair .actuator; sensor = d .pair .sensor; answ
 unfoldable pub switchedFrom : State → Sensor → List Record → Bool → PairStepped
 switchedFrom s z written value = tell (Switch value) (record { pair = pairOf s z; records = written }) z
 
--- what the calls hand out
-unfoldable pub jointBy : ℕ → JointStep → Joint
-jointBy t d =
+-- what the calls hand out, with a code
+unfoldable pub jointBy : ℕ → ℕ → JointStep → Joint
+jointBy code t d =
     record {
       state = d .state;
       sensor = d .sensor;
-      code = 0;
+      code = code;
       place = 0;
       answer = d .answer;
       count = d .notes .count;
@@ -56,6 +56,6 @@ jointBy t d =
       sent = telegramOctets t (d .telegram);
     }
 
-unfoldable pub moveBy : Sensor → Clocked → JointMove
-moveBy z m =
-    record { state = m .state; sensor = hears (take (m .notes .count) (m .notes .records)) z; code = 0; place = 0; count = m .notes .count; records = getD (m .notes .records) 0 blank ∷ getD (m .notes .records) 1 blank ∷ [] }
+unfoldable pub moveBy : ℕ → Sensor → Clocked → JointMove
+moveBy code z m =
+    record { state = m .state; sensor = hears (take (m .notes .count) (m .notes .records)) z; code = code; place = 0; count = m .notes .count; records = getD (m .notes .records) 0 blank ∷ getD (m .notes .records) 1 blank ∷ [] }

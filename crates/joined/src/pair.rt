@@ -22,7 +22,6 @@ use pairs::call::JointMove;
 use pairs::item::Item;
 use pairs::item::Read;
 use records::notes;
-use rules::record::Record;
 use rules::state::State;
 use sensor::call::telegram_octets;
 use sensor::react::Telegram;
@@ -39,8 +38,9 @@ fn is_sound_pair(s: State, z: Sensor) -> bool
     both(both(is_sound(s), sensor::state::is_sound(z)), behind)
 }
 
-fn accepted(t: u32, d: JointStep) -> Joint
-    ensures { λ r. ⌜ r ≡ jointBy t d ⌝ }
+// What a step at t came to; refused, it is none.
+fn result(code: u8, t: u32, d: JointStep) -> Joint
+    ensures { λ r. ⌜ r ≡ jointBy code t d ⌝ }
 {
     let state = d.state;
     let sensor = d.sensor;
@@ -50,7 +50,7 @@ fn accepted(t: u32, d: JointStep) -> Joint
     Joint {
         state,
         sensor,
-        code: 0,
+        code,
         place: 0,
         answer: d.answer,
         count: n.count,
@@ -62,18 +62,14 @@ fn accepted(t: u32, d: JointStep) -> Joint
 fn refused(s: State, z: Sensor, why: Refusal) -> Joint
     ensures { λ r. ⌜ r ≡ jointRefused (pairOf s z) why ⌝ }
 {
-    let n = notes::none();
-    let k = n.records;
-    Joint {
+    let unplayed = JointStep {
         state: s,
         sensor: z,
-        code: number_of(why),
-        place: 0,
         answer: 0,
-        count: 0,
-        records: k,
-        sent: telegram_octets(0, Telegram::Silent),
-    }
+        notes: notes::none(),
+        telegram: Telegram::Silent,
+    };
+    result(number_of(why), 0, unplayed)
 }
 
 // An item to a sound pair, where its stamp is in range.
@@ -82,7 +78,7 @@ fn stamped(s: State, z: Sensor, i: Item, stamp: u32) -> Joint
     ensures { λ r. ⌜ r ≡ cond (stampInRange (s .clock) stamp) (jointDone stamp (pairStep (pairOf s z) i stamp)) (jointRefused (pairOf s z) Refusal.BadStamp) ⌝ }
 {
     if stamp_in_range(s.clock, stamp) {
-        accepted(stamp, step_pair(s, z, i, stamp))
+        result(0, stamp, step_pair(s, z, i, stamp))
     } else {
         refused(s, z, Refusal::BadStamp)
     }
@@ -104,9 +100,10 @@ pub fn joined_input(s: State, z: Sensor, octets: [u8; 8]) -> Joint
     }
 }
 
-fn moved(z: Sensor, m: Clocked) -> JointMove
+// What a move of the actuator came to, which the sensor hears; refused, it is none.
+fn moved(code: u8, z: Sensor, m: Clocked) -> JointMove
     requires { ⌜ m .notes .count ≤ 2 ⌝ }
-    ensures { λ r. ⌜ r ≡ moveBy z m ⌝ }
+    ensures { λ r. ⌜ r ≡ moveBy code z m ⌝ }
 {
     let s = m.state;
     let n = m.notes;
@@ -114,7 +111,7 @@ fn moved(z: Sensor, m: Clocked) -> JointMove
     JointMove {
         state: s,
         sensor: hear_notes(z, n),
-        code: 0,
+        code,
         place: 0,
         count: n.count,
         records: [k[0], k[1]],
@@ -124,20 +121,11 @@ fn moved(z: Sensor, m: Clocked) -> JointMove
 fn unmoved(s: State, z: Sensor, why: Refusal) -> JointMove
     ensures { λ r. ⌜ r ≡ jointMoveRefused (pairOf s z) why ⌝ }
 {
-    let b = Record {
-        stamp: 0,
-        value: 0,
-        attributes: 0,
-        cause: 0,
-    };
-    JointMove {
+    let still = Clocked {
         state: s,
-        sensor: z,
-        code: number_of(why),
-        place: 0,
-        count: 0,
-        records: [b, b],
-    }
+        notes: notes::none(),
+    };
+    moved(number_of(why), z, still)
 }
 
 // The pair at a later moment and the records of its timers, or a refusal that hands back what it was given.
@@ -146,7 +134,7 @@ pub fn joined_move(s: State, z: Sensor, stamp: u32) -> JointMove
 {
     if is_sound_pair(s, z) {
         if stamp_in_range(s.clock, stamp) {
-            moved(z, move_clock(s, stamp))
+            moved(0, z, move_clock(s, stamp))
         } else {
             unmoved(s, z, Refusal::BadStamp)
         }

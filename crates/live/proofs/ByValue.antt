@@ -16,11 +16,11 @@ use Rattle.timers.specs.Ticks.{clocked}
 use Rattle.actuator.specs.Acts.{acted}
 use Rattle.live.specs.ByValue.{singleOf, moveOf}
 
-pub acted-is-done : (d : Stepped) → singleOf (acted d) ≡ singleDone d
+pub acted-is-done : (d : Stepped) → singleOf 0 (acted d) ≡ singleDone d
 unfolding singleOf acted notes singleDone
 acted-is-done d = refl
 
-pub clocked-is-done : (m : Moved) → moveOf (clocked m) ≡ moveDone m
+pub clocked-is-done : (m : Moved) → moveOf 0 (clocked m) ≡ moveDone m
 unfolding moveOf clocked notes moveDone
 clocked-is-done m = rw (two-of-three (m .records))
 

@@ -5,8 +5,8 @@ ghost use Rattle.live.specs.ByValue.{moveOf};
 use base::moment::stamp_in_range;
 use base::refusal::Refusal;
 use base::refusal::number_of;
+use records::notes;
 use rules::call::Move;
-use rules::record::Record;
 use rules::state::State;
 use states::sound::is_sound;
 use timers::clock::Clocked;
@@ -18,7 +18,7 @@ pub fn clock_move(s: State, stamp: u32) -> Move
 {
     if is_sound(s) {
         if stamp_in_range(s.clock, stamp) {
-            accepted(move_clock(s, stamp))
+            result(0, move_clock(s, stamp))
         } else {
             refused(s, Refusal::BadStamp)
         }
@@ -27,15 +27,16 @@ pub fn clock_move(s: State, stamp: u32) -> Move
     }
 }
 
-fn accepted(m: Clocked) -> Move
-    ensures { λ r. ⌜ r ≡ moveOf m ⌝ }
+// What a move came to; refused, it is none.
+fn result(code: u8, m: Clocked) -> Move
+    ensures { λ r. ⌜ r ≡ moveOf code m ⌝ }
 {
     let s = m.state;
     let n = m.notes;
     let k = n.records;
     Move {
         state: s,
-        code: 0,
+        code,
         place: 0,
         count: n.count,
         records: [k[0], k[1]],
@@ -45,17 +46,9 @@ fn accepted(m: Clocked) -> Move
 fn refused(s: State, why: Refusal) -> Move
     ensures { λ r. ⌜ r ≡ moveRefused s why ⌝ }
 {
-    let z = Record {
-        stamp: 0,
-        value: 0,
-        attributes: 0,
-        cause: 0,
-    };
-    Move {
+    let unmoved = Clocked {
         state: s,
-        code: number_of(why),
-        place: 0,
-        count: 0,
-        records: [z, z],
-    }
+        notes: notes::none(),
+    };
+    result(number_of(why), unmoved)
 }

@@ -42,21 +42,22 @@ fn stamped(s: State, i: Input, stamp: u32) -> Single
     ensures { λ r. ⌜ r ≡ cond (stampInRange (s .clock) stamp) (singleDone (step s i stamp)) (singleRefused s Refusal.BadStamp) ⌝ }
 {
     if stamp_in_range(s.clock, stamp) {
-        accepted(step_input(s, i, stamp))
+        result(0, step_input(s, i, stamp))
     } else {
         refused(s, Refusal::BadStamp)
     }
 }
 
-fn accepted(d: Acted) -> Single
-    ensures { λ r. ⌜ r ≡ singleOf d ⌝ }
+// What a step came to; refused, it is none.
+fn result(code: u8, d: Acted) -> Single
+    ensures { λ r. ⌜ r ≡ singleOf code d ⌝ }
 {
     let s = d.state;
     let n = d.notes;
     let k = n.records;
     Single {
         state: s,
-        code: 0,
+        code,
         place: 0,
         answer: d.answer,
         count: n.count,
@@ -67,14 +68,10 @@ fn accepted(d: Acted) -> Single
 fn refused(s: State, why: Refusal) -> Single
     ensures { λ r. ⌜ r ≡ singleRefused s why ⌝ }
 {
-    let n = notes::none();
-    let k = n.records;
-    Single {
+    let unplayed = Acted {
         state: s,
-        code: number_of(why),
-        place: 0,
         answer: 0,
-        count: 0,
-        records: k,
-    }
+        notes: notes::none(),
+    };
+    result(number_of(why), unplayed)
 }

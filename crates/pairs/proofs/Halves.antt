@@ -27,17 +27,13 @@ use Rattle.sensor.proofs.LastValue.{one-part-then-the-other}
 use Rattle.pairs.specs.declared.item.Item.{Item}
 use Rattle.pairs.specs.declared.item.Item.the-variants.{Plain, Button1, Button2}
 use Rattle.pairs.specs.Pairs.{Pair, shows, hears, PairMoved, pairMove, PairStepped, tell, told, pressed, pairStep}
-use Rattle.pairs.specs.Lists.{Listed, listed, PairPlayed, pairThen, pairMoved, pairStepped, pairPlays, pairPlaysTo, pairStart, playItems}
+use Rattle.pairs.specs.Lists.{Listed, listed, PairPlayed, actuatorPart, pairThen, pairMoved, pairStepped, pairPlays, pairPlaysTo, pairStart, playItems}
 use Rattle.pairs.specs.Halves.{ItemsRise, sentAs, cueOf, givenAt, cuesFor, given, answered, ActuatorHalf, ActuatorAlone, statuses, recordedBy, aroundEdge, signalsOf, signalsFor, spoken, SensorHalf, SensorAlone}
 use Rattle.pairs.proofs.Playing.{pair-plays-to-end, pair-plays-to-next}
 use Rattle.rules.proofs.Laws.Moments.{next-is-later}
 use Rattle.rules.proofs.Mistakes.Rank.{plays-by-way-of}
 
 -- ---- a list without edges
-
--- what the actuator has of it all
-abbrev pub actuatorPart : PairPlayed → Played
-actuatorPart a = record { state = a .pair .actuator; answers = a .answers; records = a .records }
 
 abbrev pub actuatorStep : PairStepped → Stepped
 actuatorStep d = record { state = d .pair .actuator; answer = d .answer; records = d .records }
@@ -151,14 +147,8 @@ cues-rise last end (listed t i ∷ later) p r =
     let next : Pair = pairStep p i t .pair in
     next-rises last t end (p .actuator) (actuatorStep (pairStep p i t)) _ (cuesFor later next) (step-given p t i) (r .0) (cues-rise t end later next (r .1))
 
--- the half, by what was given item by item
-record Half (pair : PairPlayed) (alone : Played) (cues : List (Option Cue)) : Type 0 where
-  state : pair .pair .actuator ≡ alone .state
-  records : pair .records ≡ alone .records
-  answers : pair .answers ≡ answered cues (alone .answers)
-
 next-half : (t end : ℕ) (p : Pair) (d : PairStepped) (x : Option Cue) (cues : List (Option Cue)) (b : PairPlayed) → StepGiven (p .actuator) t (actuatorStep d) x → Rises t (given cues) end →
-    Half b (playsTo end (given cues) (d .pair .actuator)) cues → Half (pairThen (pairStepped d) (λ _. b)) (playsTo end (given (x ∷ cues)) (p .actuator)) (x ∷ cues)
+    ActuatorHalf cues b (playsTo end (given cues) (d .pair .actuator)) → ActuatorHalf (x ∷ cues) (pairThen (pairStepped d) (λ _. b)) (playsTo end (given (x ∷ cues)) (p .actuator))
 unfolding given answered
 next-half t end p d none cues b g r h =
     let s : d .pair .actuator ≡ clockMove (p .actuator) t .state = ap (λ (x : Stepped). x .state) g in
@@ -173,21 +163,18 @@ next-half t end p d (some (cue u i)) cues b g r h =
     let h = rw s at h in
     rw (g .0, plays-to-next end t i (given cues) (p .actuator)) (record { state = h .state; records = rw (l, h .records) refl; answers = rw (a, h .answers) refl })
 
-halves : (end last : ℕ) (items : List Listed) (p : Pair) → ItemsRise last items end → Half (pairPlaysTo end items p) (playsTo end (given (cuesFor items p)) (p .actuator)) (cuesFor items p)
+pub the-actuator-is-itself : (end last : ℕ) (items : List Listed) (p : Pair) → ItemsRise last items end → ActuatorAlone end items p
 unfolding cuesFor
-halves end last [] p r = unfold pairPlaysTo pairPlays pairMove playsTo plays given answered in record { state = refl; records = refl; answers = refl }
-halves end last (listed t i ∷ later) p r =
+the-actuator-is-itself end last [] p r = unfold pairPlaysTo pairPlays pairMove playsTo plays given answered in record { state = refl; records = refl; answers = refl }
+the-actuator-is-itself end last (listed t i ∷ later) p r =
     let next : Pair = pairStep p i t .pair in
     rw (pair-plays-to-next end t i later p)
-    (next-half t end p (pairStep p i t) _ (cuesFor later next) (pairPlaysTo end later next) (step-given p t i) (cues-rise t end later next (r .1)) (halves end t later next (r .1)))
-
-pub the-actuator-is-itself : (end last : ℕ) (items : List Listed) (p : Pair) → ItemsRise last items end → ActuatorAlone end items p
-the-actuator-is-itself end last items p r = let h = halves end last items p r in record { state = h .state; records = h .records; answers = h .answers }
+    (next-half t end p (pairStep p i t) _ (cuesFor later next) (pairPlaysTo end later next) (step-given p t i) (cues-rise t end later next (r .1)) (the-actuator-is-itself end t later next (r .1)))
 
 -- the whole run, from the start record on
 pub the-run-is-the-actuators : (k : Params) (scenes : List Scene) (z : Sensor) (items : List Listed) (end : ℕ) → ItemsRise 0 items end →
     let begun : Pair = pairStart k scenes z .pair in
-    ActuatorHalf items begun (playItems k scenes z items end) (playList k scenes (given (cuesFor items begun)) end)
+    ActuatorHalf (cuesFor items begun) (playItems k scenes z items end) (playList k scenes (given (cuesFor items begun)) end)
 unfolding playItems playList
 the-run-is-the-actuators k scenes z items end r =
     let h = the-actuator-is-itself end 0 items (pairStart k scenes z .pair) r in

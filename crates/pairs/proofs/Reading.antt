@@ -23,10 +23,10 @@ use Rattle.pairs.specs.declared.item.Item.the-variants.{Plain}
 use Rattle.pairs.specs.declared.item.Read.{Read}
 use Rattle.pairs.specs.declared.item.Read.the-variants.{Known, Unknown}
 use Rattle.pairs.specs.Items.{itemAt}
-use Rattle.pairs.specs.Lists.{Listed, listed, pairStart, playItems}
+use Rattle.pairs.specs.Lists.{Listed, listed, actuatorPart, pairStart, playItems}
 use Rattle.pairs.specs.Walls.{stampedItem, itemIn}
 use Rattle.pairs.proofs.Items.{plain-exactly-when}
-use Rattle.pairs.proofs.Halves.{actuatorPart, plainItems, plain-items}
+use Rattle.pairs.proofs.Halves.{plainItems, plain-items}
 
 -- ---- one item
 

@@ -64,13 +64,14 @@ answered (none ∷ later) answers = 1 ∷ answered later answers
 answered (some c ∷ later) [] = []
 answered (some c ∷ later) (a ∷ answers) = a ∷ answered later answers
 
-pub record ActuatorHalf (items : List Listed) (p : Pair) (pair : PairPlayed) (alone : Played) : Type 0 where
+-- the half, by what was given item by item
+pub record ActuatorHalf (cues : List (Option Cue)) (pair : PairPlayed) (alone : Played) : Type 0 where
   pub state : pair .pair .actuator ≡ alone .state
   pub records : pair .records ≡ alone .records
-  pub answers : pair .answers ≡ answered (cuesFor items p) (alone .answers)
+  pub answers : pair .answers ≡ answered cues (alone .answers)
 
 abbrev pub ActuatorAlone : ℕ → List Listed → Pair → Type 0
-ActuatorAlone end items p = ActuatorHalf items p (pairPlaysTo end items p) (playsTo end (given (cuesFor items p)) (p .actuator))
+ActuatorAlone end items p = ActuatorHalf (cuesFor items p) (pairPlaysTo end items p) (playsTo end (given (cuesFor items p)) (p .actuator))
 
 -- ---- the sensor's half
 

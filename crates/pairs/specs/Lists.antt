@@ -6,6 +6,7 @@ use Rattle.rules.specs.declared.parameters.Scene.{Scene}
 use Rattle.rules.specs.declared.record.Record.{Record}
 use Rattle.rules.specs.Status.{recordOf, byItself}
 use Rattle.rules.specs.Steps.{fresh}
+use Rattle.rules.specs.Lists.{Played}
 use Rattle.sensor.specs.declared.state.Sensor.{Sensor}
 use Rattle.sensor.specs.declared.react.Telegram.{Telegram}
 use Rattle.pairs.specs.declared.item.Item.{Item}
@@ -21,6 +22,10 @@ pub record PairPlayed : Type 0 where
   pub answers : List ℕ
   pub records : List Record
   pub telegrams : List Telegram
+
+-- what the actuator has of it all
+abbrev pub actuatorPart : PairPlayed → Played
+actuatorPart a = record { state = a .pair .actuator; answers = a .answers; records = a .records }
 
 -- what was played so far, and then what is played from its pair
 abbrev pub pairThen : PairPlayed → (Pair → PairPlayed) → PairPlayed

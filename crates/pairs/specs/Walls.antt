@@ -17,7 +17,7 @@ use Rattle.rules.specs.Layout.{leastFile, inputPlace}
 use Rattle.rules.specs.Calls.{ownState}
 use Rattle.rules.specs.Readings.{Reading, cues, bad, readInputs, afterCheck, ifLentEnough}
 use Rattle.rules.specs.Files.{inputCount, endTime, inputsIn, checkStart, lentEnough, paramsIn, scenesIn}
-use Rattle.rules.specs.Runs.{recordsOctets, over, packed, Answered}
+use Rattle.rules.specs.Runs.{recordsOctets, over, Whole, Answered, answeredBy}
 use Rattle.sensor.specs.declared.state.Sensor.{Sensor}
 use Rattle.sensor.specs.Actions.{checkActions}
 use Rattle.sensor.specs.Sensors.{freshSensor, ownSensor}
@@ -73,6 +73,10 @@ pub record WallWhole : Type 0 where
   pub records : List ℕ
   pub answers : List ℕ
 
+-- as the code hands them out
+abbrev pub wallWhole : WallRan → List ℕ → List ℕ → WallWhole
+wallWhole r records answers = record { report = r; records = records; answers = answers }
+
 -- what items give: the file's own parameters and scenes, with this sensor beside the actuator, played to its end time
 abbrev pub playOver : List ℕ → Sensor → List Listed → PairPlayed
 playOver file z items = playItems (paramsIn file) (scenesIn file) z items (endTime file)
@@ -102,13 +106,13 @@ wallBy (bad why place) wall records answers = wallRefused why place records answ
 unfoldable pub wallCall : List ℕ → List ℕ → List ℕ → WallWhole
 wallCall wall records answers = wallBy (readWallCall wall records answers) wall records answers
 
--- the same report without its sensor
+-- the same without its sensor
 abbrev pub ranOf : WallRan → Ran
 ranOf r = record { state = r .state; code = r .code; place = r .place; count = r .count }
 
--- to C: the same packed number
-unfoldable pub wallAnsweredBy : WallWhole → Answered
-wallAnsweredBy w = record { number = packed (ranOf (w .report)); records = w .records; answers = w .answers }
+abbrev pub withoutSensor : WallWhole → Whole
+withoutSensor w = record { report = ranOf (w .report); records = w .records; answers = w .answers }
 
+-- to C: the same packed number
 unfoldable pub houseWallRun : List ℕ → List ℕ → List ℕ → Answered
-houseWallRun wall records answers = wallAnsweredBy (wallCall wall records answers)
+houseWallRun wall records answers = answeredBy (withoutSensor (wallCall wall records answers))

@@ -3,10 +3,10 @@
 use Prim.Native.Nat.{ℕ, _+_, _*_, _≤_}
 use mathlib.Core.List.{List, [], _∷_, _++_, append-nil}
 use mathlib.Core.Path.{_≡_, refl, sym, ap, _∙_}
+use native.Mathlib.Nat.{zero-add}
 use native.Mathlib.Omega.{arith}
 use lib.ListN.{length, take, length-append}
 use Rattle.octets.specs.Splice.{splice}
-use Rattle.rules.specs.declared.form.Form.{Form}
 use Rattle.rules.specs.declared.state.State.{State}
 use Rattle.rules.specs.declared.record.Record.{Record}
 use Rattle.rules.specs.Steps.{Moved, fresh, clockMove}
@@ -17,7 +17,6 @@ use Rattle.rules.specs.Readings.{cues, found, readInputs}
 use Rattle.base.specs.Time.{lastStamp}
 use Rattle.rules.proofs.Refusals.Files.{inputs-whole}
 use Rattle.rules.proofs.Refusals.Readings.{read-for-longer}
-use Rattle.pairs.specs.Walls.{itemIn}
 use Rattle.rules.specs.Runs.{recordOctets, recordsOctets}
 use Rattle.rules.proofs.Laws.Forms.{file-row}
 use Rattle.rules.proofs.Laws.Parameters.{passed-is-sound}
@@ -25,13 +24,14 @@ use Rattle.sensor.specs.declared.state.Sensor.{Sensor}
 use Rattle.sensor.specs.Reactions.{hear}
 use Rattle.pairs.specs.Pairs.{Pair, pairOf, hears, pairMove}
 use Rattle.pairs.specs.Lists.{PairPlayed, pairPlays, pairPlaysTo, playItems}
+use Rattle.pairs.specs.Walls.{itemIn, wallWhole, wallAccepted}
 use Rattle.pairs.proofs.Soundness.{sound-pair-exactly-when}
 use Rattle.lamps.specs.Lamps.{lampOf, alone}
 use Rattle.records.specs.Notes.{notes}
 use Rattle.timers.specs.declared.clock.Clocked.{Clocked}
 use Rattle.timers.specs.Ticks.{clocked}
 use Rattle.timers.proofs.Moves.{moved-count, moved-records}
-use Rattle.buffers.proofs.Splices.{records-one, records-more}
+use Rattle.buffers.proofs.Splices.{splice-front, records-one, records-more}
 use Rattle.turns.specs.Turns.{listened}
 use Rattle.turns.proofs.Turning.{all-heard}
 use Rattle.turns.proofs.Hearing.{put-is-heard}
@@ -46,11 +46,11 @@ record-alone cause s = refl
 -- ---- the items
 
 -- read up to the last stamp of all, the items of a file are those that it has up to its end time
-module _ (file : List ℕ) (form : Form) (n end : ℕ) (fit : Fit file form n end) where
-  read-from-the-start : readInputs (itemIn (inputsIn file)) (inputsIn file) n 0 0 lastStamp ≡ cues (itemsIn file)
-  read-from-the-start = rw (fit .inputs) (read-for-longer (itemIn (inputsIn file)) (inputsIn file) (inputCount file) 0 0 (endTime file) lastStamp (itemsIn file) (fit .start .header .layout .end) (fit .reads))
+module _ (file : List ℕ) (fit : Fit file) where
+  read-from-the-start : readInputs (itemIn (inputsIn file)) (inputsIn file) (inputCount file) 0 0 lastStamp ≡ cues (itemsIn file)
+  read-from-the-start = read-for-longer (itemIn (inputsIn file)) (inputsIn file) (inputCount file) 0 0 (endTime file) lastStamp (itemsIn file) (fit .start .header .layout .end) (fit .reads)
 
-  the-files-items : itemsFrom (inputsIn file) n 0 ≡ itemsIn file
+  the-files-items : itemsFrom (inputsIn file) (inputCount file) 0 ≡ itemsIn file
   unfolding itemsFrom
   the-files-items = ap found read-from-the-start
 
@@ -72,15 +72,15 @@ module _ (file : List ℕ) (z : Sensor) (r r₁ : List ℕ) (first : r₁ ≡ sp
       ap (λ (y : Sensor). pairOf (freshIn file) y) (put-is-heard (start ∷ []) r r₁ 0 z 0 (omega arith) (omega arith) one ∙ ap (λ (y : Sensor). hears (start ∷ []) y) (all-heard r 0 z))
 
   -- its own parameters start a sound pair, and its items can be played from there on
-  pub fit-ready : (form : Form) (n end : ℕ) → Fit file form n end → Ready (inputsIn file) n (pairOf (freshIn file) (listened r₁ 1 z 0))
+  pub fit-ready : Fit file → Ready (inputsIn file) (inputCount file) (pairOf (freshIn file) (listened r₁ 1 z 0))
   unfolding freshIn fresh
-  fit-ready form n end fit =
+  fit-ready fit =
       let layout = fit .start .header .layout in
       rw start-heard
       (record {
-        few = omega (arith, layout .few, fit .inputs);
-        whole = omega (arith, inputs-whole file layout, fit .inputs);
-        reads = rw (the-files-items file form n end fit) (read-from-the-start file form n end fit);
+        few = layout .few;
+        whole = omega (arith, inputs-whole file layout);
+        reads = rw (the-files-items file fit) (read-from-the-start file fit);
         sound = sound-pair-exactly-when (startPair file z) .1 (record { actuator = passed-is-sound (formIn file) (parametersIn file) (file-row file) (fit .start .passed); sensor = unfold hears hear recordOf in omega arith; behind = unfold hears hear recordOf in omega arith });
       })
 
@@ -98,18 +98,18 @@ module _ (file : List ℕ) (z : Sensor) (r r₁ : List ℕ) (first : r₁ ≡ sp
   played-whole p e = rw e (simp append-nil)
 
   -- the three parts of the records stand one after the other, and all of them are heard
-  pub ended : (form : Form) (n end : ℕ) → Fit file form n end → (a a₂ r₂ r₃ : List ℕ) (s : State) (y : Sensor) (heard k : ℕ) → heard ≤ k → 8 * k ≤ length r₂
-      → Filled 1 (pairPlays (itemsFrom (inputsIn file) n (freshIn file .clock)) (pairOf (freshIn file) (listened r₁ 1 z 0))) r₁ a s (listened r₂ k y heard) k r₂ a₂
-      → (m : Clocked) → m ≡ clocked (clockMove s end) → r₃ ≡ splice r₂ (8 * k) (recordsOctets (take (m .notes .count) (m .notes .records)))
+  pub ended : Fit file → (a a₂ r₂ r₃ : List ℕ) (s : State) (y : Sensor) (heard k : ℕ) → heard ≤ k → 8 * k ≤ length r₂
+      → Filled 1 (pairPlays (itemsFrom (inputsIn file) (inputCount file) (freshIn file .clock)) (pairOf (freshIn file) (listened r₁ 1 z 0))) r₁ a s (listened r₂ k y heard) k r₂ a₂
+      → (m : Clocked) → m ≡ clocked (clockMove s (endTime file)) → r₃ ≡ splice r₂ (8 * k) (recordsOctets (take (m .notes .count) (m .notes .records)))
       → Filled 0 (playIn file z) r a (m .state) (listened r₃ (k + m .notes .count) y heard) (k + m .notes .count) r₃ a₂
   unfolding clocked pairMove
-  ended form n end fit a a₂ r₂ r₃ s y heard k behind room filled m g p =
-      let items : itemsFrom (inputsIn file) n (freshIn file .clock) ≡ itemsIn file = rw (fresh-clock file) (the-files-items file form n end fit) in
+  ended fit a a₂ r₂ r₃ s y heard k behind room filled m g p =
+      let items : itemsFrom (inputsIn file) (inputCount file) (freshIn file .clock) ≡ itemsIn file = rw (fresh-clock file) (the-files-items file fit) in
       let f : Filled 1 (pairPlays (itemsIn file) (startPair file z)) r₁ a s (listened r₂ k y heard) k r₂ a₂ = rw (start-heard, items) at filled in
       let q : PairPlayed = pairPlays (itemsIn file) (startPair file z) in
       let start : Record = recordOf byItself (freshIn file) in
       let last : Moved = clockMove (q .pair .actuator) (endTime file) in
-      let same : m ≡ clocked last = rw (← fit .ends, ← f .state) g in
+      let same : m ≡ clocked last = rw (← f .state) g in
       let wrote = moved-count (q .pair .actuator) (endTime file) m same in
       let whole = played-whole q refl in
       let put : r₃ ≡ splice r₂ (8 * k) (recordsOctets (last .records)) = p ∙ ap (λ (l : List Record). splice r₂ (8 * k) (recordsOctets l)) (moved-records (q .pair .actuator) (endTime file) m same) in
@@ -128,3 +128,9 @@ module _ (file : List ℕ) (z : Sensor) (r r₁ : List ℕ) (first : r₁ ≡ sp
         records = rw whole three;
         answers = rw whole (f .answers);
       }
+
+-- what the buffers are then filled with is all that an accepted run hands out
+pub filled-is-accepted : (p : PairPlayed) (r a r₁ a₁ : List ℕ) (s : State) (z : Sensor) (k : ℕ) → Filled 0 p r a s z k r₁ a₁ →
+    wallWhole (record { state = s; sensor = z; code = 0; place = 0; count = k }) r₁ a₁ ≡ wallAccepted p r a
+unfolding wallAccepted
+filled-is-accepted p r a r₁ a₁ s z k f = rw (f .state, f .sensor, f .count, f .records, f .answers, splice-front r, splice-front a, zero-add) refl

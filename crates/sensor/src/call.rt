@@ -6,7 +6,6 @@ use crate::action::check_actions;
 use crate::react::Reaction;
 use crate::react::Telegram;
 use crate::react::react;
-use crate::signal::Signal;
 use crate::signal::Signalled;
 use crate::signal::signal_at;
 use crate::state::Sensor;

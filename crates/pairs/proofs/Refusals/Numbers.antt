@@ -6,10 +6,10 @@ use mathlib.Core.Path.{_≡_, refl}
 use native.Mathlib.Omega.{arith}
 use Rattle.base.specs.declared.refusal.Refusal.{Refusal}
 use Rattle.rules.specs.Refusals.{TakenApart}
-use Rattle.rules.specs.Runs.{packed}
+use Rattle.rules.specs.Runs.{packed, answeredBy}
 use Rattle.rules.proofs.Refusals.Runs.{apart, narrow-start, narrow-input}
 use Rattle.pairs.specs.declared.call.WallRan.{WallRan}
-use Rattle.pairs.specs.Walls.{fileIn, WallWhole, wallAccepted, wallRefused, wallCall, ranOf, wallAnsweredBy, houseWallRun}
+use Rattle.pairs.specs.Walls.{fileIn, WallWhole, wallAccepted, wallRefused, wallCall, ranOf, houseWallRun}
 use Rattle.pairs.specs.Refusals.{WallWhen}
 use Rattle.pairs.proofs.Refusals.Walls.{wall-decides, good-wall, WallFinds, at-fault, no-room, played, wall-finds, wall-count}
 
@@ -27,7 +27,7 @@ what-is-packed-is-the-report r = (refl, refl, refl)
 
 module _ (wall records answers : List ℕ) where
   pub the-wall-number-is-taken-apart : TakenApart (houseWallRun wall records answers .number) (ranOf (wallCall wall records answers .report))
-  unfolding houseWallRun wallAnsweredBy
+  unfolding houseWallRun answeredBy
   the-wall-number-is-taken-apart = by (wall-finds wall records answers) refl
     where
       by : {w : WallWhole} → WallFinds wall records answers w → wallCall wall records answers ≡ w → TakenApart (packed (ranOf (w .report))) (ranOf (w .report))
@@ -39,5 +39,5 @@ module _ (wall records answers : List ℕ) where
 
   -- the rest of what C is given is the run's own: both buffers
   pub c-is-lent-the-same-buffers : (houseWallRun wall records answers .records ≡ wallCall wall records answers .records) × (houseWallRun wall records answers .answers ≡ wallCall wall records answers .answers)
-  unfolding houseWallRun wallAnsweredBy
+  unfolding houseWallRun answeredBy
   c-is-lent-the-same-buffers = (refl, refl)

@@ -144,7 +144,7 @@ module _ (wall records answers : List ℕ) where
   a-good-wall-is-played items read room = rw (read, room)
 
   -- its code and its place are those of what it reads
-  wall-is-read : let found : Check = verdict (readWallCall wall records answers) in (wallCall wall records answers .report .code ≡ codeOf found) × (wallCall wall records answers .report .place ≡ placeOf found)
+  pub wall-is-read : let found : Check = verdict (readWallCall wall records answers) in (wallCall wall records answers .report .code ≡ codeOf found) × (wallCall wall records answers .report .place ≡ placeOf found)
   unfolding wallCall
   wall-is-read = by (readWallCall wall records answers)
     where

@@ -1,6 +1,5 @@
 use mathlib.Core.Path.{refl}
 use native.Mathlib.Omega.{arith}
-use borrow.Author.Needs.{needs}
 use Rattle.rules.proofs.Refusals.Files.{inputs-whole}
 use Rattle.cues.proofs.check.check_inputs_in.Statement.{statement}
 use Rattle.cues.proofs.check.check_inputs_in.Tie as tie

@@ -12,7 +12,7 @@ step-pair-requires c κs =
     (a .pre, e .0, e .1)
 
 returns : tie.Need-returns
-returns c = simp (c .accepted .ensures, c .before .step-pair .ensures, step-is-done, sym (c .before .before .before .stamp-in-range .ensures) ∙ c .before .before .if1 .taken)
+returns c = simp (c .result .ensures, c .before .step-pair .ensures, step-is-done, sym (c .before .before .before .stamp-in-range .ensures) ∙ c .before .before .if1 .taken)
 
 returns-2 : tie.Need-returns-2
 returns-2 c = simp (c .refused .ensures, sym (c .before .before .stamp-in-range .ensures) ∙ c .before .if1 .left)

@@ -17,7 +17,7 @@ returns : tie.Need-returns
 unfolding moveCall
 returns c =
     let a = c .before .before .before .before .before .before .args in
-    simp (c .accepted .ensures, c .before .move-clock .ensures, clocked-is-done (clockMove (a .s) (a .stamp)), sym (c .before .before .before .stamp-in-range .ensures) ∙ c .before .before .if2 .taken, sym (c .before .before .before .before .before .is-sound .ensures) ∙ c .before .before .before .before .if1 .taken)
+    simp (c .result .ensures, c .before .move-clock .ensures, clocked-is-done (clockMove (a .s) (a .stamp)), sym (c .before .before .before .stamp-in-range .ensures) ∙ c .before .before .if2 .taken, sym (c .before .before .before .before .before .is-sound .ensures) ∙ c .before .before .before .before .if1 .taken)
 
 returns-2 : tie.Need-returns-2
 unfolding moveCall

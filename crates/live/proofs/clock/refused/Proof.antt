@@ -1,11 +1,13 @@
-use Rattle.rules.specs.Calls.{blank, moveRefused, places}
+use Rattle.rules.specs.Calls.{moveRefused, places}
+use Rattle.records.specs.Notes.{noNotes, notes}
+use Rattle.live.specs.ByValue.{moveOf}
 use borrow.Author.Needs.{needs}
 use Rattle.live.proofs.clock.refused.Statement.{statement}
 use Rattle.live.proofs.clock.refused.Tie as tie
 
 returns : tie.Need-returns
-unfolding moveRefused places blank
-returns c = simp (c .number-of .ensures)
+unfolding moveRefused places moveOf noNotes notes
+returns c = simp (c .result .ensures, c .before .number-of .ensures, c .before .before .none .ensures)
 
 pub refused-spec : {M : Type 1} → statement M
-refused-spec = tie.close (tie.spec (λ c κs. search needs) returns)
+refused-spec = tie.close (tie.spec (λ c κs. search needs) (λ c κs. search needs) (λ c κs. search needs) returns)

@@ -15,7 +15,7 @@ step-input-requires c κs =
 returns : tie.Need-returns
 returns c =
     let a = c .before .before .before .before .args in
-    simp (c .accepted .ensures, c .before .step-input .ensures, acted-is-done (step (a .s) (a .i) (a .stamp)), sym (c .before .before .before .stamp-in-range .ensures) ∙ c .before .before .if1 .taken)
+    simp (c .result .ensures, c .before .step-input .ensures, acted-is-done (step (a .s) (a .i) (a .stamp)), sym (c .before .before .before .stamp-in-range .ensures) ∙ c .before .before .if1 .taken)
 
 returns-2 : tie.Need-returns-2
 returns-2 c = simp (← c .refused .ensures, c .before .if1 .left, ← c .before .before .stamp-in-range .ensures)

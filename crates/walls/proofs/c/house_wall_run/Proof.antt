@@ -1,13 +1,13 @@
 use mathlib.Core.Path.{ap}
 use borrow.Author.Needs.{needs}
-use Rattle.rules.specs.Runs.{packed}
-use Rattle.pairs.specs.Walls.{wallAnsweredBy, houseWallRun}
+use Rattle.rules.specs.Runs.{packed, answeredBy}
+use Rattle.pairs.specs.Walls.{WallWhole, withoutSensor, houseWallRun}
 use Rattle.walls.proofs.c.house_wall_run.Statement.{statement}
 use Rattle.walls.proofs.c.house_wall_run.Tie as tie
 
 returns : tie.Need-returns
-unfolding houseWallRun wallAnsweredBy packed
-returns c = rw (c .pack .ensures) (ap wallAnsweredBy (c .before .before .before .before .before .run-wall .ensures))
+unfolding houseWallRun answeredBy packed
+returns c = rw (c .pack .ensures) (ap (λ (w : WallWhole). answeredBy (withoutSensor w)) (c .before .before .before .before .before .run-wall .ensures))
 
 pub house-wall-run-spec : {M : Type 1} → statement M
 house-wall-run-spec =

@@ -1,8 +1,8 @@
 use mathlib.Core.Path.{sym, _∙_}
 use Rattle.desk.proofs.Lives.{no-image, move-no-image}
 use borrow.Author.Needs.{needs}
-use Rattle.desk.proofs.clock.move_image.Statement.{statement}
-use Rattle.desk.proofs.clock.move_image.Tie as tie
+use Rattle.desk.proofs.clock.house_move.Statement.{statement}
+use Rattle.desk.proofs.clock.house_move.Tie as tie
 
 returns : tie.Need-returns
 returns c = rw (c .refused .ensures) (move-no-image _ _ _ (no-image _ (c .before .if1 .taken)))
@@ -10,8 +10,8 @@ returns c = rw (c .refused .ensures) (move-no-image _ _ _ (no-image _ (c .before
 returns-3 : tie.Need-returns-3
 returns-3 c = rw (c .refused2 .ensures) (move-no-image _ _ _ (sym (c .before .before .is-image-of .ensures) ∙ c .before .if2 .left))
 
-pub move-image-spec : {M : Type 1} → statement M
-move-image-spec =
+pub house-move-spec : {M : Type 1} → statement M
+house-move-spec =
     tie.close
     (tie.spec
     (λ c κs. search needs)

@@ -1,6 +1,6 @@
 use borrow.Author.Needs.{needs}
-use Rattle.walls.proofs.run.refused.Statement.{statement}
-use Rattle.walls.proofs.run.refused.Tie as tie
+use Rattle.runs.proofs.run.refused.Statement.{statement}
+use Rattle.runs.proofs.run.refused.Tie as tie
 
 returns : tie.Need-returns
 returns c = simp (c .number-of .ensures, c .before .own-sensor .ensures, c .before .before .own-state .ensures)

@@ -1,7 +1,7 @@
 use borrow.Author.Needs.{needs}
 use Rattle.desk.proofs.Lives.{fresh-refused, fresh-made, fresh-short}
-use Rattle.desk.proofs.fresh.fresh_image.Statement.{statement}
-use Rattle.desk.proofs.fresh.fresh_image.Tie as tie
+use Rattle.desk.proofs.fresh.house_fresh.Statement.{statement}
+use Rattle.desk.proofs.fresh.house_fresh.Tie as tie
 
 returns : tie.Need-returns
 returns c = rw (c .pack .ensures) (fresh-refused _ _ _ (c .before .before .before .fresh-state .ensures) (c .before .if1 .taken))
@@ -12,8 +12,8 @@ returns-2 c = rw (c .pack2 .ensures, c .before .before .before .put-image .ensur
 returns-3 : tie.Need-returns-3
 returns-3 c = rw (c .refused .ensures) (fresh-short _ _ _ (c .before .before .before .before .fresh-state .ensures) (c .before .before .if1 .left) (c .before .if2 .left))
 
-pub fresh-image-spec : {M : Type 1} → statement M
-fresh-image-spec =
+pub house-fresh-spec : {M : Type 1} → statement M
+house-fresh-spec =
     tie.close
     (tie.spec
     (λ c κs. search needs)

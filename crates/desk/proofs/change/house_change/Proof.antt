@@ -1,8 +1,8 @@
 use mathlib.Core.Path.{sym, _∙_}
 use Rattle.desk.proofs.Lives.{no-image, change-lent-badly, change-no-image}
 use borrow.Author.Needs.{needs}
-use Rattle.desk.proofs.change.change_image.Statement.{statement}
-use Rattle.desk.proofs.change.change_image.Tie as tie
+use Rattle.desk.proofs.change.house_change.Statement.{statement}
+use Rattle.desk.proofs.change.house_change.Tie as tie
 
 play-image-requires : tie.Need-play-image-requires
 play-image-requires c κs =
@@ -26,8 +26,8 @@ returns-2 c =
 returns-4 : tie.Need-returns-4
 returns-4 c = rw (c .refused3 .ensures) (change-no-image _ _ _ _ (sym (c .before .before .is-image-of .ensures) ∙ c .before .if2 .left))
 
-pub change-image-spec : {M : Type 1} → statement M
-change-image-spec =
+pub house-change-spec : {M : Type 1} → statement M
+house-change-spec =
     tie.close
     (tie.spec
     (λ c κs. search needs)
