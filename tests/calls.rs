@@ -91,6 +91,7 @@ impl Outcome {
     /// What the second model says of a run; a refused one has neither records nor answers.
     pub fn of_model<End>(case: &Case, run: &Run<End>) -> Outcome {
         let mut outcome = Outcome { number: number(run), ..Outcome::before(case) };
+        assert!(8 * run.records.len() <= outcome.records.len());
         for (place, record) in outcome.records.chunks_exact_mut(8).zip(&run.records) {
             place.copy_from_slice(&record_octets(record));
         }

@@ -43,6 +43,7 @@ impl Steps {
 /// The state of an image, which must say nothing that a state does not hold.
 fn state_in(octets: Image) -> State {
     let state = live::said_by(&octets).expect("an image of a state, sound or not");
+    assert!(octets[21] <= 1 && octets[25..40].iter().step_by(2).all(|flags| *flags <= 3));
     assert_eq!(live::image(&state), octets);
     state
 }

@@ -4,19 +4,17 @@ use mathlib.Core.Bool.{Bool, true, false, _||_, and-false}
 use mathlib.Core.Path.{_≡_, refl, ap}
 use mathlib.Core.Logic.{_⊎_, inl, inr}
 use mathlib.Core.List.{List, [], _∷_}
-use Rattle.rules.specs.declared.parameters.Params.{Params}
-use Rattle.rules.specs.declared.parameters.Scene.{Scene}
 use Rattle.rules.specs.declared.phase.Phase.{Phase}
 use Rattle.rules.specs.declared.phase.Phase.the-variants.{Dark, Lit}
 use Rattle.rules.specs.declared.input.Input.{Input}
 use Rattle.rules.specs.declared.state.State.{State}
 use Rattle.rules.specs.Phases.{deadline, litAt, setOn}
 use Rattle.rules.specs.Orders.{withPhase, standing, held, settle, plain, unlocked, busMode, order}
-use Rattle.rules.specs.Steps.{fresh, atMoment, clockMove, step, Quiet}
+use Rattle.rules.specs.Steps.{atMoment, clockMove, step, Quiet}
 use Rattle.rules.specs.Lists.{Cue, cue, plays}
 use Rattle.rules.specs.Said.{Flags, flagsAfter}
 use Rattle.rules.proofs.Laws.Orders.{order-leaves}
-use Rattle.rules.proofs.Laws.Holding.{Stands, loose-stands}
+use Rattle.rules.proofs.Laws.Holding.{Stands}
 use Rattle.rules.proofs.Laws.Soundness.{step-stands}
 use Rattle.rules.proofs.Laws.Facts.{held-exactly-when, steady-exactly-when}
 use Rattle.rules.proofs.Laws.Timers.{no-timer-due-no-move}
@@ -74,6 +72,5 @@ unfolding plays
 plays-stand [] s h = h
 plays-stand (cue t i ∷ later) s h = plays-stand later (step s i t .state) (step-stands s i t h)
 
-pub plays-steady : (p : Params) (scenes : List Scene) (list : List Cue) → HeldIsSteady (plays list (fresh p scenes) .state)
-unfolding fresh
-plays-steady p scenes list = stands-steady _ (plays-stand list (fresh p scenes) (loose-stands (fresh p scenes) record { free = refl; powered = refl }))
+pub plays-steady : (list : List Cue) (s : State) → Stands s → HeldIsSteady (plays list s .state)
+plays-steady list s h = stands-steady _ (plays-stand list s h)

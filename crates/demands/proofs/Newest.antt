@@ -32,6 +32,7 @@ use Rattle.rules.specs.Said.{NotedWhere, Flags, flagsAfterPower, flagsAfter}
 use Rattle.rules.specs.Promises.{turns, Each, upTo, stateAt}
 use Rattle.rules.proofs.Laws.Cases.{each-input}
 use Rattle.rules.proofs.Laws.Facts.{sound-exactly-when, held-exactly-when}
+use Rattle.rules.proofs.Laws.Holding.{loose-stands}
 use Rattle.rules.proofs.Laws.Barriers.{open-is-unstopped, noted-where}
 use Rattle.rules.proofs.Laws.Orders.{order-leaves}
 use Rattle.rules.proofs.Laws.Soundness.{noted-is-the-note, taken-is-the-order}
@@ -436,7 +437,7 @@ run-in-two p scenes before later end rest e =
 pub only-the-newest-count : (p : Params) (scenes : List Scene) → OnlyTheNewestCount p scenes
 only-the-newest-count p scenes before one other d =
     let s : State = plays before (fresh p scenes) .state in
-    let same = newest-from s (plays-steady p scenes before) one other d in
+    let same = newest-from s (plays-steady before (fresh p scenes) (unfold fresh in loose-stands (fresh p scenes) record { free = refl; powered = refl })) one other d in
     let there : (list : List Cue) → plays (before ++ list) (fresh p scenes) .state ≡ plays list s .state = λ list. ap (λ (x : Played). x .state) (plays-append before list (fresh p scenes)) in (
       same,
       λ later end. record {

@@ -14,16 +14,16 @@ use rules::parameters::Params;
 use rules::phase::Deadline;
 use rules::phase::Phase;
 
-// Light from Dark: at once, or after the on delay; the light timed or to stay, the wait likewise.
-fn from_dark(p: Params, timed: bool, waits: bool, t: u32) -> Phase
+// Light from Dark: at once, timed or to stay, or after the on delay, by a wait for timed light or for steady.
+fn from_dark(p: Params, timed: bool, waittimed: bool, t: u32) -> Phase
     requires { ⌜ Room p t ⌝ }
-    ensures { λ r. ⌜ r ≡ fromDark p timed waits t ⌝ }
+    ensures { λ r. ⌜ r ≡ fromDark p timed waittimed t ⌝ }
 {
     let none = p.ondelay == 0;
     if none {
         lit_at(p, timed, t)
     } else {
-        Phase::Starting(waits, later(t, p.ondelay))
+        Phase::Starting(waittimed, later(t, p.ondelay))
     }
 }
 

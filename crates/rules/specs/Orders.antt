@@ -28,9 +28,10 @@ use Rattle.rules.specs.Phases.{output, ownEnd, litAt, setOn, setOff}
 
 -- ---- orders to the phase
 
--- "Dark becomes lit at once when OnDelay is 0 .., otherwise Starting .. until t+OnDelay": the light `timed` or to stay, the wait likewise
+-- "Dark becomes lit at once when OnDelay is 0 .., otherwise Starting .. until t+OnDelay": light that is timed or to
+-- stay, after a wait for timed light or for steady
 unfoldable pub fromDark : Params → Bool → Bool → ℕ → Phase
-fromDark p timed waits t = cond (eqb (p .ondelay) 0) (litAt p timed t) (Starting waits (t + p .ondelay))
+fromDark p timed waitTimed t = cond (eqb (p .ondelay) 0) (litAt p timed t) (Starting waitTimed (t + p .ondelay))
 
 -- "On: Dark becomes lit at once when OnDelay is 0 (Timed if night, else Lit), otherwise Starting, steady, until t+OnDelay.
 -- Starting keeps its deadline and becomes steady. Lit stays. Timed, Warning, Ending: set on."
@@ -57,6 +58,7 @@ earliestEnd delayed Never = delayed
 earliestEnd delayed (At own) = earlier delayed own
 
 -- "Off: Dark stays; Starting becomes Dark." Every lit phase: Ending until the earliest end. "With OffDelay 0 the result is Dark."
+-- (Phase by phase, in 01's words: Said.antt, `OffOrders`.)
 unfoldable pub off : Params → ℕ → Phase → Phase
 off p t phase = cond (output phase && not (eqb (p .offdelay) 0)) (Ending (earliestEnd (t + p .offdelay) (ownEnd p phase))) Dark
 

@@ -1,6 +1,6 @@
 -- Orders said a second time, from another side: what each leaves of every field, where an input is noted and what that changes, what each mode
--- sets, what timed orders and nightfall make of a phase, where Orders.antt goes order by order. That both sides say the same is proved (proofs/Laws/Orders.antt, Said.antt), so that a
--- slip in one of them does not pass.
+-- sets, when the light of a phase ends by itself, and what On, timed orders, Off and nightfall make of a phase, where Orders.antt goes order by
+-- order. That both sides say the same is proved (proofs/Laws/Orders.antt, Said.antt, Ends.antt), so that a slip in one of them does not pass.
 use Prim.Native.Nat.{ℕ, _+_, _≤_}
 use mathlib.Core.Bool.{Bool, true, false, cond}
 use mathlib.Core.Path.{_≡_}
@@ -23,7 +23,7 @@ use Rattle.rules.specs.declared.state.Link.the-variants.{Up, BusDown, Po
 use Rattle.rules.specs.declared.state.State.{State}
 use Rattle.rules.specs.Scenes.{learnt}
 use Rattle.rules.specs.Phases.{output, ownEnd}
-use Rattle.rules.specs.Orders.{timedStart, off, timedStop, nightFalls, held, order}
+use Rattle.rules.specs.Orders.{on, timedStart, off, timedStop, nightFalls, held, order}
 use Rattle.rules.specs.Steps.{clockMove, Quiet}
 
 -- ---- what an order leaves of each field but the phase (01, "What each order does, at t")
@@ -191,6 +191,18 @@ runsTimed (Starting timed d) = timed
 runsTimed (Timed d) = true
 runsTimed (Warning d) = true
 runsTimed (Ending d) = false
+
+-- "On: Dark becomes lit at once when OnDelay is 0 (Timed if night, else Lit), otherwise Starting, steady, until t+OnDelay. Starting keeps its
+-- deadline and becomes steady. Lit stays. Timed, Warning, Ending: set on."
+pub record OnOrders (p : Params) (night held : Bool) (t : ℕ) : Type 0 where
+  pub at-once-by-night : p .ondelay ≡ 0 → night ≡ true → on p night held t Dark ≡ Timed (t + p .timedon)
+  pub at-once-by-day : p .ondelay ≡ 0 → night ≡ false → on p night held t Dark ≡ Lit
+  pub after-delay : (p .ondelay ≡ 0 → ⊥) → on p night held t Dark ≡ Starting false (t + p .ondelay)
+  pub waiting : (timed : Bool) (d : ℕ) → on p night held t (Starting timed d) ≡ Starting false d
+  pub lit : on p night held t Lit ≡ Lit
+  pub ends-in-night : (phase : Phase) (d : ℕ) → ownEnd p phase ≡ At d → night ≡ true → held ≡ false → on p night held t phase ≡ Timed (t + p .timedon)
+  pub stays-by-day : (phase : Phase) (d : ℕ) → ownEnd p phase ≡ At d → night ≡ false → on p night held t phase ≡ Lit
+  pub stays-held : (phase : Phase) (d : ℕ) → ownEnd p phase ≡ At d → held ≡ true → on p night held t phase ≡ Lit
 
 -- "Timed start: the same from Dark and Starting but timed; every lit phase becomes Timed until t+TimedOn."; "Timed stop: as Off in Timed,
 -- Warning and timed Starting; otherwise nothing."

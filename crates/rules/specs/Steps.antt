@@ -75,7 +75,7 @@ clockMove s t = ticked s (tick s t) (tick (tick s t) t) (tick (tick (tick s t) t
 
 -- the same as a chain of timers, however many (proofs/Laws/Timers.antt, `clock-moves`)
 
--- no timer is due at t
+-- it has not come by t: no timer is due
 abbrev pub Quiet : ℕ → Deadline → Type 0
 Quiet t Never = Unit {0}
 Quiet t (At d) = t < d

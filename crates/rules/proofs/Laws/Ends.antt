@@ -1,5 +1,5 @@
--- When light ends: a phase's own end (`ownEnd`), as the timers bear it out, and the one choice of the earlier of two moments, from which
--- every law of Off follows.
+-- When light ends: a phase's own end (`ownEnd`), as the timers bear it out, the one choice of the earlier of two moments, and what any Off
+-- leaves.
 use Prim.Native.Nat.{ℕ, _+_, _≤_}
 use mathlib.Core.Bool.{Bool, true, false, not, _&&_}
 use mathlib.Core.Path.{_≡_, refl}

@@ -1,5 +1,5 @@
--- What an order may make of the phase, and by what, said once of every order. Whatever is promised of phases follows by its cases: that
--- no deadline is set too early or too far off, that night leaves no light that lasts, how long light lasts, and that an Off is heard.
+-- What an order may make of the phase, and by what, said once of every order. By its cases follows that no deadline is set too early or too
+-- far off, that night leaves no light that lasts, how long light lasts, that a wait and a lit lamp stay, and that an Off is heard.
 use Prim.Native.Nat.{ℕ, _+_, _≤_}
 use mathlib.Core.Bool.{Bool, true, false, not, _&&_, _||_, or-true, and-false}
 use mathlib.Core.Path.{_≡_, refl, sym}

@@ -9,7 +9,6 @@ use Rattle.rules.specs.declared.phase.Phase.the-variants.{Dark, Lit, Sta
 use Rattle.rules.specs.declared.phase.Deadline.{Deadline}
 use Rattle.rules.specs.declared.phase.Deadline.the-variants.{Never, At}
 use Rattle.rules.specs.Phases.{deadline, litAt, atDeadline, ownEnd}
-use Rattle.rules.specs.Orders.{on}
 use Rattle.rules.specs.Answers.{due}
 use Rattle.rules.specs.Soundness.{isLit}
 use Rattle.base.proofs.Tests.{no, cond-zero}

@@ -1,6 +1,6 @@
 -- What each mode sets, and what Off, timed orders and nightfall make of a phase, in 01's words; and what a noted value changes, in those of 02.
 use Prim.Native.Nat.{ℕ, zero, suc, _+_, _≤_}
-use mathlib.Core.Bool.{Bool, true, false, cond, _&&_, and-false}
+use mathlib.Core.Bool.{Bool, true, false, cond, not, _&&_, and-false}
 use mathlib.Core.List.{[], _∷_}
 use mathlib.Core.Logic.{_⊎_, inl, inr}
 use mathlib.Core.Path.{_≡_, refl, _∙_, ap}
@@ -11,6 +11,7 @@ use borrow.Author.Tests.{eq-eqb, ne-eqb}
 use Rattle.rules.specs.declared.parameters.Params.{Params}
 use Rattle.rules.specs.declared.phase.Phase.{Phase}
 use Rattle.rules.specs.declared.phase.Phase.the-variants.{Dark, Lit, Timed, Warning, Ending}
+use Rattle.rules.specs.declared.phase.Deadline.the-variants.{At}
 use Rattle.rules.specs.declared.input.Force.{Force}
 use Rattle.rules.specs.declared.input.Force.the-variants.{Free, Off, On}
 use Rattle.rules.specs.declared.input.Event.{Event}
@@ -21,10 +22,10 @@ use Rattle.rules.specs.declared.barrier.Barrier.the-variants.{Notes}
 use Rattle.rules.specs.declared.state.Link.{Link}
 use Rattle.rules.specs.declared.state.Link.the-variants.{Up, BusDown, PowerDown}
 use Rattle.rules.specs.declared.state.State.{State}
-use Rattle.rules.specs.Phases.{output, litAt, setOn}
-use Rattle.rules.specs.Orders.{fromDark, timedStart, earliestEnd, off, timedStop, nightFalls, withLock, withLink, held, settle, plain, byMode, locked, unlockingOutput, unlocked, lockDevice, busMode, bus, powerReturns, power, order, noted}
+use Rattle.rules.specs.Phases.{output, ownEnd, litAt, setOn}
+use Rattle.rules.specs.Orders.{fromDark, on, timedStart, earliestEnd, off, timedStop, nightFalls, withLock, withLink, held, settle, plain, byMode, locked, unlockingOutput, unlocked, lockDevice, busMode, bus, powerReturns, power, order, noted}
 use Rattle.rules.specs.Barriers.{barrier}
-use Rattle.rules.specs.Said.{NotedWhere, OnlyItsValue, setTo, NothingHolds, ModesSet, runsTimed, EndsAtEarlier, OffOrders, TimedOrders, NightFalls}
+use Rattle.rules.specs.Said.{NotedWhere, OnlyItsValue, setTo, NothingHolds, ModesSet, runsTimed, EndsAtEarlier, OnOrders, OffOrders, TimedOrders, NightFalls}
 use Rattle.rules.specs.Facts.{ParamsFit}
 use Rattle.base.specs.Time.{earlier}
 use Rattle.base.proofs.Tests.{no, by-order}
@@ -113,6 +114,28 @@ lit-is-timed p t = each-phase (λ phase. output phase ≡ true → timedStart p 
 stop-is-off : (p : Params) (t : ℕ) (phase : Phase) → timedStop p t phase ≡ cond (runsTimed phase) (off p t phase) phase
 unfolding timedStop
 stop-is-off p t = each-phase (λ phase. timedStop p t phase ≡ cond (runsTimed phase) (off p t phase) phase) refl refl (λ timed d. refl) (λ d. refl) (λ d. refl) (λ d. refl)
+
+-- ---- On
+
+ending-is-set-on : (p : Params) (night held : Bool) (t : ℕ) (phase : Phase) (d : ℕ) → ownEnd p phase ≡ At d → on p night held t phase ≡ litAt p (night && not held) t
+unfolding on setOn
+ending-is-set-on p night held t =
+    each-phase (λ phase. (d : ℕ) → ownEnd p phase ≡ At d → on p night held t phase ≡ litAt p (night && not held) t)
+    (λ d e. no cc) (λ d e. no cc) (λ timed x d e. no cc) (λ x d e. refl) (λ x d e. refl) (λ x d e. refl)
+
+pub on-orders : (p : Params) (night held : Bool) (t : ℕ) → OnOrders p night held t
+unfolding fromDark on litAt
+on-orders p night held t =
+    record {
+      at-once-by-night = λ none dark. rw (eq-eqb (p .ondelay) 0 none, dark);
+      at-once-by-day = λ none day. rw (eq-eqb (p .ondelay) 0 none, day);
+      after-delay = λ some. rw (ne-eqb (p .ondelay) 0 some);
+      waiting = λ timed d. refl;
+      lit = refl;
+      ends-in-night = λ phase d e dark free. ending-is-set-on p night held t phase d e ∙ rw (dark, free);
+      stays-by-day = λ phase d e day. ending-is-set-on p night held t phase d e ∙ rw day;
+      stays-held = λ phase d e holds. ending-is-set-on p night held t phase d e ∙ rw (holds, and-false night);
+    }
 
 pub timed-orders : (p : Params) (t : ℕ) → TimedOrders p t
 unfolding fromDark timedStart litAt

@@ -1,6 +1,6 @@
 -- "Nobody waits for ever", Dark: every order up to t-L leaves light that is over by t, and after t-L no order prolongs it.
 use Prim.Native.Nat.{ℕ, _+_, _-_, _≤_, _<_}
-use mathlib.Core.Bool.{Bool, true, false, not, _&&_}
+use mathlib.Core.Bool.{Bool, true, false}
 use mathlib.Core.Path.{_≡_, refl, sym, subst, _∙_}
 use mathlib.Core.Logic.{inl, inr}
 use mathlib.Core.List.{List, [], _∷_}
@@ -18,7 +18,7 @@ use Rattle.rules.specs.Promises.{Rises, turn, turns, Each, stateAt, ligh
 use Rattle.base.proofs.Tests.{no}
 use Rattle.base.proofs.Codes.{failed}
 use Rattle.rules.proofs.Laws.Ends.{still-ahead}
-use Rattle.rules.proofs.Laws.Making.{lighting, busIsOn, fromLock, fromForce, fromPowerDown}
+use Rattle.rules.proofs.Laws.Making.{ruled, lighting, busIsOn, fromLock, fromForce, fromPowerDown}
 use Rattle.rules.proofs.Promises.Lasting.{OverBy, over-ends}
 use Rattle.rules.proofs.Laws.Steps.{three-are-enough}
 use Rattle.rules.proofs.Laws.Soundness.{move-keeps, step-params}
@@ -49,7 +49,7 @@ night-prolongs-nothing s i n unlit keeps (inl (fromPowerDown e)) = no (sym (n .p
 over-is-off : (p : Params) (ruled : Bool) (t : ℕ) (phase : Phase) → ruled ≡ true → OverBy p ruled t phase → Quiet t (deadline phase) → output phase ≡ false
 over-is-off p ruled t phase night h quiet = failed (output phase) (λ lit. still-ahead p t phase quiet (over-ends p ruled t phase night lit h))
 
-night-rules : (s : State) → NightRules s → (s .night && not (held s)) ≡ true
+night-rules : (s : State) → NightRules s → ruled s ≡ true
 unfolding held
 night-rules s n = rw (n .night, n .unlocked, n .unforced)
 

@@ -10,7 +10,6 @@ use Rattle.rules.specs.declared.parameters.Params.{Params}
 use Rattle.rules.specs.declared.phase.Phase.{Phase}
 use Rattle.rules.specs.declared.phase.Phase.the-variants.{Dark, Lit, Starting, Timed, Warning, Ending}
 use Rattle.rules.specs.Phases.{output, litAt, atDeadline, ownEnd}
-use Rattle.rules.specs.Orders.{on}
 use Rattle.rules.specs.Promises.{longestLight}
 use Rattle.base.proofs.Tests.{no, either-way}
 use Rattle.base.proofs.Codes.{failed}

@@ -8,7 +8,7 @@ use Rattle.rules.specs.declared.input.Input.{Input}
 use Rattle.rules.specs.declared.input.Input.the-variants.{SwitchOnOffForced, NightMode}
 use Rattle.rules.specs.declared.state.State.{State}
 use Rattle.rules.specs.declared.barrier.Barrier.the-variants.{Open, Notes}
-use Rattle.rules.specs.Orders.{held, locked, order, noted}
+use Rattle.rules.specs.Orders.{held, order, noted}
 use Rattle.rules.specs.Barriers.{barrier}
 use Rattle.rules.specs.Said.{NotedWhere}
 use Rattle.rules.specs.Steps.{tick, ticked, clockMove, step}

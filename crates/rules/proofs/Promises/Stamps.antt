@@ -18,7 +18,6 @@ use Rattle.rules.specs.declared.barrier.Barrier.the-variants.{Open, Note
 use Rattle.rules.specs.declared.record.Record.{Record}
 use Rattle.rules.specs.Inputs.{kind}
 use Rattle.rules.specs.Phases.{deadline, litAt, atDeadline, ownEnd}
-use Rattle.rules.specs.Orders.{timed}
 use Rattle.rules.specs.Status.{recordOf, byItself, sameStatus, written}
 use Rattle.rules.specs.Steps.{Moved, ticked, clockMove, counted, meet, act, step, Quiet, fired, Moves, rest, fire}
 use Rattle.rules.specs.Lists.{Cue, cue, plays, playsTo}
