@@ -14,7 +14,7 @@ use rules::parameters::Params;
 use rules::phase::Deadline;
 use rules::phase::Phase;
 
-// Light from Dark: at once, timed or to stay, or after the on delay, by a wait for timed light or for steady.
+// Light from Dark: the light at once, timed or to stay, or the wait for it, timed or steady.
 fn from_dark(p: Params, timed: bool, waittimed: bool, t: u32) -> Phase
     requires { ⌜ Room p t ⌝ }
     ensures { λ r. ⌜ r ≡ fromDark p timed waittimed t ⌝ }

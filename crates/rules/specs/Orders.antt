@@ -28,8 +28,8 @@ use Rattle.rules.specs.Phases.{output, ownEnd, litAt, setOn, setOff}
 
 -- ---- orders to the phase
 
--- "Dark becomes lit at once when OnDelay is 0 .., otherwise Starting .. until t+OnDelay": light that is timed or to
--- stay, after a wait for timed light or for steady
+-- "Dark becomes lit at once when OnDelay is 0 .., otherwise Starting .. until t+OnDelay": the light at once, timed or to stay
+-- (`timed`), or the wait for it, timed or steady (`waitTimed`)
 unfoldable pub fromDark : Params → Bool → Bool → ℕ → Phase
 fromDark p timed waitTimed t = cond (eqb (p .ondelay) 0) (litAt p timed t) (Starting waitTimed (t + p .ondelay))
 

@@ -62,13 +62,20 @@ mayLast (Ending d) = true
 -- An order at t, in this night, makes this of a phase. Night ruled `before` or not, and rules `now`; `Bright` is what brings light, `Holds`
 -- what overrides, `Dims` what takes light away or the wait for it.
 pub data Makes (p : Params) (t : ℕ) (night before now : Bool) (Bright Holds Dims : Type 0) (phase : Phase) : Phase → Type 0 where
+  -- nothing; but a night that begins to rule finds no light that may last
   keeps : (mayLast phase ≡ true → now ≡ true → before ≡ true) → Makes p t night before now Bright Holds Dims phase phase
+  -- an Off that finds no light or has no delay, set off, and what puts the light out
   darkens : Dims → Makes p t night before now Bright Holds Dims phase Dark
+  -- an On, set on, or a hold, where night does not rule
   steadies : now ≡ false → Bright ⊎ Holds → (awaited phase ≡ true → Dims) → Makes p t night before now Bright Holds Dims phase Lit
+  -- a timed start, or an On or set on in night
   times : Bright → (awaited phase ≡ true → Dims) → Makes p t night before now Bright Holds Dims phase (Timed (t + p .timedon))
+  -- the wait for either, and one that goes on
   begins : (timed : Bool) → phase ≡ Dark → Bright → 1 ≤ p .ondelay → Makes p t night before now Bright Holds Dims phase (Starting timed (t + p .ondelay))
   awaits : (was timed : Bool) (d : ℕ) → phase ≡ Starting was d → Makes p t night before now Bright Holds Dims phase (Starting timed d)
+  -- an Off that finds light
   ends : (now ≡ true → before ≡ true) → output phase ≡ true → 1 ≤ p .offdelay → Makes p t night before now Bright Holds Dims phase (Ending (earliestEnd (t + p .offdelay) (ownEnd p phase)))
+  -- nightfall
   night-times : phase ≡ Lit → night ≡ false → Makes p t night before now Bright Holds Dims phase (Timed (t + p .timedon))
   night-ends : (d : ℕ) → phase ≡ Ending d → night ≡ false → Makes p t night before now Bright Holds Dims phase (Ending (earlier d (t + p .timedon + p .prewarning)))
 
