@@ -24,6 +24,8 @@ use Rattle.rules.specs.Scenes.{recalled}
 use Rattle.rules.specs.Phases.{output, ownEnd, litAt, setOn}
 use Rattle.rules.specs.Orders.{fromDark, on, timedStart, earliestEnd, off, timedStop, nightFalls, withForce, withLink, withLock, standing, held, settle, plain, byMode, switch, timed, recall, learn, scene, nightMode, forced, locked, unlocked, lockDevice, busMode, bus, powerFails, powerReturns, power, order}
 use Rattle.rules.specs.Barriers.{powerDown}
+use Rattle.rules.specs.Status.{staircase}
+use Rattle.rules.specs.Soundness.{isDark}
 use Rattle.rules.specs.Promises.{recallsOn, recallsOff, lights, dims, modeOn, busOn}
 use Rattle.rules.specs.Mistakes.{overrides}
 use Rattle.base.proofs.Tests.{no, cond-case, cond-zero, either-way}
@@ -41,23 +43,13 @@ pub data Brightens (s : State) (i : Input) : Type 0 where
   fromForce : standing (s .force) ≡ true → Brightens s i
   fromPowerDown : powerDown (s .link) ≡ true → Brightens s i
 
--- this phase waits for its light
+-- this phase waits for its light: it is off, and not Dark
 abbrev pub awaited : Phase → Bool
-awaited Dark = false
-awaited Lit = false
-awaited (Starting timed d) = true
-awaited (Timed d) = false
-awaited (Warning d) = false
-awaited (Ending d) = false
+awaited phase = not (output phase) && not (isDark phase)
 
--- the light of these phases may last where night does not rule
+-- the light of this phase may last where night does not rule: it is on, and no staircase light
 abbrev pub mayLast : Phase → Bool
-mayLast Dark = false
-mayLast Lit = true
-mayLast (Starting timed d) = false
-mayLast (Timed d) = false
-mayLast (Warning d) = false
-mayLast (Ending d) = true
+mayLast phase = output phase && not (staircase phase)
 
 -- An order at t, in this night, makes this of a phase. Night ruled `before` or not, and rules `now`; `Bright` is what brings light, `Holds`
 -- what overrides, `Dims` what takes light away or the wait for it.
