@@ -7,7 +7,6 @@ ghost use Rattle.rules.specs.Orders.{order};
 ghost use Rattle.rules.specs.Barriers.{barrier_to, barrier};
 ghost use Rattle.rules.specs.Steps.{act, step};
 ghost use Rattle.rules.specs.Lists.{still};
-ghost use Rattle.rules.specs.Tracks.{tracked};
 ghost use Rattle.rules.specs.Soundness.{sound};
 ghost use Rattle.phases.specs.Room.{Room, Roomy};
 ghost use Rattle.lamps.specs.Lamps.{lamp_of, state_of};
@@ -223,10 +222,10 @@ pub fn act_input(s: State, i: Input) -> Acting
     }
 }
 
-// An input at t, on its track: the clock moves, then it acts. What the timers write is on no track.
-pub fn step_input(s: State, i: Input, t: u32, track: u8) -> Acted
+// An input at t: the clock moves, then it acts.
+pub fn step_input(s: State, i: Input, t: u32) -> Acted
     requires { (sound s ≡ true) × (s.clock ≤ t) × (t ≤ last_stamp) }
-    ensures { result ≡ acted (tracked track (step s i t)) }
+    ensures { result ≡ acted (step s i t) }
 {
     let m = move_clock(s, t);
     let moved = m.state;
@@ -237,6 +236,6 @@ pub fn step_input(s: State, i: Input, t: u32, track: u8) -> Acted
     Acted {
         state,
         answer: d.answer,
-        notes: notes::add(timers, notes::on_track(note, track)),
+        notes: notes::add(timers, note),
     }
 }

@@ -37,7 +37,7 @@ pub fn is_roomy(n: u32, records: usize, answers: usize) -> bool
     both(wide, long)
 }
 
-// One record, at an octet: the stamp most significant octet first, value, attributes, cause, track.
+// One record, at an octet: the stamp most significant octet first, value, attributes, cause, zero.
 fn put_at(buf: &mut [u8], at: usize, r: Record)
     requires { at + record_size ≤ length buf.old }
     ensures { buf.new ≡ splice buf.old at (record_octets r) }
@@ -46,7 +46,7 @@ fn put_at(buf: &mut [u8], at: usize, r: Record)
     buf[at + 4] = r.value;
     buf[at + 5] = r.attributes;
     buf[at + 6] = r.cause;
-    buf[at + 7] = r.track;
+    buf[at + 7] = 0;
 }
 
 // One record, after so many.

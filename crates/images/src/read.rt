@@ -44,7 +44,6 @@ pub fn state_in(octets: &[u8]) -> State
     let form = Form {
         version: octets[40],
         scale: Scale::Tenths,
-        lasttrack: 0,
     };
     let written = &octets[0..PARAMETERS_END];
     let p = params_of(written, form);

@@ -1,14 +1,12 @@
 -- Which values of a kind mean an input: each kind takes 0 and 1, and only scenes and forces take more; and which input.
 use Prim.Native.Nat.{ℕ, ◌+◌, ◌/◌, ◌%◌, ◌≤◌, ◌<◌}
-use mathlib.Core.Bool.{Bool, true, false, cond}
+use mathlib.Core.Bool.{Bool, true, false, cond, ◌&&◌}
 use mathlib.Core.List.{List}
 use mathlib.Core.Path.{◌≡◌, refl, sym, ap, ◌∙◌}
 use native.Mathlib.Omega.{arith}
 use lib.Dec.{eqb, leb}
 use borrow.Author.Tests.{eqb-true, eqb-false, leb-true, leb-false, eq-eqb, ne_eqb, le-leb, lt-leb}
 use Rattle.octets.specs.BigEndian.{octet}
-use Rattle.octets.specs.Groups.{ends_within}
-use Rattle.rules.specs.declared.form.Form.{Form}
 use Rattle.rules.specs.declared.input.Input.{Input}
 use Rattle.rules.specs.declared.input.Input.TheVariants.{NumberedSceneControl, SwitchOnOffForced}
 use Rattle.rules.specs.declared.input.Decoded.{Decoded}
@@ -125,8 +123,8 @@ not_meant (Meant i) h = no (sym h)
 not_meant Wrong h = refl
 
 -- where an input starts, it is what its kind and its value mean
-pub known_at : (f : Form) (octets : List ℕ) (at : ℕ) → is_meant (input_at f octets at) ≡ true → input_at f octets at ≡ decoded (octet octets (at + 4)) (octet octets (at + 5))
+pub known_at : (octets : List ℕ) (at : ℕ) → is_meant (input_at octets at) ≡ true → input_at octets at ≡ decoded (octet octets (at + 4)) (octet octets (at + 5))
 unfolding input_at
-known_at f octets at =
-    cond_case (λ d. is_meant d ≡ true → d ≡ decoded (octet octets (at + 4)) (octet octets (at + 5))) (ends_within f.lasttrack octets at) _ _ (λ ends meant. refl)
+known_at octets at =
+    cond_case (λ d. is_meant d ≡ true → d ≡ decoded (octet octets (at + 4)) (octet octets (at + 5))) (eqb (octet octets (at + 6)) 0 && eqb (octet octets (at + 7)) 0) _ _ (λ zeros meant. refl)
     (λ others meant. no meant)

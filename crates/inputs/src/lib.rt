@@ -1,12 +1,11 @@
-// Inputs: eight octets, with a stamp, a kind, a value and a track, and what they carry once they are known.
+// Inputs: eight octets, with a stamp, a kind and a value, and what they carry once they are known.
 ghost use Rattle.std.specs.Prelude.{◌≡◌, ◌+◌, ◌≤◌, true, length};
 ghost use Rattle.rules.specs.declared.input.Decoded.TheVariants.{Meant};
 ghost use Rattle.rules.specs.Layout.{input_size};
 ghost use Rattle.rules.specs.Inputs.{force_of, decoded, input_at};
 ghost use Rattle.inputs.specs.Meaning.{is_meant, event_of};
 
-use octets::group::ends_within;
-use rules::form::Form;
+use octets::group::ends_in_zeros;
 use rules::input::{Decoded, Event, Force, Input};
 
 pub mod value;
@@ -69,12 +68,12 @@ pub fn known_input(kind: u8, value: u8) -> Input
     }
 }
 
-// Whether an input of this version starts at a place.
-pub fn is_input_at(octets: &[u8], at: usize, form: Form) -> bool
+// Whether an input starts at a place.
+pub fn is_input_at(octets: &[u8], at: usize) -> bool
     requires { at + input_size ≤ length octets.now }
-    ensures { result ≡ is_meant (input_at form octets.now at) }
+    ensures { result ≡ is_meant (input_at octets.now at) }
 {
-    if ends_within(octets, at, form.lasttrack) {
+    if ends_in_zeros(octets, at) {
         is_known(octets[at + 4], octets[at + 5])
     } else {
         false
@@ -82,20 +81,20 @@ pub fn is_input_at(octets: &[u8], at: usize, form: Form) -> bool
 }
 
 // The input that starts at a place where one does.
-fn known_input_at(octets: &[u8], at: usize, form: Form) -> Input
-    requires { (at + input_size ≤ length octets.now) × (is_meant (input_at form octets.now at) ≡ true) }
-    ensures { input_at form octets.now at ≡ Meant result }
+fn known_input_at(octets: &[u8], at: usize) -> Input
+    requires { (at + input_size ≤ length octets.now) × (is_meant (input_at octets.now at) ≡ true) }
+    ensures { input_at octets.now at ≡ Meant result }
 {
     known_input(octets[at + 4], octets[at + 5])
 }
 
-// What the input that starts at a place means, by this version.
-pub fn input_at(octets: &[u8], at: usize, form: Form) -> Decoded
+// What the input that starts at a place means.
+pub fn input_at(octets: &[u8], at: usize) -> Decoded
     requires { at + input_size ≤ length octets.now }
-    ensures { result ≡ input_at form octets.now at }
+    ensures { result ≡ input_at octets.now at }
 {
-    if is_input_at(octets, at, form) {
-        Decoded::Meant(known_input_at(octets, at, form))
+    if is_input_at(octets, at) {
+        Decoded::Meant(known_input_at(octets, at))
     } else {
         Decoded::Wrong
     }

@@ -24,13 +24,11 @@ pub fn form_of(version: u32) -> Form
         Form {
             version: 2,
             scale: Scale::Tenths,
-            lasttrack: 15,
         }
     } else {
         Form {
             version: 1,
             scale: Scale::Seconds,
-            lasttrack: 0,
         }
     }
 }

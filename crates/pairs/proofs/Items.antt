@@ -5,10 +5,8 @@ use mathlib.Core.List.{List, ◌++◌}
 use mathlib.Core.Logic.{◌↔◌}
 use mathlib.Core.Path.{◌≡◌, refl, sym, ◌∙◌}
 use native.Mathlib.Omega.{arith}
-use Rattle.octets.specs.Groups.{stamp_at, track_at}
-use Rattle.octets.proofs.Endings.{ends_exactly_when, zeros_exactly_when}
+use Rattle.octets.specs.Groups.{stamp_at}
 use Rattle.base.proofs.Tests.{no}
-use Rattle.rules.specs.declared.form.Form.{Form}
 use Rattle.rules.specs.declared.input.Input.{Input}
 use Rattle.rules.specs.declared.input.Input.TheVariants.{SwitchOnOff}
 use Rattle.rules.specs.declared.input.Decoded.{Decoded}
@@ -16,7 +14,7 @@ use Rattle.rules.specs.declared.input.Decoded.TheVariants as input
 use Rattle.rules.specs.Inputs.{zero_or_one, decoded, input_at}
 use Rattle.rules.specs.Steps.{act}
 use Rattle.rules.specs.Lists.{still}
-use Rattle.rules.proofs.Laws.Inputs.{input_kind, input_number, input_track, kind_range}
+use Rattle.rules.proofs.Laws.Inputs.{input_kind, input_number, kind_range}
 use Rattle.sensor.specs.declared.signal.Edge.{Edge}
 use Rattle.sensor.specs.declared.signal.Signal.{Signal}
 use Rattle.sensor.specs.declared.signal.Signal.TheVariants as signal
@@ -56,86 +54,69 @@ signal_kind_is_large (signal.Button1 edge) = omega arith
 signal_kind_is_large (signal.Button2 edge) = omega arith
 signal_kind_is_large (signal.Status value) = omega arith
 
-module _ (f : Form) (octets : List ℕ) (at : ℕ) where
+module _ (octets : List ℕ) (at : ℕ) where
   -- what means something to the sensor means nothing to the actuator
-  pub a_signal_is_no_input : (s : Signal) → signal_at octets at ≡ signalled.Meant s → input_at f octets at ≡ input.Wrong
-  a_signal_is_no_input s e = by (input_at f octets at) refl
+  pub a_signal_is_no_input : (s : Signal) → signal_at octets at ≡ signalled.Meant s → input_at octets at ≡ input.Wrong
+  a_signal_is_no_input s e = by (input_at octets at) refl
     where
-      by : (d : Decoded) → input_at f octets at ≡ d → d ≡ input.Wrong
-      by (input.Meant i) m = absurd (omega (arith, input_kind f octets at i m, kind_range i, ((signal_exactly_when octets at s).0 e).kind, signal_kind_is_large s))
+      by : (d : Decoded) → input_at octets at ≡ d → d ≡ input.Wrong
+      by (input.Meant i) m = absurd (omega (arith, input_kind octets at i m, kind_range i, ((signal_exactly_when octets at s).0 e).kind, signal_kind_is_large s))
       by input.Wrong m = refl
 
   -- what a reading is, by the item
   abbrev Stands : Read → Type 0
-  Stands (Known (Plain i)) = input_at f octets at ≡ input.Meant i
+  Stands (Known (Plain i)) = input_at octets at ≡ input.Meant i
   Stands (Known (Button1 edge)) = signal_at octets at ≡ signalled.Meant (signal.Button1 edge)
   Stands (Known (Button2 edge)) = signal_at octets at ≡ signalled.Meant (signal.Button2 edge)
   Stands Unknown = Unit {0}
 
-  stands : Stands (item_at f octets at)
+  stands : Stands (item_at octets at)
   unfolding item_at
-  stands = by (input_at f octets at) (signal_at octets at) refl refl
+  stands = by (input_at octets at) (signal_at octets at) refl refl
     where
-      by : (d : Decoded) (s : Signalled) → input_at f octets at ≡ d → signal_at octets at ≡ s → Stands (item_of d s)
-      by (input.Meant i) s e g = e
-      by input.Wrong (signalled.Meant (signal.Button1 edge)) e g = g
-      by input.Wrong (signalled.Meant (signal.Button2 edge)) e g = g
-      by input.Wrong (signalled.Meant (signal.Status value)) e g = tt
-      by input.Wrong signalled.Wrong e g = tt
+      by : (d : Decoded) (s : Signalled) → input_at octets at ≡ d → signal_at octets at ≡ s → Stands (item_of d s)
+      by (input.Meant i) s e f = e
+      by input.Wrong (signalled.Meant (signal.Button1 edge)) e f = f
+      by input.Wrong (signalled.Meant (signal.Button2 edge)) e f = f
+      by input.Wrong (signalled.Meant (signal.Status value)) e f = tt
+      by input.Wrong signalled.Wrong e f = tt
 
   -- an input is one of the actuator's own
-  pub plain_exactly_when : (i : Input) → (item_at f octets at ≡ Known (Plain i)) ↔ (input_at f octets at ≡ input.Meant i)
+  pub plain_exactly_when : (i : Input) → (item_at octets at ≡ Known (Plain i)) ↔ (input_at octets at ≡ input.Meant i)
   plain_exactly_when i = (λ e. rw e at stands, λ m. unfold item_at in rw m refl)
 
   -- an edge is one of the sensor's
-  pub button1_exactly_when : (edge : Edge) → (item_at f octets at ≡ Known (Button1 edge)) ↔ (signal_at octets at ≡ signalled.Meant (signal.Button1 edge))
+  pub button1_exactly_when : (edge : Edge) → (item_at octets at ≡ Known (Button1 edge)) ↔ (signal_at octets at ≡ signalled.Meant (signal.Button1 edge))
   button1_exactly_when edge = (λ e. rw e at stands, λ m. unfold item_at in rw (a_signal_is_no_input (signal.Button1 edge) m, m) refl)
 
-  pub button2_exactly_when : (edge : Edge) → (item_at f octets at ≡ Known (Button2 edge)) ↔ (signal_at octets at ≡ signalled.Meant (signal.Button2 edge))
+  pub button2_exactly_when : (edge : Edge) → (item_at octets at ≡ Known (Button2 edge)) ↔ (signal_at octets at ≡ signalled.Meant (signal.Button2 edge))
   button2_exactly_when edge = (λ e. rw e at stands, λ m. unfold item_at in rw (a_signal_is_no_input (signal.Button2 edge) m, m) refl)
 
   -- "each record is a status", and no other is: one that is listed is refused
-  pub a_status_is_unknown : (value : Bool) → signal_at octets at ≡ signalled.Meant (signal.Status value) → item_at f octets at ≡ Unknown
+  pub a_status_is_unknown : (value : Bool) → signal_at octets at ≡ signalled.Meant (signal.Status value) → item_at octets at ≡ Unknown
   unfolding item_at
   a_status_is_unknown value m = rw (a_signal_is_no_input (signal.Status value) m, m) refl
 
 -- an input that is read has a scene number up to 63
-pub item_fits : (f : Form) (octets : List ℕ) (at : ℕ) (i : Item) → item_at f octets at ≡ Known i → SceneFits i
-item_fits f octets at (Plain i) e = input_number f octets at i ((plain_exactly_when f octets at i).0 e)
-item_fits f octets at (Button1 edge) e = tt
-item_fits f octets at (Button2 edge) e = tt
-
--- an item is on one of the version's tracks; a wall button is on none
-abbrev pub TrackOf : Form → Item → ℕ → Type 0
-TrackOf f (Plain i) track = track ≤ f.lasttrack
-TrackOf f (Button1 edge) track = track ≡ 0
-TrackOf f (Button2 edge) track = track ≡ 0
-
-pub item_track : (f : Form) (octets : List ℕ) (at : ℕ) (i : Item) → item_at f octets at ≡ Known i → TrackOf f i (track_at octets at)
-item_track f octets at (Plain i) e = input_track f octets at i ((plain_exactly_when f octets at i).0 e)
-item_track f octets at (Button1 edge) e = ((signal_exactly_when octets at (signal.Button1 edge)).0 ((button1_exactly_when f octets at edge).0 e)).zeros.0
-item_track f octets at (Button2 edge) e = ((signal_exactly_when octets at (signal.Button2 edge)).0 ((button2_exactly_when f octets at edge).0 e)).zeros.0
+pub item_fits : (octets : List ℕ) (at : ℕ) (i : Item) → item_at octets at ≡ Known i → SceneFits i
+item_fits octets at (Plain i) e = input_number octets at i ((plain_exactly_when octets at i).0 e)
+item_fits octets at (Button1 edge) e = tt
+item_fits octets at (Button2 edge) e = tt
 
 -- ---- what an edge sends is one of the actuator's own inputs
 
--- read back from its octets, a telegram is the switch input of its value, at its stamp, on no track, in every version
-pub record ReadsAsSwitch (f : Form) (octets : List ℕ) (t : ℕ) (value : Bool) : Type 0 where
+-- read back from its octets, a telegram is the switch input of its value, at its stamp
+pub record ReadsAsSwitch (octets : List ℕ) (t : ℕ) (value : Bool) : Type 0 where
   pub stamp : stamp_at octets 0 ≡ t
-  pub meant : input_at f octets 0 ≡ input.Meant (SwitchOnOff value)
-  pub track : track_at octets 0 ≡ 0
+  pub meant : input_at octets 0 ≡ input.Meant (SwitchOnOff value)
 
 switch_meant : (value : Bool) → decoded 1 (cond value 1 0) ≡ input.Meant (SwitchOnOff value)
 unfolding decoded zero_or_one
 switch_meant true = refl
 switch_meant false = refl
 
-pub a_telegram_is_a_switch_input : (f : Form) (t : ℕ) (value : Bool) → ReadsAsSwitch f (telegram_octets t (Switch value)) t value
-a_telegram_is_a_switch_input f t value =
-    let sent = what_is_sent t value in
-    let octets : List ℕ = telegram_octets t (Switch value) in
-    let zeros = (zeros_exactly_when octets 0).0 sent.zeros in
-    let ends = (ends_exactly_when octets 0 f.lasttrack).1 (omega (arith, zeros.0), zeros.1) in
-    record { stamp = sent.stamp; meant = unfold input_at in rw (ends, sent.kind, sent.value) (switch_meant value); track = zeros.0 }
+pub a_telegram_is_a_switch_input : (t : ℕ) (value : Bool) → ReadsAsSwitch (telegram_octets t (Switch value)) t value
+a_telegram_is_a_switch_input t value = let sent = what_is_sent t value in record { stamp = sent.stamp; meant = unfold input_at in rw (sent.zeros, sent.kind, sent.value) (switch_meant value) }
 
 -- The pair plays exactly that input: what the octets of a telegram mean to the actuator is what acts when the telegram is told, while the
 -- clock stands at the edge's stamp; state, answer and records are those of that input.
@@ -145,9 +126,9 @@ pub record PlayedAs (i : Input) (m : PairMoved) (z : Sensor) (d : PairStepped) :
   pub answer : d.answer ≡ (act (still m.pair.actuator) i).answer
   pub records : d.records ≡ m.records ++ (act (still m.pair.actuator) i).records
 
-pub a_telegram_is_played_as_its_octets_mean : (f : Form) (t : ℕ) (value : Bool) (i : Input) → input_at f (telegram_octets t (Switch value)) 0 ≡ input.Meant i → (m : PairMoved) (z : Sensor) →
+pub a_telegram_is_played_as_its_octets_mean : (t : ℕ) (value : Bool) (i : Input) → input_at (telegram_octets t (Switch value)) 0 ≡ input.Meant i → (m : PairMoved) (z : Sensor) →
     PlayedAs i m z (tell (Switch value) m z)
-a_telegram_is_played_as_its_octets_mean f t value i e m z =
-    let read = sym e ∙ (a_telegram_is_a_switch_input f t value).meant in
+a_telegram_is_played_as_its_octets_mean t value i e m z =
+    let read = sym e ∙ (a_telegram_is_a_switch_input t value).meant in
     let same : i ≡ SwitchOnOff value = cc in
     rw same (unfold tell in record { state = refl; sensor = refl; answer = refl; records = refl })

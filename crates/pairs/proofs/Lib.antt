@@ -5,6 +5,5 @@ pub mod Toggles
 pub mod Strike
 pub mod Soundness
 pub mod Items
-pub mod Tracks
 pub mod Reading
 pub mod Refusals

@@ -1,10 +1,9 @@
 -- The public calls of the pair, by value: their whole results, for every input (02, [1]: "6, 7 and 9 as for the actuator").
 use Rattle.std.specs.Prelude.{ℕ, Bool, cond, ◌&&◌, List, [], length, leb}
-use Rattle.octets.specs.Groups.{stamp_at, track_at}
+use Rattle.octets.specs.Groups.{stamp_at}
 use Rattle.base.specs.declared.refusal.Refusal.{Refusal}
 use Rattle.base.specs.declared.refusal.Refusal.TheVariants.{BadInput, BadStamp, UnsoundState}
 use Rattle.base.specs.Refusals.{number, stamp_in_range}
-use Rattle.rules.specs.Forms.{form_for}
 use Rattle.rules.specs.Calls.{places}
 use Rattle.rules.specs.Soundness.{sound}
 use Rattle.sensor.specs.declared.react.Telegram.TheVariants.{Silent}
@@ -16,7 +15,6 @@ use Rattle.pairs.specs.declared.call.Joint.{Joint}
 use Rattle.pairs.specs.declared.call.JointMove.{JointMove}
 use Rattle.pairs.specs.Items.{item_at}
 use Rattle.pairs.specs.Pairs.{Pair, PairMoved, pair_move, PairStepped, pair_step}
-use Rattle.pairs.specs.Tracks.{pair_tracked}
 
 -- both are sound, and the sensor's clock is not after the actuator's: what is recorded from then on can be heard
 unfoldable pub pair_sound : Pair → Bool
@@ -42,14 +40,14 @@ unfoldable pub joint_refused : Pair → Refusal → Joint
 joint_refused p why =
     record { state = p.actuator; sensor = p.sensor; code = number why; place = 0; answer = 0; count = 0; records = places 3 []; sent = telegram_octets 0 Silent }
 
--- 6, then 7 by the actuator's clock, then played, on its track
-unfoldable pub joint_meant : Pair → ℕ → ℕ → Read → Joint
-joint_meant p stamp track Unknown = joint_refused p BadInput
-joint_meant p stamp track (Known i) = cond (stamp_in_range p.actuator.clock stamp) (joint_done stamp (pair_tracked track (pair_step p i stamp))) (joint_refused p BadStamp)
+-- 6, then 7 by the actuator's clock, then played
+unfoldable pub joint_meant : Pair → ℕ → Read → Joint
+joint_meant p stamp Unknown = joint_refused p BadInput
+joint_meant p stamp (Known i) = cond (stamp_in_range p.actuator.clock stamp) (joint_done stamp (pair_step p i stamp)) (joint_refused p BadStamp)
 
--- "For a single input 9, 6, 7, place 0."; it follows the actuator's version
+-- "For a single input 9, 6, 7, place 0."
 unfoldable pub joint_call : Pair → List ℕ → Joint
-joint_call p octets = cond (pair_sound p) (joint_meant p (stamp_at octets 0) (track_at octets 0) (item_at (form_for p.actuator) octets 0)) (joint_refused p UnsoundState)
+joint_call p octets = cond (pair_sound p) (joint_meant p (stamp_at octets 0) (item_at octets 0)) (joint_refused p UnsoundState)
 
 -- ---- a clock move
 

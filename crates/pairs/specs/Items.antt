@@ -1,6 +1,5 @@
 -- The items of a joined list: the actuator's inputs (kinds 1 to 8) and edges (kinds 11 and 12), each as its own device takes it.
 use Rattle.std.specs.Prelude.{ℕ, List}
-use Rattle.rules.specs.declared.form.Form.{Form}
 use Rattle.rules.specs.declared.input.Decoded.{Decoded}
 use Rattle.rules.specs.declared.input.Decoded.TheVariants as input
 use Rattle.sensor.specs.declared.signal.Signal.TheVariants as signal
@@ -20,6 +19,5 @@ item_of input.Wrong (signalled.Meant (signal.Button2 edge)) = Known (Button2 edg
 item_of input.Wrong (signalled.Meant (signal.Status value)) = Unknown
 item_of input.Wrong signalled.Wrong = Unknown
 
--- By the row of a version; an edge is the sensor's, and so its octets 6 and 7 are zero in each: a wall button is on no track.
-unfoldable pub item_at : Form → List ℕ → ℕ → Read
-item_at f octets at = item_of (input_at f octets at) (signal_at octets at)
+unfoldable pub item_at : List ℕ → ℕ → Read
+item_at octets at = item_of (input_at octets at) (signal_at octets at)

@@ -2,7 +2,6 @@
 pub mod Items
 pub mod Pairs
 pub mod Lists
-pub mod Tracks
 pub mod Calls
 pub mod Walls
 -- what is claimed of it

@@ -47,11 +47,8 @@ pair_plays [] p = pair_unplayed p
 pair_plays (listed t i ∷ later) p = pair_then (pair_stepped (pair_step p i t)) (pair_plays later)
 
 -- 01: "After the last input the clock moves to the end time." (its records are heard)
-abbrev pub pair_to_end : ℕ → (Pair → PairPlayed) → Pair → PairPlayed
-pair_to_end end list p = pair_then (list p) (λ x. pair_moved (pair_move x end))
-
 unfoldable pub pair_plays_to : ℕ → List Listed → Pair → PairPlayed
-pair_plays_to end items p = pair_to_end end (pair_plays items) p
+pair_plays_to end items p = pair_then (pair_plays items p) (λ x. pair_moved (pair_move x end))
 
 -- 01: "One record is written at the start" (it is heard)
 abbrev pub pair_start : Params → List Scene → Sensor → PairPlayed

@@ -4,7 +4,6 @@ use Rattle.octets.specs.Groups.{stamp_at}
 use Rattle.base.specs.declared.refusal.Refusal.{Refusal}
 use Rattle.base.specs.declared.refusal.Refusal.TheVariants.{WrongLength, ShortBuffer}
 use Rattle.base.specs.Refusals.{Only, Then, Codes, Timely, CallCodes}
-use Rattle.rules.specs.Forms.{form_for, form_in}
 use Rattle.rules.specs.Soundness.{sound}
 use Rattle.rules.specs.Files.{input_count, end_time, inputs_in}
 use Rattle.rules.specs.Refusals.{StartWhen, GoodStart, InputsWhen, GoodInputs, RoomFor}
@@ -23,7 +22,7 @@ pub record SoundPair (p : Pair) : Type 0 where
 
 -- "9, 6, 7, place 0"
 abbrev pub JointCodes : Pair → List ℕ → ℕ → ℕ → Type 0
-JointCodes p octets = CallCodes (SoundPair p) ((i : Item) × (item_at (form_for p.actuator) octets 0 ≡ Known i)) (Timely p.actuator.clock (stamp_at octets 0))
+JointCodes p octets = CallCodes (SoundPair p) ((i : Item) × (item_at octets 0 ≡ Known i)) (Timely p.actuator.clock (stamp_at octets 0))
 
 -- "9, 7"
 abbrev pub JointMoveCodes : Pair → ℕ → ℕ → ℕ → Type 0
@@ -41,14 +40,14 @@ WallWhen wall =
     Then (Only WrongLength 0 (56 ≤ length wall → ⊥)) (56 ≤ length wall)
     (Then (StartWhen (file_in wall)) (GoodStart (file_in wall))
     (Then (ActionsWhen (actions_in wall)) (GoodActions (actions_in wall))
-    (InputsWhen (item_in (form_in (file_in wall)) (wall_inputs wall)) (wall_inputs wall) (input_count (file_in wall)) 0 (end_time (file_in wall)))))
+    (InputsWhen (item_in (wall_inputs wall)) (wall_inputs wall) (input_count (file_in wall)) 0 (end_time (file_in wall)))))
 
 -- no row holds
 pub record GoodWall (wall : List ℕ) : Type 0 where
   pub long : 56 ≤ length wall
   pub start : GoodStart (file_in wall)
   pub actions : GoodActions (actions_in wall)
-  pub good : GoodInputs (item_in (form_in (file_in wall)) (wall_inputs wall)) (wall_inputs wall) (input_count (file_in wall)) 0 (end_time (file_in wall))
+  pub good : GoodInputs (item_in (wall_inputs wall)) (wall_inputs wall) (input_count (file_in wall)) 0 (end_time (file_in wall))
 
 -- "then 8"
 abbrev pub WallCodes : List ℕ → List ℕ → List ℕ → ℕ → ℕ → Type 0

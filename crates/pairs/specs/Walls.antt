@@ -8,13 +8,11 @@ use Rattle.base.specs.declared.refusal.Refusal.TheVariants.{WrongLength}
 use Rattle.base.specs.declared.refusal.Check.{Check}
 use Rattle.base.specs.declared.refusal.Check.TheVariants.{Refused}
 use Rattle.base.specs.Refusals.{number, or_else}
-use Rattle.rules.specs.declared.form.Form.{Form}
 use Rattle.rules.specs.declared.call.Ran.{Ran}
-use Rattle.rules.specs.Forms.{form_in}
 use Rattle.rules.specs.Layout.{least_file, input_place}
 use Rattle.rules.specs.Calls.{own_state}
 use Rattle.rules.specs.Readings.{Reading, cues, bad, read_inputs, after_check, if_lent_enough}
-use Rattle.rules.specs.Files.{input_count, end_time, inputs_in, track_of, check_start, lent_enough, params_in, scenes_in}
+use Rattle.rules.specs.Files.{input_count, end_time, inputs_in, check_start, lent_enough, params_in, scenes_in}
 use Rattle.rules.specs.Runs.{records_octets, over, Whole, Answered, answered_by}
 use Rattle.sensor.specs.declared.state.Sensor.{Sensor}
 use Rattle.sensor.specs.Actions.{check_actions}
@@ -23,8 +21,7 @@ use Rattle.pairs.specs.declared.item.Read.{Read}
 use Rattle.pairs.specs.declared.item.Read.TheVariants.{Known, Unknown}
 use Rattle.pairs.specs.declared.call.WallRan.{WallRan}
 use Rattle.pairs.specs.Items.{item_at}
-use Rattle.pairs.specs.Lists.{Listed, listed, PairPlayed, pair_then, pair_to_end, pair_start}
-use Rattle.pairs.specs.Tracks.{pair_plays_on}
+use Rattle.pairs.specs.Lists.{Listed, listed, PairPlayed, play_items}
 
 -- "two buttons, four edges": an octet for each
 abbrev pub actions_size : ℕ
@@ -50,12 +47,12 @@ abbrev pub stamped_item : ℕ → Read → Option Listed
 stamped_item stamp (Known i) = some (listed stamp i)
 stamped_item stamp Unknown = none
 
-unfoldable pub item_in : Form → List ℕ → ℕ → Option Listed
-item_in f inputs i = stamped_item (stamp_at inputs (input_place i)) (item_at f inputs (input_place i))
+unfoldable pub item_in : List ℕ → ℕ → Option Listed
+item_in inputs i = stamped_item (stamp_at inputs (input_place i)) (item_at inputs (input_place i))
 
 -- "then the first bad input, 6 before 7": those of a file, edges among them or not
 abbrev pub items_read : List ℕ → Reading Listed
-items_read file = read_inputs (item_in (form_in file) (inputs_in file)) (inputs_in file) (input_count file) 0 0 (end_time file)
+items_read file = read_inputs (item_in (inputs_in file)) (inputs_in file) (input_count file) 0 0 (end_time file)
 
 unfoldable pub read_wall : List ℕ → Reading Listed
 read_wall wall = after_check (check_wall wall) (items_read (file_in wall))
@@ -76,9 +73,9 @@ pub record WallWhole : Type 0 where
 abbrev pub wall_whole : WallRan → List ℕ → List ℕ → WallWhole
 wall_whole r records answers = record { report = r; records = records; answers = answers }
 
--- what items give: the file's own parameters and scenes, with this sensor beside the actuator, each item on its track, played to the end time
+-- what items give: the file's own parameters and scenes, with this sensor beside the actuator, played to its end time
 abbrev pub play_over : List ℕ → Sensor → List Listed → PairPlayed
-play_over file z items = pair_then (pair_start (params_in file) (scenes_in file) z) (pair_to_end (end_time file) (pair_plays_on (track_of (inputs_in file)) 0 items))
+play_over file z items = play_items (params_in file) (scenes_in file) z items (end_time file)
 
 unfoldable pub play_wall : List ℕ → List Listed → PairPlayed
 play_wall wall items = play_over (file_in wall) (fresh_sensor (actions_in wall)) items

@@ -1,17 +1,16 @@
 -- A record that is added to the records by value is a record at the end of their list.
 use Prim.Native.Nat.{ℕ, ◌≤◌}
 use mathlib.Core.Bool.{Bool, true, false, cond}
-use mathlib.Core.List.{List, [], ◌∷◌, ◌++◌, map, append-nil}
+use mathlib.Core.List.{List, [], ◌∷◌, ◌++◌, append-nil}
 use mathlib.Core.Path.{◌≡◌, refl, sym, ap, ◌∙◌}
 use lib.ListN.{length, take}
 use native.Mathlib.Omega.{arith}
 use Rattle.rules.specs.declared.state.State.{State}
 use Rattle.rules.specs.declared.record.Record.{Record}
 use Rattle.rules.specs.Status.{same_status, record_of, written}
-use Rattle.rules.specs.Tracks.{with_track}
 use Rattle.rules.specs.Calls.{places}
 use Rattle.rules.proofs.Laws.Records.{used_places}
-use Rattle.records.specs.Notes.{notes, note_of, note_on, added, first_of, listed}
+use Rattle.records.specs.Notes.{notes, note_of, added, first_of, listed}
 use Rattle.records.specs.declared.notes.Note.{Note}
 use Rattle.records.specs.declared.notes.Note.TheVariants.{Silent, Wrote}
 
@@ -36,12 +35,6 @@ pub listed_first : (l : List Record) → length l ≤ 1 → listed (first_of l) 
 listed_first [] few = refl
 listed_first (r ∷ []) few = refl
 listed_first (r ∷ q ∷ l) few = absurd (omega arith)
-
--- a note on a track stands for the list on it
-pub listed_on : (track : ℕ) (x : Note) → listed (note_on track x) ≡ map (with_track track) (listed x)
-unfolding note_on
-listed_on track Silent = refl
-listed_on track (Wrote r) = refl
 
 first_listed : (x : Note) → first_of (listed x) ≡ x
 first_listed Silent = refl

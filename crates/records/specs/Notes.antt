@@ -3,7 +3,6 @@ use Rattle.std.specs.Prelude.{ℕ, ◌+◌, cond, List, [], ◌∷◌, length, s
 use Rattle.rules.specs.declared.state.State.{State}
 use Rattle.rules.specs.declared.record.Record.{Record}
 use Rattle.rules.specs.Status.{same_status, record_of}
-use Rattle.rules.specs.Tracks.{with_track}
 use Rattle.rules.specs.Calls.{places}
 use Rattle.records.specs.declared.notes.Notes.{Notes}
 use Rattle.records.specs.declared.notes.Note.{Note}
@@ -18,11 +17,6 @@ no_notes = notes []
 
 unfoldable pub note_of : ℕ → State → State → Note
 note_of cause before after = cond (same_status before after) Silent (Wrote (record_of cause after))
-
--- the same on a track
-unfoldable pub note_on : ℕ → Note → Note
-note_on track Silent = Silent
-note_on track (Wrote r) = Wrote (with_track track r)
 
 -- the records with one more, where something was written
 unfoldable pub added : Notes → Note → Notes

@@ -1,7 +1,7 @@
 // The records of one call, by value: at most three, the unused ones 0.
 ghost use Rattle.std.specs.Prelude.{◌≡◌, ◌≤◌};
 ghost use Rattle.lamps.specs.Lamps.{alone};
-ghost use Rattle.records.specs.Notes.{note_of, note_on, added, no_notes};
+ghost use Rattle.records.specs.Notes.{note_of, added, no_notes};
 
 use crate::status::{record_of, same_status};
 use lamps::lamp::Lamp;
@@ -28,7 +28,6 @@ pub fn none() -> Notes
         value: 0,
         attributes: 0,
         cause: 0,
-        track: 0,
     };
     Notes {
         count: 0,
@@ -44,22 +43,6 @@ pub fn written(cause: u8, before: Lamp, after: Lamp) -> Note
         Note::Silent
     } else {
         Note::Wrote(record_of(cause, after))
-    }
-}
-
-// The record of an input, on its track.
-pub fn on_track(x: Note, track: u8) -> Note
-    ensures { result ≡ note_on track x }
-{
-    match x {
-        Note::Silent => Note::Silent,
-        Note::Wrote(r) => Note::Wrote(Record {
-            stamp: r.stamp,
-            value: r.value,
-            attributes: r.attributes,
-            cause: r.cause,
-            track,
-        }),
     }
 }
 

@@ -43,7 +43,6 @@ pub fn record_of(cause: u8, l: Lamp) -> Record
         value: value_of(l),
         attributes: attributes_of(l),
         cause,
-        track: 0,
     }
 }
 

@@ -26,5 +26,4 @@ pub mod Answers
 pub mod Images
 pub mod Moments
 pub mod Lists
-pub mod Tracks
 pub mod Numbers

@@ -14,13 +14,11 @@ use Rattle.rules.specs.declared.call.Fresh.{Fresh}
 use Rattle.rules.specs.declared.call.Single.{Single}
 use Rattle.rules.specs.declared.call.Move.{Move}
 use Rattle.base.specs.Time.{tenths}
-use Rattle.rules.specs.Forms.{form_for}
 use Rattle.rules.specs.Layout.{form_alone}
 use Rattle.rules.specs.Parameters.{params_of, scenes_of, check_alone}
 use Rattle.rules.specs.Inputs.{input_at}
-use Rattle.octets.specs.Groups.{stamp_at, track_at}
+use Rattle.octets.specs.Groups.{stamp_at}
 use Rattle.rules.specs.Steps.{Moved, Stepped, fresh, clock_move, step}
-use Rattle.rules.specs.Tracks.{tracked}
 use Rattle.rules.specs.Soundness.{sound}
 use Rattle.base.specs.Refusals.{number, code_of, place_of, stamp_in_range}
 
@@ -69,7 +67,7 @@ fresh_call octets = fresh_by octets (check_alone octets)
 
 -- "by-value records not used are 0"
 unfoldable pub blank : Record
-blank = record { stamp = 0; value = 0; attributes = 0; cause = 0; track = 0 }
+blank = record { stamp = 0; value = 0; attributes = 0; cause = 0 }
 
 -- n places: the records of a list, then blank ones (proofs/Laws/Records.antt shows that a list never has more than its places)
 unfoldable pub places : ℕ → List Record → List Record
@@ -89,15 +87,15 @@ single_done d =
 unfoldable pub single_refused : State → Refusal → Single
 single_refused s why = record { state = s; code = number why; place = 0; answer = 0; count = 0; records = places 3 [] }
 
--- 6, then 7, then played, on its track
-unfoldable pub single_meant : State → ℕ → ℕ → Decoded → Single
-single_meant s stamp track Wrong = single_refused s BadInput
-single_meant s stamp track (Meant i) = cond (stamp_in_range s.clock stamp) (single_done (tracked track (step s i stamp))) (single_refused s BadStamp)
+-- 6, then 7, then played
+unfoldable pub single_meant : State → ℕ → Decoded → Single
+single_meant s stamp Wrong = single_refused s BadInput
+single_meant s stamp (Meant i) = cond (stamp_in_range s.clock stamp) (single_done (step s i stamp)) (single_refused s BadStamp)
 
 -- "For a single input 9, 6, 7, place 0."; 02, [2]: "A state keeps its version .., and single inputs follow it" (proofs/Refusals/Calls.antt,
--- `single_call_keeps_version`)
+-- `single_call_keeps_version`; the eight octets are the same in either)
 unfoldable pub single_call : State → List ℕ → Single
-single_call s octets = cond (sound s) (single_meant s (stamp_at octets 0) (track_at octets 0) (input_at (form_for s) octets 0)) (single_refused s UnsoundState)
+single_call s octets = cond (sound s) (single_meant s (stamp_at octets 0) (input_at octets 0)) (single_refused s UnsoundState)
 
 -- ---- a clock move
 

@@ -41,19 +41,17 @@ pub record Numbers : Type 0 where
   pub scenes : ℕ
   pub size : ℕ
   pub inputs : ℕ
-  pub lasttrack : ℕ
 
 abbrev pub in_numbers : Form → Numbers
 in_numbers f =
-    record { version = f.version; ondelay = time_place f 0; offdelay = time_place f 1; timedon = time_place f 2; prewarning = time_place f 3; modes = modes_at f; scenes = scenes_at f; size = parameters_size f; inputs = inputs_at f; lasttrack = f.lasttrack }
+    record { version = f.version; ondelay = time_place f 0; offdelay = time_place f 1; timedon = time_place f 2; prewarning = time_place f 3; modes = modes_at f; scenes = scenes_at f; size = parameters_size f; inputs = inputs_at f }
 
 -- "version (1)"; "0-1 OnDelay; 2-3 OffDelay; 4-5 TimedOnDuration ..; 6-7 PrewarningDuration; 8 BehaviourAtLocking ..; then eight scene
 -- entries"; "Parameters, 32 octets"; "offset of inputs (52)". 02, [2]: "Version 2 files hold the four times as U32 tenths .. in parameter
--- octets 0-15; the rest follows, 40 octets in all, inputs at offset 60"; "parameters alone are told by 32 or 40 octets"; [6]: "Version 2 inputs carry the
--- track, 0 to 15"
+-- octets 0-15; the rest follows, 40 octets in all, inputs at offset 60"; "parameters alone are told by 32 or 40 octets"
 pub record FormsInNumbers : Type 0 where
-  pub first : in_numbers (form_of 1) ≡ record { version = 1; ondelay = 0; offdelay = 2; timedon = 4; prewarning = 6; modes = 8; scenes = 16; size = 32; inputs = 52; lasttrack = 0 }
-  pub second : in_numbers (form_of 2) ≡ record { version = 2; ondelay = 0; offdelay = 4; timedon = 8; prewarning = 12; modes = 16; scenes = 24; size = 40; inputs = 60; lasttrack = 15 }
+  pub first : in_numbers (form_of 1) ≡ record { version = 1; ondelay = 0; offdelay = 2; timedon = 4; prewarning = 6; modes = 8; scenes = 16; size = 32; inputs = 52 }
+  pub second : in_numbers (form_of 2) ≡ record { version = 2; ondelay = 0; offdelay = 4; timedon = 8; prewarning = 12; modes = 16; scenes = 24; size = 40; inputs = 60 }
   pub of_a_file : (file : List ℕ) → form_in file ≡ form_of (version file)
   pub told_first : (octets : List ℕ) → length octets ≡ 32 → form_alone octets ≡ form_of 1
   pub told_second : (octets : List ℕ) → length octets ≡ 40 → form_alone octets ≡ form_of 2

@@ -2,7 +2,6 @@
 use Rattle.std.specs.Prelude.{ℕ, Bool, cond, ◌&&◌, List, length, take, drop, eqb, leb}
 use Rattle.std.proofs.Math.Option.{Option, some, none}
 use Rattle.octets.specs.BigEndian.{be16, be32}
-use Rattle.rules.specs.declared.form.Form.{Form}
 use Rattle.rules.specs.declared.parameters.Params.{Params}
 use Rattle.rules.specs.declared.parameters.Scene.{Scene}
 use Rattle.rules.specs.declared.input.Decoded.{Decoded}
@@ -15,7 +14,7 @@ use Rattle.rules.specs.Forms.{is_version, version, form_in}
 use Rattle.rules.specs.Layout.{parameters_at, parameters_size, least_file, inputs_at, most_inputs, input_place, file_size, records_room}
 use Rattle.rules.specs.Parameters.{params_of, scenes_of, check_parameters}
 use Rattle.rules.specs.Inputs.{input_at}
-use Rattle.octets.specs.Groups.{stamp_at, track_at}
+use Rattle.octets.specs.Groups.{stamp_at}
 use Rattle.rules.specs.Lists.{Cue, cue}
 use Rattle.rules.specs.Readings.{Reading, read_inputs, after_check, if_lent_enough}
 
@@ -85,16 +84,12 @@ abbrev pub stamped : ℕ → Decoded → Option Cue
 stamped stamp (Meant x) = some (cue stamp x)
 stamped stamp Wrong = none
 
-unfoldable pub cue_at : Form → List ℕ → ℕ → Option Cue
-cue_at f inputs i = stamped (stamp_at inputs (input_place i)) (input_at f inputs (input_place i))
-
--- 02, [6]: and the track that it is on
-abbrev pub track_of : List ℕ → ℕ → ℕ
-track_of inputs i = track_at inputs (input_place i)
+unfoldable pub cue_at : List ℕ → ℕ → Option Cue
+cue_at inputs i = stamped (stamp_at inputs (input_place i)) (input_at inputs (input_place i))
 
 -- those of a file
 abbrev pub cues_read : List ℕ → Reading Cue
-cues_read file = read_inputs (cue_at (form_in file) (inputs_in file)) (inputs_in file) (input_count file) 0 0 (end_time file)
+cues_read file = read_inputs (cue_at (inputs_in file)) (inputs_in file) (input_count file) 0 0 (end_time file)
 
 unfoldable pub read_file : List ℕ → Reading Cue
 read_file file = after_check (check_start file) (cues_read file)

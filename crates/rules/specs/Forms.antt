@@ -1,4 +1,4 @@
--- The versions of the cue file (01, "Time and the cue file"; 02, [2] and [6]). What differs between them is one row, chosen by the version; all else is
+-- The versions of the cue file (01, "Time and the cue file"; 02, [2]). What differs between them is one row, chosen by the version; all else is
 -- said once, of whatever the row says.
 use Rattle.std.specs.Prelude.{ℕ, Bool, cond, List, ◌⊎◌, ◌≡◌, eqb}
 use Rattle.octets.specs.BigEndian.{be16}
@@ -6,7 +6,6 @@ use Rattle.base.specs.Time.{tenths}
 use Rattle.rules.specs.declared.form.Scale.{Scale}
 use Rattle.rules.specs.declared.form.Scale.TheVariants.{Seconds, Tenths}
 use Rattle.rules.specs.declared.form.Form.{Form}
-use Rattle.rules.specs.declared.state.State.{State}
 
 -- ---- how a time is written: 01, "Delays are U16 seconds"; 02, "Version 2 files hold the four times as U32 tenths"
 
@@ -22,13 +21,13 @@ unit Tenths = 1
 
 -- ---- the rows
 
--- 01: "0-1 version (1)"; of an input "6-7 zero": no track but 0
+-- 01: "0-1 version (1)"
 abbrev pub version_one : Form
-version_one = record { version = 1; scale = Seconds; lasttrack = 0 }
+version_one = record { version = 1; scale = Seconds }
 
--- 02: "Version 2 files hold the four times as U32 tenths"; "Version 2 inputs carry the track, 0 to 15"
+-- 02: "Version 2 files hold the four times as U32 tenths"
 abbrev pub version_two : Form
-version_two = record { version = 2; scale = Tenths; lasttrack = 15 }
+version_two = record { version = 2; scale = Tenths }
 
 -- the row of a version
 unfoldable pub form_of : ℕ → Form
@@ -41,10 +40,6 @@ is_version v = eqb (form_of v).version v
 -- that is, one of these (proofs/Laws/Forms.antt, `has_version`)
 abbrev pub HasVersion : ℕ → Type 0
 HasVersion v = (v ≡ 1) ⊎ (v ≡ 2)
-
--- 02, [2]: "A state keeps its version .., and single inputs follow it"
-abbrev pub form_for : State → Form
-form_for s = form_of s.params.version
 
 -- ---- the row of a file: "Header, 20 octets of counts and offsets: 0-1 version"
 

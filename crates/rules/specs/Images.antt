@@ -18,10 +18,9 @@ use Rattle.rules.specs.Written.{parameters_octets}
 abbrev pub image_size : ℕ
 image_size = 56
 
--- "every octet with a meaning": parameters and scenes, octets 0-39, stand as version 2 writes them, times in tenths, whatever their version; an image holds
--- no input, and so no track
+-- "every octet with a meaning": parameters and scenes, octets 0-39, stand as version 2 writes them, times in tenths, whatever their version
 abbrev pub image_form : ℕ → Form
-image_form version = record { version = version; scale = Tenths; lasttrack = 0 }
+image_form version = record { version = version; scale = Tenths }
 
 -- 40 version; 41 night; 42 lock; 43 force; 44 link; 45 and 46 the outputs remembered at locking and at power failure; 47 phase
 unfoldable pub flag_octets : State → List ℕ

@@ -1,7 +1,6 @@
 -- The eight kinds of input, each with its own value (01, "Time and the cue file").
 use Rattle.std.specs.Prelude.{ℕ, ◌+◌, ◌/◌, ◌%◌, true, false, cond, List, eqb, leb}
-use Rattle.octets.specs.Groups.{kind_at, value_at, ends_within}
-use Rattle.rules.specs.declared.form.Form.{Form}
+use Rattle.octets.specs.Groups.{kind_at, value_at, ends_in_zeros}
 use Rattle.rules.specs.declared.input.Force.{Force}
 use Rattle.rules.specs.declared.input.Force.TheVariants.{Free, Off, On}
 use Rattle.rules.specs.declared.input.Event.{Event}
@@ -89,7 +88,6 @@ decoded kind value =
     (cond (eqb kind 8) (zero_or_one value (Power Failure) (Power Return))
     Wrong)))))))
 
--- "Input, 8 octets: 0-3 stamp; 4 kind; 5 value; 6-7 zero."; 02, [6]: "Version 2 inputs carry the track, 0 to 15, in octet 6"; "in version 2, 6 covers
--- a track above 15; octet 7 stays zero" (where they stand: octets, specs/Groups.antt). By the row of a version; the track is no part of what is meant.
-unfoldable pub input_at : Form → List ℕ → ℕ → Decoded
-input_at f octets at = cond (ends_within f.lasttrack octets at) (decoded (kind_at octets at) (value_at octets at)) Wrong
+-- "Input, 8 octets: 0-3 stamp; 4 kind; 5 value; 6-7 zero." (where they stand: octets, specs/Groups.antt)
+unfoldable pub input_at : List ℕ → ℕ → Decoded
+input_at octets at = cond (ends_in_zeros octets at) (decoded (kind_at octets at) (value_at octets at)) Wrong

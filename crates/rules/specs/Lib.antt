@@ -12,7 +12,6 @@ pub mod Answers
 pub mod Scenes
 pub mod Orders
 pub mod Status
-pub mod Tracks
 pub mod Calls
 pub mod Readings
 pub mod Files

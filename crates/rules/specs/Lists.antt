@@ -42,11 +42,8 @@ plays [] s = unplayed s
 plays (cue t i ∷ later) s = and_then (stepped (step s i t)) (plays later)
 
 -- "After the last input the clock moves to the end time."
-abbrev pub to_end : ℕ → (State → Played) → State → Played
-to_end end list s = and_then (list s) (λ x. moved (clock_move x end))
-
 unfoldable pub plays_to : ℕ → List Cue → State → Played
-plays_to end cues s = to_end end (plays cues) s
+plays_to end cues s = and_then (plays cues s) (λ x. moved (clock_move x end))
 
 -- "One record is written at the start"
 abbrev pub start : Params → List Scene → Played

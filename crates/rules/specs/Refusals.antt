@@ -12,7 +12,7 @@ use Rattle.base.specs.declared.refusal.Refusal.TheVariants.{WrongLength, WrongVe
 use Rattle.base.specs.declared.refusal.Check.{Check}
 use Rattle.base.specs.declared.refusal.Check.TheVariants.{Passed, Refused}
 use Rattle.base.specs.Refusals.{Only, Then, Codes, Timely, CallCodes}
-use Rattle.rules.specs.Forms.{version, form_for, form_in, HasVersion}
+use Rattle.rules.specs.Forms.{version, form_in, HasVersion}
 use Rattle.rules.specs.Layout.{parameters_size, form_alone, inputs_at, input_place}
 use Rattle.rules.specs.Parameters.{bad_octet, check_parameters}
 use Rattle.rules.specs.Inputs.{input_at}
@@ -141,12 +141,12 @@ InputsWhen at inputs n from to WrongGroups place = ⊥
 
 -- "Order 1, 2, 3, 4, 5; then the first bad input"
 abbrev pub GivenWhen : List ℕ → Refusal → ℕ → Type 0
-GivenWhen file = Then (StartWhen file) (GoodStart file) (InputsWhen (cue_at (form_in file) (inputs_in file)) (inputs_in file) (input_count file) 0 (end_time file))
+GivenWhen file = Then (StartWhen file) (GoodStart file) (InputsWhen (cue_at (inputs_in file)) (inputs_in file) (input_count file) 0 (end_time file))
 
 -- no row holds
 pub record GoodFile (file : List ℕ) : Type 0 where
   pub start : GoodStart file
-  pub good : GoodInputs (cue_at (form_in file) (inputs_in file)) (inputs_in file) (input_count file) 0 (end_time file)
+  pub good : GoodInputs (cue_at (inputs_in file)) (inputs_in file) (input_count file) 0 (end_time file)
 
 -- ---- the public calls: each code with its place, exactly when the table gives it
 
@@ -156,7 +156,7 @@ FreshCodes octets = Codes (λ why p. FoundWhen (form_alone octets) octets (Refus
 
 -- "For a single input 9, 6, 7, place 0."
 abbrev pub SingleCodes : State → List ℕ → ℕ → ℕ → Type 0
-SingleCodes s octets = CallCodes (sound s ≡ true) ((i : Input) × (input_at (form_for s) octets 0 ≡ Meant i)) (Timely s.clock (stamp_at octets 0))
+SingleCodes s octets = CallCodes (sound s ≡ true) ((i : Input) × (input_at octets 0 ≡ Meant i)) (Timely s.clock (stamp_at octets 0))
 
 -- "A clock move: 9, 7." (nothing that it asks for could be unknown)
 abbrev pub MoveCodes : State → ℕ → ℕ → ℕ → Type 0
@@ -180,26 +180,26 @@ pub record GoodGroups (inputs : List ℕ) : Type 0 where
   pub whole : length inputs % 8 ≡ 0
   pub few : length inputs / 8 ≤ 256
 
--- "Refusals: 9, then 12 .., then 8 as for the run (with n groups), then 6 or 7 as met.": n groups of the state's version, from its clock on
+-- "Refusals: 9, then 12 .., then 8 as for the run (with n groups), then 6 or 7 as met.": n groups, from the clock on
 -- `Sound` says when 9 is not given
-abbrev pub ChangeWhen : (Sound : Type 0) → State → List ℕ → List ℕ → List ℕ → Refusal → ℕ → Type 0
-ChangeWhen Sound s inputs records answers =
+abbrev pub ChangeWhen : (Sound : Type 0) → ℕ → List ℕ → List ℕ → List ℕ → Refusal → ℕ → Type 0
+ChangeWhen Sound clock inputs records answers =
     let n : ℕ = length inputs / 8 in
     let Room : Type 0 = RoomFor n records answers in
     Then (Only UnsoundState 0 (Sound → ⊥)) Sound
     (Then (Only WrongGroups 0 (GoodGroups inputs → ⊥)) (GoodGroups inputs)
     (Then (Only ShortBuffer 0 (Room → ⊥)) Room
-    (InputsWhen (cue_at (form_for s) inputs) inputs n s.clock 864_000)))
+    (InputsWhen (cue_at inputs) inputs n clock 864_000)))
 
-abbrev pub GoodChange : (Sound : Type 0) → State → List ℕ → List ℕ → List ℕ → Type 0
-GoodChange Sound s inputs records answers =
+abbrev pub GoodChange : (Sound : Type 0) → ℕ → List ℕ → List ℕ → List ℕ → Type 0
+GoodChange Sound clock inputs records answers =
     let n : ℕ = length inputs / 8 in
-    Sound × (GoodGroups inputs × (RoomFor n records answers × GoodInputs (cue_at (form_for s) inputs) inputs n s.clock 864_000))
+    Sound × (GoodGroups inputs × (RoomFor n records answers × GoodInputs (cue_at inputs) inputs n clock 864_000))
 
 abbrev pub ChangeCodes : State → List ℕ → List ℕ → List ℕ → ℕ → ℕ → Type 0
 ChangeCodes s inputs records answers =
     let Sound : Type 0 = sound s ≡ true in
-    Codes (ChangeWhen Sound s inputs records answers) (GoodChange Sound s inputs records answers)
+    Codes (ChangeWhen Sound s.clock inputs records answers) (GoodChange Sound s.clock inputs records answers)
 
 -- ---- the number for C
 

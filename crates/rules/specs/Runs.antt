@@ -4,18 +4,16 @@ use Rattle.octets.specs.BigEndian.{octets32}
 use Rattle.rules.specs.declared.record.Record.{Record}
 use Rattle.base.specs.declared.refusal.Refusal.{Refusal}
 use Rattle.rules.specs.declared.call.Ran.{Ran}
-use Rattle.rules.specs.Lists.{Cue, Played, and_then, to_end, start}
-use Rattle.rules.specs.Tracks.{plays_on}
+use Rattle.rules.specs.Lists.{Cue, Played, play_list}
 use Rattle.base.specs.Refusals.{number}
 use Rattle.rules.specs.Calls.{own_state}
 use Rattle.rules.specs.Readings.{Reading, cues, bad}
-use Rattle.rules.specs.Files.{end_time, inputs_in, track_of, read_call, params_in, scenes_in}
+use Rattle.rules.specs.Files.{end_time, read_call, params_in, scenes_in}
 
--- "A record is 8 octets: stamp, value, attributes, cause, zero." "Numbers are most significant octet first."; 02, [6]: "the record's last octet repeats"
--- the track
+-- "A record is 8 octets: stamp, value, attributes, cause, zero." "Numbers are most significant octet first."
 unfoldable pub record_octets : Record → List ℕ
 record_octets r =
-    octets32 r.stamp ++ (r.value ∷ r.attributes ∷ r.cause ∷ r.track ∷ [])
+    octets32 r.stamp ++ (r.value ∷ r.attributes ∷ r.cause ∷ 0 ∷ [])
 
 unfoldable pub records_octets : List Record → List ℕ
 records_octets [] = []
@@ -35,9 +33,9 @@ pub record Whole : Type 0 where
 abbrev pub whole : Ran → List ℕ → List ℕ → Whole
 whole r records answers = record { report = r; records = records; answers = answers }
 
--- what the cues of a file give: its own parameters and scenes, each cue on its track, played to the end time
+-- what the cues of a file give: its own parameters and scenes, played to its end time
 unfoldable pub play_file : List ℕ → List Cue → Played
-play_file file list = and_then (start (params_in file) (scenes_in file)) (to_end (end_time file) (plays_on (track_of (inputs_in file)) 0 list))
+play_file file list = play_list (params_in file) (scenes_in file) list (end_time file)
 
 -- what was played stands at the front of the buffers, and the count tells how many records do
 abbrev pub handed_out : Played → ℕ → ℕ → List ℕ → List ℕ → Whole

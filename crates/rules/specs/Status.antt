@@ -35,10 +35,9 @@ attributes s =
     bit (staircase s.phase) 16
 
 -- "A record is 8 octets: stamp, value, attributes, cause, zero. Cause is the input's kind, 0 for a timer and for the start."
--- A record is written at the moment that the clock of its state shows. The rules know of no track, and write 0: "timers and the start give 0" (02, [6]);
--- the track of an input is put on its record in Tracks.antt. (The eight octets: Runs.antt.)
+-- A record is written at the moment that the clock of its state shows. (Its eight octets, with the zero: Runs.antt.)
 unfoldable pub record_of : ℕ → State → Record
-record_of cause s = record { stamp = s.clock; value = value s; attributes = attributes s; cause = cause; track = 0 }
+record_of cause s = record { stamp = s.clock; value = value s; attributes = attributes s; cause = cause }
 
 -- the cause of a timer and of the start
 abbrev pub by_itself : ℕ

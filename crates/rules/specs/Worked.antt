@@ -28,7 +28,7 @@ paper =
 
 -- stamp, value, attributes, cause
 abbrev pub rec : ℕ → ℕ → ℕ → ℕ → Record
-rec stamp value attributes cause = record { stamp = stamp; value = value; attributes = attributes; cause = cause; track = 0 }
+rec stamp value attributes cause = record { stamp = stamp; value = value; attributes = attributes; cause = cause }
 
 -- what a run shows
 pub record Shown : Type 0 where

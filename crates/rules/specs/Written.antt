@@ -49,11 +49,9 @@ header_octets version inputs n end = octets16 version ++ (octets16 1 ++ (octets3
 abbrev pub ValueOf : Input → ℕ → Type 0
 ValueOf i v = (v ≡ input_value i) ⊎ ((i ≡ SwitchOnOffForced Free) × (v ≡ 1))
 
--- "Input, 8 octets: 0-3 stamp; 4 kind; 5 value; 6-7 zero."; "3 scene: .. low six bits the number"; 02, [6]: "Version 2 inputs carry the track, 0 to 15,
--- in octet 6 ..; octet 7 stays zero"
-pub record InputStands (f : Form) (octets : List ℕ) (at : ℕ) (i : Input) : Type 0 where
+-- "Input, 8 octets: 0-3 stamp; 4 kind; 5 value; 6-7 zero."; "3 scene: .. low six bits the number"
+pub record InputStands (octets : List ℕ) (at : ℕ) (i : Input) : Type 0 where
   pub kind : octet octets (at + 4) ≡ kind i
   pub value : ValueOf i (octet octets (at + 5))
-  pub track : octet octets (at + 6) ≤ f.lasttrack
-  pub zero : octet octets (at + 7) ≡ 0
+  pub zeros : (octet octets (at + 6) ≡ 0) × (octet octets (at + 7) ≡ 0)
   pub six_bits : scene_number i ≤ 63

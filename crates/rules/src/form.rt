@@ -7,10 +7,9 @@ pub enum Scale {
     Tenths,
 }
 
-// The row of a version: how its times are written, and the greatest track that its inputs may carry.
+// The row of a version.
 #[derive(Drop)]
 pub struct Form {
     pub version: u8,
     pub scale: Scale,
-    pub lasttrack: u8,
 }

@@ -1,10 +1,8 @@
-// A status record: what the two status octets showed from its stamp on. The cause is the input's kind, 0 for a timer and for the start; the track is
-// that of the input, 0 for a timer and for the start too.
+// A status record: what the two status octets showed from its stamp on. The cause is the input's kind, 0 for a timer and for the start.
 #[derive(Drop)]
 pub struct Record {
     pub stamp: u32,
     pub value: u8,
     pub attributes: u8,
     pub cause: u8,
-    pub track: u8,
 }

@@ -9,8 +9,7 @@ use lib.Dec.{eqb}
 use borrow.Author.Tests.{eqb-true, eqb-false, ne_eqb}
 use Rattle.octets.specs.BigEndian.{octet}
 use Rattle.octets.specs.Groups.{kind_at, value_at, ends_in_zeros}
-use Rattle.octets.proofs.Endings.{zeros_exactly_when}
-use Rattle.base.proofs.Tests.{cond_case, either_way}
+use Rattle.base.proofs.Tests.{both, cond_case, either_way}
 use Rattle.sensor.specs.declared.signal.Edge.TheVariants.{Falling, Rising}
 use Rattle.sensor.specs.declared.signal.Signal.{Signal}
 use Rattle.sensor.specs.declared.signal.Signal.TheVariants.{Button1, Button2, Status}
@@ -86,12 +85,13 @@ module _ (octets : List ℕ) (at : ℕ) where
     where
       by : (b : Bool) → ends_in_zeros octets at ≡ b → signal_at octets at ≡ Meant s → SignalStands octets at s
       by true zeros e =
+          let z = both (eqb (octet octets (at + 6)) 0) _ zeros in
           let m = (meant_exactly_when (kind_at octets at) (value_at octets at) s).0 (unfold signal_at in rw zeros at e) in
-          record { kind = m.0; value = m.1; zeros = (zeros_exactly_when octets at).0 zeros }
+          record { kind = m.0; value = m.1; zeros = (eqb-true _ _ z.0, eqb-true _ _ z.1) }
       by false others e = let none : Wrong ≡ Meant s = unfold signal_at in rw others at e in not_meant none
 
       back : SignalStands octets at s → signal_at octets at ≡ Meant s
-      back g = unfold signal_at in rw ((zeros_exactly_when octets at).1 g.zeros) ((meant_exactly_when (kind_at octets at) (value_at octets at) s).1 (g.kind, g.value))
+      back g = unfold signal_at in rw (g.zeros.0, g.zeros.1) ((meant_exactly_when (kind_at octets at) (value_at octets at) s).1 (g.kind, g.value))
 
   -- and nothing where there is no such signal: "6 | kind, value or zero octet wrong"
   pub wrong_exactly_when : (signal_at octets at ≡ Wrong) ↔ ((s : Signal) → SignalStands octets at s → ⊥)

@@ -4,10 +4,12 @@ use mathlib.Core.Bool.{Bool, true, false, not}
 use mathlib.Core.List.{List, [], ◌∷◌}
 use mathlib.Core.Path.{◌≡◌, refl, sym, ap, ◌∙◌}
 use native.Mathlib.Omega.{arith}
+use lib.Dec.{eqb}
+use borrow.Author.Tests.{eqb-true}
 use Rattle.octets.specs.BigEndian.{octet, octets32}
 use Rattle.octets.specs.Groups.{stamp_at}
 use Rattle.octets.proofs.BothWays.{what_is_written_is_read}
-use Rattle.octets.proofs.Endings.{zeros_exactly_when}
+use Rattle.base.proofs.Tests.{both}
 use Rattle.sensor.specs.declared.action.Action.{Action}
 use Rattle.sensor.specs.declared.action.Action.TheVariants.{Nothing, SendOff, SendOn, SendInverse}
 use Rattle.sensor.specs.declared.react.Telegram.{Telegram}
@@ -32,12 +34,12 @@ same_octets_lem : (a b c d e f g h t : ℕ) (on : Bool) → a < 256 → b < 256 
 unfolding telegram_octets octets32
 same_octets_lem a b c d e f g h t on ha hb hc hd s =
     let whole : 65536 * (256 * a + b) + (256 * c + d) ≡ t = unfold stamp_at in s.stamp in
-    let zeros : (g ≡ 0) × (h ≡ 0) = (zeros_exactly_when (a ∷ b ∷ c ∷ d ∷ e ∷ f ∷ g ∷ h ∷ []) 0).0 s.zeros in
+    let zeros = both (eqb g 0) (eqb h 0) s.zeros in
     let first : t / 16777216 ≡ a = omega (arith, whole, ha, hb, hc, hd) in
     let second : t / 65536 % 256 ≡ b = omega (arith, whole, ha, hb, hc, hd) in
     let third : t / 256 % 256 ≡ c = omega (arith, whole, ha, hb, hc, hd) in
     let fourth : t % 256 ≡ d = omega (arith, whole, ha, hb, hc, hd) in
-    rw (first, second, third, fourth, s.kind, s.value, zeros.0, zeros.1) refl
+    rw (first, second, third, fourth, s.kind, s.value, eqb-true g 0 zeros.0, eqb-true h 0 zeros.1) refl
 
 pub no_other_octets_are_this_switch_input : (octets : List ℕ) (t : ℕ) (on : Bool) → ((j : ℕ) → octet octets j < 256) → SwitchInput octets t on → octets ≡ telegram_octets t (Switch on)
 no_other_octets_are_this_switch_input (a ∷ b ∷ c ∷ d ∷ e ∷ f ∷ g ∷ h ∷ []) t on small s = same_octets_lem a b c d e f g h t on (small 0) (small 1) (small 2) (small 3) s

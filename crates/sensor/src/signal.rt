@@ -3,7 +3,7 @@ ghost use Rattle.std.specs.Prelude.{◌≡◌, ◌+◌, ◌≤◌, length};
 ghost use Rattle.octets.specs.Groups.{group_size};
 ghost use Rattle.sensor.specs.Signals.{edge_of, signalled, signal_at};
 
-use octets::group::ends_within;
+use octets::group::ends_in_zeros;
 
 #[derive(Drop)]
 pub enum Edge {
@@ -52,7 +52,7 @@ pub fn signal_at(octets: &[u8], at: usize) -> Signalled
     requires { at + group_size ≤ length octets.now }
     ensures { result ≡ signal_at octets.now at }
 {
-    if ends_within(octets, at, 0) {
+    if ends_in_zeros(octets, at) {
         signal_of(octets[at + 4], octets[at + 5])
     } else {
         Signalled::Wrong

@@ -5,10 +5,10 @@ use Rattle.inputs.proofs.known_input_at.Statement.{statement}
 use Rattle.inputs.proofs.known_input_at.Tie as tie
 
 known-input-requires : tie.Need-known-input-requires
-known-input-requires c κs = let meant = c.before.before.before.requires.1 in rw (known_at _ _ _ meant) at meant
+known-input-requires c κs = let meant = c.before.before.before.requires.1 in rw (known_at _ _ meant) at meant
 
 returns : tie.Need-returns
-returns c = known_at _ _ _ c.before.before.before.before.requires.1 ∙ c.known-input.ensures
+returns c = known_at _ _ c.before.before.before.before.requires.1 ∙ c.known-input.ensures
 
 pub known_input_at_spec : {M : Type 1} → statement M
 known_input_at_spec =

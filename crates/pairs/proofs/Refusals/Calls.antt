@@ -5,16 +5,13 @@ use mathlib.Core.List.{List, [], ◌++◌}
 use mathlib.Core.Path.{◌≡◌, refl}
 use native.Mathlib.Omega.{arith}
 use lib.ListN.{length}
-use Rattle.octets.specs.Groups.{stamp_at, track_at}
+use Rattle.octets.specs.Groups.{stamp_at}
 use Rattle.base.specs.declared.refusal.Refusal.TheVariants.{BadInput, BadStamp, UnsoundState}
 use Rattle.base.specs.declared.refusal.Check.{Check}
 use Rattle.base.specs.Refusals.{code_of, place_of, stamp_in_range, check_call, Timely}
 use Rattle.base.proofs.Codes.{timely_exactly_when, call_codes}
 use Rattle.rules.specs.Steps.{Stepped}
-use Rattle.rules.specs.Forms.{form_for}
-use Rattle.rules.specs.Tracks.{on_track}
 use Rattle.rules.specs.Calls.{places}
-use Rattle.rules.proofs.Laws.Tracks.{map_length}
 use Rattle.rules.proofs.Laws.Records.{a_move_writes_at_most_two, an_input_writes_at_most_three, places_hold_all}
 use Rattle.sensor.specs.Calls.{telegram_octets}
 use Rattle.sensor.specs.Claims.{silence}
@@ -25,7 +22,6 @@ use Rattle.pairs.specs.declared.call.Joint.{Joint}
 use Rattle.pairs.specs.declared.call.JointMove.{JointMove}
 use Rattle.pairs.specs.Items.{item_at}
 use Rattle.pairs.specs.Pairs.{Pair, pair_of, PairMoved, pair_move, PairStepped, pair_step}
-use Rattle.pairs.specs.Tracks.{pair_tracked}
 use Rattle.pairs.specs.Calls.{pair_sound, joint_done, joint_refused, joint_meant, joint_call, joint_move_done, joint_move_refused, joint_move_call}
 use Rattle.pairs.specs.Refusals.{SoundPair, JointCodes, JointMoveCodes}
 use Rattle.pairs.proofs.Halves.{item_gives}
@@ -38,9 +34,6 @@ pub an_item_writes_at_most_three : (p : Pair) (i : Item) (t : ℕ) → length (p
 an_item_writes_at_most_three p i t =
     item_gives (λ (d : Stepped). length d.records ≤ 3) p i t (omega (arith, a_move_writes_at_most_two p.actuator t)) (λ j given. an_input_writes_at_most_three p.actuator j t)
 
-pub tracked_item_writes_at_most_three : (track : ℕ) (p : Pair) (i : Item) (t : ℕ) → length (pair_tracked track (pair_step p i t)).records ≤ 3
-tracked_item_writes_at_most_three track p i t = rw (map_length (on_track track) (pair_step p i t).records) (an_item_writes_at_most_three p i t)
-
 pub a_pair_move_writes_at_most_two : (p : Pair) (t : ℕ) → length (pair_move p t).records ≤ 2
 unfolding pair_move
 a_pair_move_writes_at_most_two p t = a_move_writes_at_most_two p.actuator t
@@ -50,9 +43,9 @@ a_pair_move_writes_at_most_two p t = a_move_writes_at_most_two p.actuator t
 -- What one item finds: the first of the table's rows 9, 6, 7 that fits, or an item that is played.
 pub data JointFinds (p : Pair) (octets : List ℕ) : Joint → Type 0 where
   not_sound : pair_sound p ≡ false → JointFinds p octets (joint_refused p UnsoundState)
-  unknown : pair_sound p ≡ true → item_at (form_for p.actuator) octets 0 ≡ Unknown → JointFinds p octets (joint_refused p BadInput)
-  untimely : (i : Item) → pair_sound p ≡ true → item_at (form_for p.actuator) octets 0 ≡ Known i → stamp_in_range p.actuator.clock (stamp_at octets 0) ≡ false → JointFinds p octets (joint_refused p BadStamp)
-  plays : (i : Item) → pair_sound p ≡ true → item_at (form_for p.actuator) octets 0 ≡ Known i → stamp_in_range p.actuator.clock (stamp_at octets 0) ≡ true → JointFinds p octets (joint_done (stamp_at octets 0) (pair_tracked (track_at octets 0) (pair_step p i (stamp_at octets 0))))
+  unknown : pair_sound p ≡ true → item_at octets 0 ≡ Unknown → JointFinds p octets (joint_refused p BadInput)
+  untimely : (i : Item) → pair_sound p ≡ true → item_at octets 0 ≡ Known i → stamp_in_range p.actuator.clock (stamp_at octets 0) ≡ false → JointFinds p octets (joint_refused p BadStamp)
+  plays : (i : Item) → pair_sound p ≡ true → item_at octets 0 ≡ Known i → stamp_in_range p.actuator.clock (stamp_at octets 0) ≡ true → JointFinds p octets (joint_done (stamp_at octets 0) (pair_step p i (stamp_at octets 0)))
 
 module _ (p : Pair) (octets : List ℕ) where
   abbrev t : ℕ
@@ -66,25 +59,25 @@ module _ (p : Pair) (octets : List ℕ) where
   unfolding joint_call
   joint_finds = by (pair_sound p) refl
     where
-      in_time : (i : Item) (b : Bool) → pair_sound p ≡ true → item_at (form_for p.actuator) octets 0 ≡ Known i → timely ≡ b → JointFinds p octets (cond b (joint_done t (pair_tracked (track_at octets 0) (pair_step p i t))) (joint_refused p BadStamp))
+      in_time : (i : Item) (b : Bool) → pair_sound p ≡ true → item_at octets 0 ≡ Known i → timely ≡ b → JointFinds p octets (cond b (joint_done t (pair_step p i t)) (joint_refused p BadStamp))
       in_time i true h m e = plays i h m e
       in_time i false h m e = untimely i h m e
 
-      known : (r : Read) → pair_sound p ≡ true → item_at (form_for p.actuator) octets 0 ≡ r → JointFinds p octets (joint_meant p t (track_at octets 0) r)
+      known : (r : Read) → pair_sound p ≡ true → item_at octets 0 ≡ r → JointFinds p octets (joint_meant p t r)
       known Unknown h m = unfold joint_meant in unknown h m
       known (Known i) h m = unfold joint_meant in in_time i timely h m refl
 
-      by : (b : Bool) → pair_sound p ≡ b → JointFinds p octets (cond b (joint_meant p t (track_at octets 0) (item_at (form_for p.actuator) octets 0)) (joint_refused p UnsoundState))
-      by true h = known (item_at (form_for p.actuator) octets 0) h refl
+      by : (b : Bool) → pair_sound p ≡ b → JointFinds p octets (cond b (joint_meant p t (item_at octets 0)) (joint_refused p UnsoundState))
+      by true h = known (item_at octets 0) h refl
       by false h = not_sound h
 
   -- and the other way round: where no row fits, the item is played
-  pub a_good_item_is_played : (i : Item) → pair_sound p ≡ true → item_at (form_for p.actuator) octets 0 ≡ Known i → timely ≡ true → joint_call p octets ≡ joint_done t (pair_tracked (track_at octets 0) (pair_step p i t))
+  pub a_good_item_is_played : (i : Item) → pair_sound p ≡ true → item_at octets 0 ≡ Known i → timely ≡ true → joint_call p octets ≡ joint_done t (pair_step p i t)
   unfolding joint_call joint_meant
   a_good_item_is_played i h m e = rw (h, m, e)
 
   abbrev tested : Check
-  tested = check_call (pair_sound p) (is_known (item_at (form_for p.actuator) octets 0)) timely
+  tested = check_call (pair_sound p) (is_known (item_at octets 0)) timely
 
   -- its code and its place are those of its three tests
   joint_is_tested : ((joint_call p octets).code ≡ code_of tested) × ((joint_call p octets).place ≡ place_of tested)
@@ -99,7 +92,7 @@ module _ (p : Pair) (octets : List ℕ) where
   pub joint_refused_exactly_when : JointCodes p octets (joint_call p octets).code (joint_call p octets).place
   joint_refused_exactly_when =
       rw (joint_is_tested.0, joint_is_tested.1)
-      (call_codes (SoundPair p) ((i : Item) × (item_at (form_for p.actuator) octets 0 ≡ Known i)) (Timely p.actuator.clock t) _ _ _ (sound_pair_exactly_when p) (known_exactly_when (item_at (form_for p.actuator) octets 0)) (timely_exactly_when p.actuator.clock t))
+      (call_codes (SoundPair p) ((i : Item) × (item_at octets 0 ≡ Known i)) (Timely p.actuator.clock t) _ _ _ (sound_pair_exactly_when p) (known_exactly_when (item_at octets 0)) (timely_exactly_when p.actuator.clock t))
 
   -- "A refused call .. hands back the state it was given"; it records nothing and sends nothing
   pub joint_refusal_changes_nothing : ((joint_call p octets).code ≡ 0 → ⊥) →
@@ -123,14 +116,14 @@ module _ (p : Pair) (octets : List ℕ) where
       by (plays i h m e) =
           let when = (timely_exactly_when p.actuator.clock t).0 e in
           unfold joint_done in
-          pair_step_keeps_sound p i t safe when.0 when.1 (item_fits (form_for p.actuator) octets 0 i m)
+          pair_step_keeps_sound p i t safe when.0 when.1 (item_fits octets 0 i m)
 
 -- the records by value are the whole list, then blank ones, and the count is their number
-pub joint_records_are_all : (track : ℕ) (p : Pair) (i : Item) (t : ℕ) →
-    let d : PairStepped = pair_tracked track (pair_step p i t) in
+pub joint_records_are_all : (p : Pair) (i : Item) (t : ℕ) →
+    let d : PairStepped = pair_step p i t in
     ((joint_done t d).count ≡ length d.records) × ((joint_done t d).records ≡ d.records ++ places (3 - length d.records) [])
 unfolding joint_done
-joint_records_are_all track p i t = (refl, places_hold_all 3 (pair_tracked track (pair_step p i t)).records (tracked_item_writes_at_most_three track p i t))
+joint_records_are_all p i t = (refl, places_hold_all 3 (pair_step p i t).records (an_item_writes_at_most_three p i t))
 
 -- ---- a clock move
 

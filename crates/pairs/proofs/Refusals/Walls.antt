@@ -16,9 +16,7 @@ use Rattle.base.specs.declared.refusal.Check.{Check}
 use Rattle.base.specs.declared.refusal.Check.TheVariants.{Passed, Refused}
 use Rattle.base.specs.Refusals.{code_of, place_of, or_else, Decides}
 use Rattle.base.proofs.Codes.{codes_of_a_check, one_test_decides, then_decides}
-use Rattle.rules.specs.Forms.{form_in}
-use Rattle.rules.specs.Tracks.{untracked}
-use Rattle.rules.specs.Files.{input_count, end_time, check_start, lent_enough, params_in, scenes_in, inputs_in, track_of}
+use Rattle.rules.specs.Files.{input_count, end_time, check_start, lent_enough, params_in, scenes_in, inputs_in}
 use Rattle.rules.specs.Calls.{own_state}
 use Rattle.rules.specs.Readings.{Reading, cues, bad, verdict, if_lent_enough}
 use Rattle.rules.specs.Refusals.{GoodStart, RoomFor}
@@ -26,18 +24,15 @@ use Rattle.rules.specs.Runs.{records_octets, over}
 use Rattle.rules.proofs.Refusals.Readings.{verdict_after, verdict_if_lent, inputs_decide, list_is_the_inputs}
 use Rattle.rules.proofs.Refusals.Files.{start_decides, good_start_passes}
 use Rattle.rules.proofs.Refusals.Runs.{lent_enough_exactly_when, records_length}
-use Rattle.rules.proofs.Laws.Tracks.{map_length}
 use Rattle.sensor.specs.Actions.{check_actions}
 use Rattle.sensor.specs.Sensors.{fresh_sensor, own_sensor}
 use Rattle.sensor.specs.Refusals.{GoodActions}
 use Rattle.sensor.proofs.Actions.{actions_decide}
 use Rattle.pairs.specs.Pairs.{Pair, pair_step}
-use Rattle.pairs.specs.Lists.{Listed, listed, PairPlayed, pair_plays, pair_plays_to, pair_start, play_items}
-use Rattle.pairs.specs.Tracks.{pair_bare}
+use Rattle.pairs.specs.Lists.{Listed, listed, pair_plays, pair_plays_to, pair_start, play_items}
 use Rattle.pairs.specs.Walls.{file_in, actions_in, check_wall, item_in, read_wall, read_wall_call, WallWhole, play_wall, wall_accepted, wall_refused, wall_by, wall_call, items_read}
 use Rattle.pairs.specs.Refusals.{WallWhen, GoodWall, WallCodes}
 use Rattle.pairs.proofs.Refusals.Calls.{an_item_writes_at_most_three, a_pair_move_writes_at_most_two}
-use Rattle.pairs.proofs.Tracks.{pair_run_on_bare}
 
 -- ---- the two parts of a wall list
 
@@ -79,7 +74,7 @@ unfolding read_wall check_wall
 wall_decides wall =
     let file : List ℕ = file_in wall in
     let long = one_test_decides (56 ≤ length wall) (leb 56 (length wall)) WrongLength 0 (long_exactly_when (length wall)) in
-    let rest = then_decides _ _ (start_decides file) (then_decides _ _ (actions_decide (actions_in wall)) (inputs_decide (item_in (form_in file) (inputs_in file)) (inputs_in file) (input_count file) 0 (end_time file))) in
+    let rest = then_decides _ _ (start_decides file) (then_decides _ _ (actions_decide (actions_in wall)) (inputs_decide (item_in (inputs_in file)) (inputs_in file) (input_count file) 0 (end_time file))) in
     let whole = then_decides _ _ long rest in
     rw (verdict_after (check_wall wall) (items_read file), wall_is_its_checks (leb 56 (length wall)) (check_start file) (check_actions (actions_in wall)) _)
     (record {
@@ -107,10 +102,10 @@ good_wall_is_read wall g = a_good_start_is_read wall g.long g.start g.actions
 -- as many items as inputs, in their order
 pub items_are_the_octets : (wall : List ℕ) (items : List Listed) → read_wall wall ≡ cues items →
     let file : List ℕ = file_in wall in
-    (length items ≡ input_count file) × ((j : ℕ) → j < input_count file → get_elem? items j ≡ item_in (form_in file) (inputs_in file) j)
+    (length items ≡ input_count file) × ((j : ℕ) → j < input_count file → get_elem? items j ≡ item_in (inputs_in file) j)
 items_are_the_octets wall items e =
     let file : List ℕ = file_in wall in
-    list_is_the_inputs (item_in (form_in file) (inputs_in file)) (inputs_in file) (input_count file) 0 (end_time file) items (sym (good_wall_is_read wall (good_wall wall items e)) ∙ e)
+    list_is_the_inputs (item_in (inputs_in file)) (inputs_in file) (input_count file) 0 (end_time file) items (sym (good_wall_is_read wall (good_wall wall items e)) ∙ e)
 
 -- ---- what a run finds
 
@@ -189,25 +184,18 @@ unfolding pair_plays
 items_answer [] p = refl
 items_answer (listed t i ∷ later) p = rw length-append (omega (arith, items_answer later (pair_step p i t).pair))
 
-module _ (wall : List ℕ) (items : List Listed) where
-  -- but for its tracks, a wall list is what the pair plays
-  pub wall_without_tracks : pair_bare (play_wall wall items) ≡ play_items (params_in (file_in wall)) (scenes_in (file_in wall)) (fresh_sensor (actions_in wall)) items (end_time (file_in wall))
-  unfolding play_wall
-  wall_without_tracks = pair_run_on_bare (track_of (inputs_in (file_in wall))) (params_in (file_in wall)) (scenes_in (file_in wall)) (fresh_sensor (actions_in wall)) items (end_time (file_in wall))
+-- three for each item, two for the move to the end, and the start record
+pub played_wall_count : (wall : List ℕ) (items : List Listed) → length (play_wall wall items).records ≤ 3 * length items + 3
+unfolding play_wall play_items pair_plays_to
+played_wall_count wall items =
+    let begun : Pair = (pair_start (params_in (file_in wall)) (scenes_in (file_in wall)) (fresh_sensor (actions_in wall))).pair in
+    rw (length-append, length-append) (omega (arith, items_write_few items begun, a_pair_move_writes_at_most_two (pair_plays items begun).pair (end_time (file_in wall))))
 
-  abbrev begun : Pair
-  begun = (pair_start (params_in (file_in wall)) (scenes_in (file_in wall)) (fresh_sensor (actions_in wall))).pair
-
-  -- three for each item, two for the move to the end, and the start record
-  pub played_wall_count : length (play_wall wall items).records ≤ 3 * length items + 3
-  unfolding play_items pair_plays_to
-  played_wall_count =
-      let same = sym (map_length untracked (play_wall wall items).records) ∙ ap (λ (p : PairPlayed). length p.records) wall_without_tracks in
-      rw (same, length-append, length-append) (omega (arith, items_write_few items begun, a_pair_move_writes_at_most_two (pair_plays items begun).pair (end_time (file_in wall))))
-
-  pub played_wall_answers : length (play_wall wall items).answers ≡ length items
-  unfolding play_items pair_plays_to
-  played_wall_answers = ap (λ (p : PairPlayed). length p.answers) wall_without_tracks ∙ rw (length-append, length-append) (omega (arith, items_answer items begun))
+pub played_wall_answers : (wall : List ℕ) (items : List Listed) → length (play_wall wall items).answers ≡ length items
+unfolding play_wall play_items pair_plays_to
+played_wall_answers wall items =
+    let begun : Pair = (pair_start (params_in (file_in wall)) (scenes_in (file_in wall)) (fresh_sensor (actions_in wall))).pair in
+    rw (length-append, length-append) (omega (arith, items_answer items begun))
 
 -- of a run that is accepted
 module _ (wall records answers : List ℕ) (items : List Listed) (read : read_wall wall ≡ cues items) (room : lent_enough (file_in wall) records answers ≡ true) where

@@ -138,7 +138,7 @@ module _ (s : State) (eight : length s.scenes ≡ 8) where
   unfolding image delay time_at
   times_stand =
       rw (append_assoc (times_octets Tenths s.params) (mode_octets s.params ++ scenes_octets s.scenes) (flag_octets s ++ moment_octets s))
-      (tenths_back s.params.version 0 s.params (mode_octets s.params ++ scenes_octets s.scenes ++ (flag_octets s ++ moment_octets s)))
+      (tenths_back s.params.version s.params (mode_octets s.params ++ scenes_octets s.scenes ++ (flag_octets s ++ moment_octets s)))
 
   pub image_in_numbers : ImageInNumbers s
   image_in_numbers =
@@ -189,7 +189,7 @@ module _ (s : State) (eight : length s.scenes ≡ 8) where
   unfolding state_in
   image_is_read_back =
       let f = flags_stand in
-      let back = read_back_by_a_row form s.params s.scenes eight refl (tenths_back s.params.version 0 s.params) in
+      let back = read_back_by_a_row form s.params s.scenes eight refl (tenths_back s.params.version s.params) in
       rw (f.version, parameters_first, back.0, back.1, clock_stands, due_stands, f.night, f.lock, f.force, f.link, f.atlocking, f.atfailure, f.phase)
       (rw (bit_back s.night, bit_back s.lock, force_back s.force, link_back s.link, bit_back s.atlocking, bit_back s.atfailure, phase_back s.phase))
 

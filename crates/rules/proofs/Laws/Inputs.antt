@@ -1,6 +1,6 @@
 -- What an accepted kind and value mean: an input of that very kind and value, whose scene number is at most 63; and back.
 use Prim.Native.Nat.{ℕ, zero, suc, ◌+◌, ◌/◌, ◌%◌, ◌≤◌, ◌<◌}
-use mathlib.Core.Bool.{Bool, true, false, cond}
+use mathlib.Core.Bool.{Bool, true, false, cond, ◌&&◌}
 use mathlib.Core.List.{List}
 use mathlib.Core.Logic.{◌↔◌, inl, inr, ⊎_elim}
 use mathlib.Core.Path.{◌≡◌, refl, sym, ◌∙◌}
@@ -8,8 +8,6 @@ use native.Mathlib.Omega.{arith}
 use lib.Dec.{eqb, leb}
 use borrow.Author.Tests.{leb-true, eqb-true, eqb-false, eq-eqb, ne_eqb}
 use Rattle.octets.specs.BigEndian.{octet}
-use Rattle.octets.specs.Groups.{track_at, ends_within}
-use Rattle.rules.specs.declared.form.Form.{Form}
 use Rattle.rules.specs.declared.input.Force.TheVariants.{Free, Off, On}
 use Rattle.rules.specs.declared.input.Event.TheVariants.{Failure, Return}
 use Rattle.rules.specs.declared.input.Input.{Input}
@@ -18,8 +16,7 @@ use Rattle.rules.specs.declared.input.Decoded.{Decoded}
 use Rattle.rules.specs.declared.input.Decoded.TheVariants.{Meant, Wrong}
 use Rattle.rules.specs.Inputs.{kind, scene_number, input_value, zero_or_one, scene_meant, force_meant, decoded, input_at}
 use Rattle.rules.specs.Written.{ValueOf, InputStands}
-use Rattle.octets.proofs.Endings.{ends_exactly_when}
-use Rattle.base.proofs.Tests.{cond_case}
+use Rattle.base.proofs.Tests.{both, cond_case}
 use Rattle.rules.proofs.Laws.Cases.{each_input}
 
 -- an input of the kind k, if it means one at all, with this value
@@ -114,40 +111,36 @@ meant_kind k value i e = (rw e at (decoded_means k value)).0
 pub not_meant : {A : Type 0} {i : Input} → Wrong ≡ Meant i → A
 not_meant e = absurd (let z : ◌≡◌ {A = ℕ} 0 1 = cc in omega arith)
 
-module _ (f : Form) (octets : List ℕ) (at : ℕ) where
-  -- its kind and value mean it, its track is one of the version's, and the last octet is zero
-  input_means : (i : Input) → input_at f octets at ≡ Meant i → OfKind (octet octets (at + 4)) (octet octets (at + 5)) (Meant i) × ((octet octets (at + 6) ≤ f.lasttrack) × (octet octets (at + 7) ≡ 0))
+module _ (octets : List ℕ) (at : ℕ) where
+  -- its kind and value mean it, and the last two octets are zero
+  input_means : (i : Input) → input_at octets at ≡ Meant i → OfKind (octet octets (at + 4)) (octet octets (at + 5)) (Meant i) × ((octet octets (at + 6) ≡ 0) × (octet octets (at + 7) ≡ 0))
   unfolding input_at
-  input_means i = by (ends_within f.lasttrack octets at) refl
+  input_means i = by (eqb (octet octets (at + 6)) 0 && eqb (octet octets (at + 7)) 0) refl
     where
-      by : (b : Bool) → ends_within f.lasttrack octets at ≡ b → cond b (decoded (octet octets (at + 4)) (octet octets (at + 5))) Wrong ≡ Meant i
-          → OfKind (octet octets (at + 4)) (octet octets (at + 5)) (Meant i) × ((octet octets (at + 6) ≤ f.lasttrack) × (octet octets (at + 7) ≡ 0))
-      by true ends e = (rw e at (decoded_means (octet octets (at + 4)) (octet octets (at + 5))), (ends_exactly_when octets at f.lasttrack).0 ends)
+      by : (b : Bool) → (eqb (octet octets (at + 6)) 0 && eqb (octet octets (at + 7)) 0) ≡ b → cond b (decoded (octet octets (at + 4)) (octet octets (at + 5))) Wrong ≡ Meant i
+          → OfKind (octet octets (at + 4)) (octet octets (at + 5)) (Meant i) × ((octet octets (at + 6) ≡ 0) × (octet octets (at + 7) ≡ 0))
+      by true zeros e = let z = both (eqb (octet octets (at + 6)) 0) _ zeros in (rw e at (decoded_means (octet octets (at + 4)) (octet octets (at + 5))), (eqb-true _ _ z.0, eqb-true _ _ z.1))
       by false others e = not_meant e
 
-  pub input_kind : (i : Input) → input_at f octets at ≡ Meant i → kind i ≡ octet octets (at + 4)
+  pub input_kind : (i : Input) → input_at octets at ≡ Meant i → kind i ≡ octet octets (at + 4)
   input_kind i e = (input_means i e).0.0
 
-  pub input_number : (i : Input) → input_at f octets at ≡ Meant i → scene_number i ≤ 63
+  pub input_number : (i : Input) → input_at octets at ≡ Meant i → scene_number i ≤ 63
   input_number i e = (input_means i e).0.1
 
-  -- 02, [6]: "the track, 0 to 15"; of version 1, 0
-  pub input_track : (i : Input) → input_at f octets at ≡ Meant i → track_at octets at ≤ f.lasttrack
-  input_track i e = (input_means i e).1.0
-
   -- octets mean an input exactly when they are written as it is
-  pub input_exactly_when : octet octets (at + 5) ≤ 255 → (i : Input) → (input_at f octets at ≡ Meant i) ↔ InputStands f octets at i
+  pub input_exactly_when : octet octets (at + 5) ≤ 255 → (i : Input) → (input_at octets at ≡ Meant i) ↔ InputStands octets at i
   unfolding input_at
   input_exactly_when small i = (
-    λ e. let m = input_means i e in record { kind = sym m.0.0; value = m.0.2 small; track = m.1.0; zero = m.1.1; six_bits = m.0.1 },
-    λ g. rw ((ends_exactly_when octets at f.lasttrack).1 (g.track, g.zero), g.kind) (⊎_elim (λ e. rw e (an_input_is_what_its_octets_mean i g.six_bits)) (λ e. rw (e.0, e.1) (unfold decoded force_meant in refl)) g.value),
+    λ e. let m = input_means i e in record { kind = sym m.0.0; value = m.0.2 small; zeros = m.1; six_bits = m.0.1 },
+    λ g. rw (g.zeros.0, g.zeros.1, g.kind) (⊎_elim (λ e. rw e (an_input_is_what_its_octets_mean i g.six_bits)) (λ e. rw (e.0, e.1) (unfold decoded force_meant in refl)) g.value),
   )
 
-  -- and nothing where there is no such input: "6 | kind, value or zero octet wrong"; 02, [6]: "in version 2, 6 covers a track above 15"
-  pub wrong_exactly_when : octet octets (at + 5) ≤ 255 → (input_at f octets at ≡ Wrong) ↔ ((i : Input) → InputStands f octets at i → ⊥)
-  wrong_exactly_when small = (λ wrong i g. not_meant (sym wrong ∙ (input_exactly_when small i).1 g), λ none. by (input_at f octets at) refl none)
+  -- and nothing where there is no such input: "6 | kind, value or zero octet wrong"
+  pub wrong_exactly_when : octet octets (at + 5) ≤ 255 → (input_at octets at ≡ Wrong) ↔ ((i : Input) → InputStands octets at i → ⊥)
+  wrong_exactly_when small = (λ wrong i g. not_meant (sym wrong ∙ (input_exactly_when small i).1 g), λ none. by (input_at octets at) refl none)
     where
-      by : (d : Decoded) → input_at f octets at ≡ d → ((i : Input) → InputStands f octets at i → ⊥) → d ≡ Wrong
+      by : (d : Decoded) → input_at octets at ≡ d → ((i : Input) → InputStands octets at i → ⊥) → d ≡ Wrong
       by Wrong e none = refl
       by (Meant i) e none = absurd (none i ((input_exactly_when small i).0 e))
 

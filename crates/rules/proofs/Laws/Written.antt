@@ -178,9 +178,9 @@ TimesBack f p =
     (delay f octets 0 ≡ p.ondelay) × (delay f octets 1 ≡ p.offdelay) × (delay f octets 2 ≡ p.timedon) × (delay f octets 3 ≡ p.prewarning)
 
 -- in tenths, any
-pub tenths_back : (v last : ℕ) (p : Params) → TimesBack (record { version = v; scale = Tenths; lasttrack = last }) p
+pub tenths_back : (v : ℕ) (p : Params) → TimesBack (record { version = v; scale = Tenths }) p
 unfolding delay time_at octets32
-tenths_back v last p later = (what_is_written_is_read p.ondelay [], what_is_written_is_read p.offdelay [], what_is_written_is_read p.timedon [], what_is_written_is_read p.prewarning [])
+tenths_back v p later = (what_is_written_is_read p.ondelay [], what_is_written_is_read p.offdelay [], what_is_written_is_read p.timedon [], what_is_written_is_read p.prewarning [])
 
 -- of version 1, whole seconds
 times_back : (p : Params) → ParamsFit p → TimesBack (form_of p.version) p
@@ -192,7 +192,7 @@ times_back p f = by f.version
 
     by : HasVersion p.version → TimesBack (form_of p.version) p
     by (inl one) = unfold delay time_at in rw one (λ later. (seconds p.ondelay f.ondelay one, seconds p.offdelay f.offdelay one, seconds p.timedon f.timedon one, seconds p.prewarning f.prewarning one))
-    by (inr two) = rw two (tenths_back 2 15 p)
+    by (inr two) = rw two (tenths_back 2 p)
 
 -- a bit, as octet
 pub bit_back : (b : Bool) → eqb (cond b 1 0) 1 ≡ b

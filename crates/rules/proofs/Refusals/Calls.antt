@@ -16,10 +16,8 @@ use Rattle.base.specs.declared.refusal.Check.TheVariants.{Passed, Refused}
 use Rattle.rules.specs.declared.call.Single.{Single}
 use Rattle.rules.specs.declared.call.Move.{Move}
 use Rattle.rules.specs.Inputs.{input_at}
-use Rattle.octets.specs.Groups.{stamp_at, track_at}
-use Rattle.rules.specs.Steps.{Stepped, clock_move, step}
-use Rattle.rules.specs.Tracks.{tracked}
-use Rattle.rules.specs.Forms.{form_for}
+use Rattle.octets.specs.Groups.{stamp_at}
+use Rattle.rules.specs.Steps.{clock_move, step}
 use Rattle.rules.specs.Soundness.{sound}
 use Rattle.base.specs.Refusals.{code_of, place_of, stamp_in_range, check_call}
 use Rattle.rules.specs.Layout.{form_alone}
@@ -32,38 +30,37 @@ use Rattle.rules.proofs.Laws.Soundness.{own_state_is_sound, move_is_sound, move_
 use Rattle.rules.proofs.Laws.Inputs.{not_meant, input_number}
 use Rattle.rules.proofs.Laws.Forms.{alone_row}
 use Rattle.rules.proofs.Laws.Parameters.{lowest_bad_octet, passed_is_sound}
-use Rattle.rules.proofs.Laws.Records.{a_move_writes_at_most_two, places_hold_all}
-use Rattle.rules.proofs.Laws.Tracks.{tracked_writes_at_most_three}
+use Rattle.rules.proofs.Laws.Records.{a_move_writes_at_most_two, an_input_writes_at_most_three, places_hold_all}
 
 -- ---- a single input
 
 -- What a single input finds: the first of the table's rows 9, 6, 7 that fits, or an input that is played.
 pub data SingleFinds (s : State) (octets : List ℕ) : Single → Type 0 where
   not_sound : sound s ≡ false → SingleFinds s octets (single_refused s UnsoundState)
-  wrong : sound s ≡ true → input_at (form_for s) octets 0 ≡ Wrong → SingleFinds s octets (single_refused s BadInput)
-  untimely : (i : Input) → sound s ≡ true → input_at (form_for s) octets 0 ≡ Meant i → stamp_in_range s.clock (stamp_at octets 0) ≡ false → SingleFinds s octets (single_refused s BadStamp)
-  plays : (i : Input) → sound s ≡ true → input_at (form_for s) octets 0 ≡ Meant i → stamp_in_range s.clock (stamp_at octets 0) ≡ true → SingleFinds s octets (single_done (tracked (track_at octets 0) (step s i (stamp_at octets 0))))
+  wrong : sound s ≡ true → input_at octets 0 ≡ Wrong → SingleFinds s octets (single_refused s BadInput)
+  untimely : (i : Input) → sound s ≡ true → input_at octets 0 ≡ Meant i → stamp_in_range s.clock (stamp_at octets 0) ≡ false → SingleFinds s octets (single_refused s BadStamp)
+  plays : (i : Input) → sound s ≡ true → input_at octets 0 ≡ Meant i → stamp_in_range s.clock (stamp_at octets 0) ≡ true → SingleFinds s octets (single_done (step s i (stamp_at octets 0)))
 
 -- each test of the call decides one row
 pub single_finds : (s : State) (octets : List ℕ) → SingleFinds s octets (single_call s octets)
 unfolding single_call
 single_finds s octets = by (sound s) refl
   where
-    timely : (i : Input) (b : Bool) → sound s ≡ true → input_at (form_for s) octets 0 ≡ Meant i → stamp_in_range s.clock (stamp_at octets 0) ≡ b → SingleFinds s octets (cond b (single_done (tracked (track_at octets 0) (step s i (stamp_at octets 0)))) (single_refused s BadStamp))
+    timely : (i : Input) (b : Bool) → sound s ≡ true → input_at octets 0 ≡ Meant i → stamp_in_range s.clock (stamp_at octets 0) ≡ b → SingleFinds s octets (cond b (single_done (step s i (stamp_at octets 0))) (single_refused s BadStamp))
     timely i true h m e = plays i h m e
     timely i false h m e = untimely i h m e
 
-    meant : (d : Decoded) → sound s ≡ true → input_at (form_for s) octets 0 ≡ d → SingleFinds s octets (single_meant s (stamp_at octets 0) (track_at octets 0) d)
+    meant : (d : Decoded) → sound s ≡ true → input_at octets 0 ≡ d → SingleFinds s octets (single_meant s (stamp_at octets 0) d)
     meant Wrong h m = unfold single_meant in wrong h m
     meant (Meant i) h m = unfold single_meant in timely i (stamp_in_range s.clock (stamp_at octets 0)) h m refl
 
-    by : (b : Bool) → sound s ≡ b → SingleFinds s octets (cond b (single_meant s (stamp_at octets 0) (track_at octets 0) (input_at (form_for s) octets 0)) (single_refused s UnsoundState))
-    by true h = meant (input_at (form_for s) octets 0) h refl
+    by : (b : Bool) → sound s ≡ b → SingleFinds s octets (cond b (single_meant s (stamp_at octets 0) (input_at octets 0)) (single_refused s UnsoundState))
+    by true h = meant (input_at octets 0) h refl
     by false h = not_sound h
 
 -- and the other way round: where no row fits, the input is played
 module _ (s : State) (octets : List ℕ) where
-  pub good_is_played : (i : Input) → sound s ≡ true → input_at (form_for s) octets 0 ≡ Meant i → stamp_in_range s.clock (stamp_at octets 0) ≡ true → single_call s octets ≡ single_done (tracked (track_at octets 0) (step s i (stamp_at octets 0)))
+  pub good_is_played : (i : Input) → sound s ≡ true → input_at octets 0 ≡ Meant i → stamp_in_range s.clock (stamp_at octets 0) ≡ true → single_call s octets ≡ single_done (step s i (stamp_at octets 0))
   unfolding single_call single_meant
   good_is_played i h m e = rw (h, m, e)
 
@@ -79,7 +76,7 @@ known_exactly_when Wrong = (λ h. no h, λ g. not_meant g.1)
 -- its code and its place are those of its three tests
 module _ (s : State) (octets : List ℕ) where
   abbrev tested : Check
-  tested = check_call (sound s) (known (input_at (form_for s) octets 0)) (stamp_in_range s.clock (stamp_at octets 0))
+  tested = check_call (sound s) (known (input_at octets 0)) (stamp_in_range s.clock (stamp_at octets 0))
 
   single_is_tested : ((single_call s octets).code ≡ code_of tested) × ((single_call s octets).place ≡ place_of tested)
   single_is_tested = by (single_finds s octets)
@@ -94,7 +91,7 @@ module _ (s : State) (octets : List ℕ) where
   single_refused_exactly_when =
       let e = single_is_tested in
       rw (e.0, e.1)
-      (call_codes _ _ _ (sound s) (known (input_at (form_for s) octets 0)) (stamp_in_range s.clock (stamp_at octets 0)) (λ h. h, λ h. h) (known_exactly_when (input_at (form_for s) octets 0)) (timely_exactly_when s.clock (stamp_at octets 0)))
+      (call_codes _ _ _ (sound s) (known (input_at octets 0)) (stamp_in_range s.clock (stamp_at octets 0)) (λ h. h, λ h. h) (known_exactly_when (input_at octets 0)) (timely_exactly_when s.clock (stamp_at octets 0)))
 
 -- "A refused call .. hands back the state it was given"; answer, count and records are 0, and so is the place
 pub single_refusal_changes_nothing : (s : State) (octets : List ℕ) → ((single_call s octets).code ≡ 0 → ⊥) →
@@ -108,10 +105,10 @@ single_refusal_changes_nothing s octets refused = by (single_finds s octets) ref
     by (plays i h m t) f = absurd (f (unfold single_done in refl))
 
 -- the records by value are the whole list of the step's records, then blank ones, and the count is their number
-pub single_records_are_all : (track : ℕ) (s : State) (i : Input) (t : ℕ) → let d : Stepped = tracked track (step s i t) in
-    ((single_done d).count ≡ length d.records) × ((single_done d).records ≡ d.records ++ places (3 - length d.records) [])
+pub single_records_are_all : (s : State) (i : Input) (t : ℕ) →
+    ((single_done (step s i t)).count ≡ length (step s i t).records) × ((single_done (step s i t)).records ≡ (step s i t).records ++ places (3 - length (step s i t).records) [])
 unfolding single_done
-single_records_are_all track s i t = (refl, places_hold_all 3 (tracked track (step s i t)).records (tracked_writes_at_most_three track s i t))
+single_records_are_all s i t = (refl, places_hold_all 3 (step s i t).records (an_input_writes_at_most_three s i t))
 
 -- ---- a clock move
 
@@ -181,7 +178,7 @@ single_call_keeps_sound s octets safe = by (single_finds s octets)
     by (plays i h m t) =
         let e = (timely_exactly_when s.clock (stamp_at octets 0)).0 t in
         unfold single_done in
-        step_is_sound s i (stamp_at octets 0) (input_number (form_for s) octets 0 i m) safe e.0 e.1
+        step_is_sound s i (stamp_at octets 0) (input_number octets 0 i m) safe e.0 e.1
 
 -- ---- the fresh state from parameters alone
 

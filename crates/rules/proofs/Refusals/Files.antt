@@ -11,7 +11,6 @@ use lib.Seq.{get_or-take, get_or-drop}
 use Rattle.octets.specs.BigEndian.{octet}
 use lib.Dec.{eqb, leb}
 use borrow.Author.Tests.{leb-true, leb-false, eqb-true, eqb-false, le-leb, lt-leb, eq-eqb, ne_eqb}
-use Rattle.rules.specs.declared.form.Form.{Form}
 use Rattle.rules.specs.declared.input.Input.{Input}
 use Rattle.rules.specs.declared.input.Decoded.{Decoded}
 use Rattle.rules.specs.declared.input.Decoded.TheVariants.{Meant, Wrong}
@@ -196,7 +195,7 @@ start_decides file =
 pub file_decides : (file : List ℕ) → Decides (GivenWhen file) (GoodFile file) (verdict (read_file file))
 unfolding read_file
 file_decides file =
-    let parts = then_decides _ _ (start_decides file) (inputs_decide (cue_at (form_in file) (inputs_in file)) (inputs_in file) (input_count file) 0 (end_time file)) in
+    let parts = then_decides _ _ (start_decides file) (inputs_decide (cue_at (inputs_in file)) (inputs_in file) (input_count file) 0 (end_time file)) in
     let both_parts = rw (← verdict_after (check_start file) (cues_read file)) at parts in
     record {
       refused = both_parts.refused;
@@ -217,22 +216,22 @@ pub accepted_exactly_when : (file : List ℕ) → ((list : List Cue) × (read_fi
 accepted_exactly_when file = (λ r. good_file file r.0 r.1, λ g. let e = (file_decides file).passed.1 g in (found (read_file file), good_read (read_file file) e))
 
 -- the cues are the inputs of the file, as many and in their order, each with its own stamp
-pub cues_are_the_octets : (file : List ℕ) (list : List Cue) → read_file file ≡ cues list → (length list ≡ input_count file) × ((j : ℕ) → j < input_count file → get_elem? list j ≡ cue_at (form_in file) (inputs_in file) j)
-cues_are_the_octets file list e = list_is_the_inputs (cue_at (form_in file) (inputs_in file)) (inputs_in file) (input_count file) 0 (end_time file) list (sym (good_start file (good_file file list e).start) ∙ e)
+pub cues_are_the_octets : (file : List ℕ) (list : List Cue) → read_file file ≡ cues list → (length list ≡ input_count file) × ((j : ℕ) → j < input_count file → get_elem? list j ≡ cue_at (inputs_in file) j)
+cues_are_the_octets file list e = list_is_the_inputs (cue_at (inputs_in file)) (inputs_in file) (input_count file) 0 (end_time file) list (sym (good_start file (good_file file list e).start) ∙ e)
 
 -- what a cue of a list is made of
-cue_said : (f : Form) (inputs : List ℕ) (i : ℕ) (c : Cue) → cue_at f inputs i ≡ some c → (x : Input) × (input_at f inputs (input_place i) ≡ Meant x) × (c ≡ cue (stamp_at inputs (input_place i)) x)
+cue_said : (inputs : List ℕ) (i : ℕ) (c : Cue) → cue_at inputs i ≡ some c → (x : Input) × (input_at inputs (input_place i) ≡ Meant x) × (c ≡ cue (stamp_at inputs (input_place i)) x)
 unfolding cue_at
-cue_said f inputs i c e = by (input_at f inputs (input_place i)) refl e
+cue_said inputs i c e = by (input_at inputs (input_place i)) refl e
   where
-    by : (d : Decoded) → input_at f inputs (input_place i) ≡ d → stamped (stamp_at inputs (input_place i)) d ≡ some c → (x : Input) × (input_at f inputs (input_place i) ≡ Meant x) × (c ≡ cue (stamp_at inputs (input_place i)) x)
+    by : (d : Decoded) → input_at inputs (input_place i) ≡ d → stamped (stamp_at inputs (input_place i)) d ≡ some c → (x : Input) × (input_at inputs (input_place i) ≡ Meant x) × (c ≡ cue (stamp_at inputs (input_place i)) x)
     by (Meant x) m e = (x, m, cc)
     by Wrong m e = absurd (let z : ◌≡◌ {A = ℕ} 0 1 = cc in omega arith)
 
 -- the first cue of a list that is read without fault
-pub first_cue_lem : (f : Form) (inputs : List ℕ) (left i last end : ℕ) (list : List Cue) → read_inputs (cue_at f inputs) inputs (suc left) i last end ≡ cues list →
-    FirstOf (cue_at f inputs) (λ x. input_at f inputs (input_place i) ≡ Meant x) (λ x. cue (stamp_at inputs (input_place i)) x) inputs left i last end list
-first_cue_lem f inputs left i last end list e = first_of (cue_at f inputs) _ _ inputs left i last end list (cue_said f inputs i) e
+pub first_cue_lem : (inputs : List ℕ) (left i last end : ℕ) (list : List Cue) → read_inputs (cue_at inputs) inputs (suc left) i last end ≡ cues list →
+    FirstOf (cue_at inputs) (λ x. input_at inputs (input_place i) ≡ Meant x) (λ x. cue (stamp_at inputs (input_place i)) x) inputs left i last end list
+first_cue_lem inputs left i last end list e = first_of (cue_at inputs) _ _ inputs left i last end list (cue_said inputs i) e
 
 -- "offset of parameters (20)": they are the octets from there on
 pub parameters_stand_at_20 : (file : List ℕ) (j : ℕ) → j < parameters_size (form_in file) → octet (parameters_in file) j ≡ octet file (20 + j)

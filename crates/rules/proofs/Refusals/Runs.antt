@@ -4,7 +4,7 @@ use mathlib.Core.Bool.{Bool, true, false}
 use mathlib.Core.List.{List, [], ◌∷◌, ◌++◌, append_assoc}
 use mathlib.Core.Logic.{◌↔◌, inl, inr}
 use mathlib.Core.Option.{Option}
-use mathlib.Core.Path.{◌≡◌, refl, sym, ap, ◌∙◌}
+use mathlib.Core.Path.{◌≡◌, refl, ◌∙◌}
 use native.Mathlib.Omega.{arith}
 use lib.ListN.{length, drop, length-append}
 use lib.Dec.{leb}
@@ -16,19 +16,17 @@ use Rattle.base.specs.declared.refusal.Refusal.{Refusal}
 use Rattle.base.specs.declared.refusal.Refusal.TheVariants.{WrongLength, WrongVersion, WrongActuators, WrongLayout, BadParameter, BadInput, BadStamp, ShortBuffer}
 use Rattle.base.specs.declared.refusal.Check.{Check}
 use Rattle.rules.specs.Steps.{fresh, step}
-use Rattle.rules.specs.Lists.{Cue, cue, Played, plays, plays_to, play_list}
-use Rattle.rules.specs.Tracks.{untracked, bare}
+use Rattle.rules.specs.Lists.{Cue, cue, plays, plays_to, play_list}
 use Rattle.base.specs.Refusals.{code_of, place_of}
 use Rattle.rules.specs.Calls.{own_state}
 use Rattle.rules.specs.Readings.{Reading, cues, bad, verdict, if_lent_enough}
 use Rattle.rules.specs.Forms.{form_in}
-use Rattle.rules.specs.Files.{input_count, end_time, inputs_in, track_of, read_file, lent_for, lent_enough, read_call, params_in, scenes_in}
+use Rattle.rules.specs.Files.{input_count, end_time, read_file, lent_for, lent_enough, read_call, params_in, scenes_in}
 use Rattle.octets.specs.BigEndian.{octets32}
 use Rattle.rules.specs.Layout.{records_room}
 use Rattle.rules.specs.Refusals.{StartWhen, InputsWhen, GivenWhen, RoomFor, RunCodes, TakenApart}
 use Rattle.rules.specs.Runs.{record_octets, records_octets, over, Whole, play_file, accepted, refused, run_by, run_call, packed, answered_by, house_run}
 use Rattle.rules.proofs.Laws.Records.{a_move_writes_at_most_two, an_input_writes_at_most_three}
-use Rattle.rules.proofs.Laws.Tracks.{map_length, run_on_bare}
 use Rattle.base.proofs.Tests.{both}
 use Rattle.base.proofs.Codes.{codes_of_a_check, one_test_decides, then_decides}
 use Rattle.rules.proofs.Laws.Forms.{few_octets}
@@ -129,22 +127,14 @@ plays_to_few : (end : ℕ) (list : List Cue) (s : State) → length (plays_to en
 unfolding plays_to
 plays_to_few end list s = rw length-append (omega (arith, plays_few list s, a_move_writes_at_most_two (plays list s).state end))
 
--- but for its tracks, a file is what the rules play
-pub without_tracks : (file : List ℕ) (list : List Cue) → bare (play_file file list) ≡ play_list (params_in file) (scenes_in file) list (end_time file)
-unfolding play_file
-without_tracks file list = run_on_bare (track_of (inputs_in file)) (params_in file) (scenes_in file) list (end_time file)
-
 -- the start record, then those of the changes
 played_count : (file : List ℕ) (list : List Cue) → length (play_file file list).records ≡ 1 + length (plays_to (end_time file) list (fresh (params_in file) (scenes_in file))).records
-unfolding play_list
-played_count file list =
-    let same = ap (λ (p : Played). length p.records) (without_tracks file list) in
-    sym (map_length untracked (play_file file list).records) ∙ (same ∙ rw length-append)
+unfolding play_file play_list
+played_count file list = rw length-append
 
 played_answers : (file : List ℕ) (list : List Cue) → length (play_file file list).answers ≡ length list
-unfolding play_list plays_to
-played_answers file list =
-    ap (λ (p : Played). length p.answers) (without_tracks file list) ∙ rw (length-append, length-append) (omega (arith, plays_answers list (fresh (params_in file) (scenes_in file))))
+unfolding play_file play_list plays_to
+played_answers file list = rw (length-append, length-append) (omega (arith, plays_answers list (fresh (params_in file) (scenes_in file))))
 
 pub records_length : (k : List Record) → length (records_octets k) ≡ 8 * length k
 unfolding records_octets record_octets octets32

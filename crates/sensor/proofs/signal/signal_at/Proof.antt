@@ -6,11 +6,11 @@ use Rattle.sensor.proofs.signal.signal_at.Tie as tie
 
 returns : tie.Need-returns
 unfolding signal_at
-returns c = simp (c.signal-of.ensures, sym c.before.before.before.before.ends-within.ensures ∙ c.before.before.before.if1.true)
+returns c = simp (c.signal-of.ensures, sym c.before.before.before.before.ends-in-zeros.ensures ∙ c.before.before.before.if1.true)
 
 returns-2 : tie.Need-returns-2
 unfolding signal_at
-returns-2 c = simp (sym c.before.ends-within.ensures ∙ c.if1.false)
+returns-2 c = simp (sym c.before.ends-in-zeros.ensures ∙ c.if1.false)
 
 pub signal_at_spec : {M : Type 1} → statement M
 signal_at_spec =
