@@ -29,14 +29,14 @@ use states::same::{same_lamp, same_phase};
 use timers::clock::move_clock;
 
 // What becomes of an input at its barrier: it is dropped for good, with this answer, or it counts, noted (true) or taken (false).
-#[derive(Drop)]
+#[derive(Clone, Copy)]
 pub enum Fate {
     Dropped(u8),
     Counts(bool),
 }
 
 // What an input that counts does, but for the scene table.
-#[derive(Drop)]
+#[derive(Clone, Copy)]
 pub struct Done {
     pub lamp: Lamp,
     pub answer: u8,
@@ -44,7 +44,7 @@ pub struct Done {
 }
 
 // What an input came to while the clock stood.
-#[derive(Drop)]
+#[derive(Clone, Copy)]
 pub struct Acting {
     pub state: State,
     pub answer: u8,
@@ -52,7 +52,7 @@ pub struct Acting {
 }
 
 // What an input came to, by value.
-#[derive(Drop)]
+#[derive(Clone, Copy)]
 pub struct Acted {
     pub state: State,
     pub answer: u8,

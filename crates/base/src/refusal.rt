@@ -3,7 +3,7 @@ ghost use Rattle.std.specs.Prelude.{◌≡◌};
 ghost use Rattle.base.specs.Refusals.{number};
 
 // The rows of the table of refusal numbers, in its order: nine of document 01, then those that its requests add.
-#[derive(Drop)]
+#[derive(Clone, Copy)]
 pub enum Refusal {
     WrongLength,
     WrongVersion,
@@ -19,7 +19,7 @@ pub enum Refusal {
 }
 
 // What a check finds: nothing wrong, or the first thing that is wrong and where.
-#[derive(Drop)]
+#[derive(Clone, Copy)]
 pub enum Check {
     Passed,
     Refused { why: Refusal, place: u16 },

@@ -19,7 +19,7 @@ use sensor::state::own_sensor;
 const MOST_GROUPS: usize = 256;
 
 // How far a change is played, and the code and the place that then end it.
-#[derive(Drop)]
+#[derive(Clone, Copy)]
 pub struct Reach {
     pub count: u32,
     pub code: u8,

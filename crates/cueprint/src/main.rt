@@ -2,6 +2,8 @@
 // w, it reads a wall list; with one that begins with p, it prints the phase too, at the start, after each timer and each input, and at the end.
 //
 // Both are played to a pair: to one whose sensor does nothing a cue file is what it is to the actuator alone.
+#![tactic(auto)]
+
 mod lines;
 mod play;
 

@@ -16,7 +16,7 @@ use rules::state::State;
 use sensor::state::Sensor;
 
 // Both states after something was played, and how many records that printed.
-#[derive(Drop)]
+#[derive(Clone, Copy)]
 struct Played {
     state: State,
     sensor: Sensor,

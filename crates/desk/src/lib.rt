@@ -1,4 +1,6 @@
 // The live calls from C, in lent memory: a state goes in and comes out as its image, records and answers as octets, the report as one number.
+#![tactic(auto)]
+
 ghost use Rattle.std.specs.Prelude.{◌≡◌};
 ghost use Rattle.rules.specs.Live.{refused_number};
 

@@ -1,4 +1,6 @@
 // The image of a state: how it is read, how it is written, and which octets are one.
+#![tactic(auto)]
+
 ghost use Rattle.std.specs.Prelude.{◌≡◌, length};
 ghost use Rattle.rules.specs.Images.{image_size, state_in, is_image};
 

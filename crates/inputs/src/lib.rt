@@ -1,4 +1,6 @@
 // Inputs: eight octets, with a stamp, a kind and a value, and what they carry once they are known.
+#![tactic(auto)]
+
 ghost use Rattle.std.specs.Prelude.{◌≡◌, ◌+◌, ◌≤◌, true, length};
 ghost use Rattle.rules.specs.declared.input.Decoded.TheVariants.{Meant};
 ghost use Rattle.rules.specs.Layout.{input_size};

@@ -22,7 +22,7 @@ use sensor::state::Sensor;
 use timers::clock::move_clock;
 
 // What an item came to.
-#[derive(Drop)]
+#[derive(Clone, Copy)]
 pub struct JointStep {
     pub state: State,
     pub sensor: Sensor,

@@ -15,7 +15,7 @@ use rules::phase::Phase;
 use rules::state::{Link, State};
 
 // All of a state but the parameters, which never change, and the scene table, which changes by learning alone.
-#[derive(Drop)]
+#[derive(Clone, Copy)]
 pub struct Lamp {
     pub clock: u32,
     pub night: bool,

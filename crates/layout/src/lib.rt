@@ -1,5 +1,7 @@
 // Where the parts of a cue file stand and how long they are, for all code, by the row of the file's version. (What a record takes:
 // `buffers`; the places inside the header and an input: where they are read; the buffer of `cueprint` repeats the length of the longest file.)
+#![tactic(auto)]
+
 ghost use Rattle.std.specs.Prelude.{◌≡◌, ◌+◌, ◌*◌, ◌≤◌, ◌<◌, length};
 ghost use Rattle.rules.specs.Forms.{width, form_of, is_version, form_in};
 ghost use Rattle.rules.specs.Layout.{time_place, modes_at, scenes_at, scene_place, flags_place, parameters_size, form_alone, inputs_at, input_place, file_size};

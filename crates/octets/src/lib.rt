@@ -1,4 +1,6 @@
 // Numbers in octets, most significant octet first.
+#![tactic(auto)]
+
 ghost use Rattle.std.specs.Prelude.{◌≡◌, ◌+◌, ◌*◌, ◌≤◌, ◌<◌, length};
 ghost use Rattle.octets.specs.BigEndian.{be16, be32, octets32};
 ghost use Rattle.octets.specs.Splice.{splice};

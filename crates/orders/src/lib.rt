@@ -1,6 +1,8 @@
 // What an input does, where nothing stops it: to the light, to what outranks the light, and to the scene table; and what a value changes that
 // is only noted. The order is chosen by the number of its kind; what it does to the phase is told by a small function for each order
 // (phases::order).
+#![tactic(auto)]
+
 ghost use Rattle.std.specs.Prelude.{◌≡◌, true, false, List};
 ghost use Rattle.rules.specs.declared.parameters.Scene.{Scene};
 ghost use Rattle.rules.specs.Orders.{order, noted};

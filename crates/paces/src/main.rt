@@ -29,6 +29,8 @@
 //
 // Octets are hexadecimal digits, in groups of eight; the report behind > is decimal, 0 where a call gives no answer or count. A record is its
 // stamp in four octets, its value, its attributes, its cause.
+#![tactic(auto)]
+
 mod alone;
 mod play;
 mod read;

@@ -8,7 +8,7 @@ use sensor::action::Action;
 use sensor::state::{Sensor, fresh_with};
 
 // The image of a state, and a sensor: its four actions, its clock in four octets, its value.
-#[derive(Drop)]
+#[derive(Clone, Copy)]
 pub(crate) struct Pair {
     pub state: [u8; 56],
     pub sensor: [u8; 9],

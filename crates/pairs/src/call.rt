@@ -4,7 +4,7 @@ use rules::state::State;
 use sensor::state::Sensor;
 
 // One input: what a single input gives, the sensor, and what it sent, in eight octets, all zero where it sent nothing.
-#[derive(Drop)]
+#[derive(Clone, Copy)]
 pub struct Joint {
     pub state: State,
     pub sensor: Sensor,
@@ -17,7 +17,7 @@ pub struct Joint {
 }
 
 // A clock move.
-#[derive(Drop)]
+#[derive(Clone, Copy)]
 pub struct JointMove {
     pub state: State,
     pub sensor: Sensor,
@@ -28,7 +28,7 @@ pub struct JointMove {
 }
 
 // The run over a wall list.
-#[derive(Drop)]
+#[derive(Clone, Copy)]
 pub struct WallRan {
     pub state: State,
     pub sensor: Sensor,

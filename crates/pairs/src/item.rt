@@ -3,7 +3,7 @@ use rules::input::Input;
 use sensor::signal::Edge;
 
 // An input of the actuator, or an edge of one of the sensor's buttons.
-#[derive(Drop)]
+#[derive(Clone, Copy)]
 pub enum Item {
     Plain(Input),
     Button1(Edge),
@@ -11,7 +11,7 @@ pub enum Item {
 }
 
 // What eight octets mean in a joined list.
-#[derive(Drop)]
+#[derive(Clone, Copy)]
 pub enum Read {
     Known(Item),
     Unknown,

@@ -19,7 +19,7 @@ use timers::clock::{is_due, run_timer};
 use turns::turn::{Asked, turn_at};
 
 // Where playing has come to: the state, the sensor, which has heard the first so many records, and how many records stand in the buffer.
-#[derive(Drop)]
+#[derive(Clone, Copy)]
 pub struct Reached {
     pub state: State,
     pub sensor: Sensor,
@@ -28,7 +28,7 @@ pub struct Reached {
 }
 
 // What a clock move leaves: the lamp, and how many records stand in the buffer.
-#[derive(Drop)]
+#[derive(Clone, Copy)]
 pub struct Moment {
     pub lamp: Lamp,
     pub count: u32,

@@ -7,14 +7,14 @@ use crate::status::{record_of, same_status};
 use lamps::lamp::Lamp;
 use rules::record::Record;
 
-#[derive(Drop)]
+#[derive(Clone, Copy)]
 pub struct Notes {
     pub count: u8,
     pub records: [Record; 3],
 }
 
 // What a timer or an input wrote.
-#[derive(Drop)]
+#[derive(Clone, Copy)]
 pub enum Note {
     Silent,
     Wrote(Record),

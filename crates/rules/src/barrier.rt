@@ -1,7 +1,7 @@
 // What may stop an input.
 
 // The barriers of one kind of input: power down, bus down, lock, force.
-#[derive(Drop)]
+#[derive(Clone, Copy)]
 pub struct Row {
     pub power: bool,
     pub bus: bool,
@@ -10,7 +10,7 @@ pub struct Row {
 }
 
 // Why an input is stopped.
-#[derive(Drop)]
+#[derive(Clone, Copy)]
 pub enum Why {
     NoPower,
     NoBus,
@@ -19,7 +19,7 @@ pub enum Why {
 }
 
 // What an input meets: nothing, a barrier that notes it, or the first that stops it.
-#[derive(Drop)]
+#[derive(Clone, Copy)]
 pub enum Barrier {
     Open,
     Notes,

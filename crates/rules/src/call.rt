@@ -3,7 +3,7 @@ use crate::record::Record;
 use crate::state::State;
 
 // The fresh state from parameters alone.
-#[derive(Drop)]
+#[derive(Clone, Copy)]
 pub struct Fresh {
     pub state: State,
     pub code: u8,
@@ -11,7 +11,7 @@ pub struct Fresh {
 }
 
 // A single input: at most three records, the unused ones 0.
-#[derive(Drop)]
+#[derive(Clone, Copy)]
 pub struct Single {
     pub state: State,
     pub code: u8,
@@ -22,7 +22,7 @@ pub struct Single {
 }
 
 // A clock move: at most two records, the unused ones 0.
-#[derive(Drop)]
+#[derive(Clone, Copy)]
 pub struct Move {
     pub state: State,
     pub code: u8,
@@ -32,7 +32,7 @@ pub struct Move {
 }
 
 // The run over a cue file, and a change. The records and the answers are in the lent buffers.
-#[derive(Drop)]
+#[derive(Clone, Copy)]
 pub struct Ran {
     pub state: State,
     pub code: u8,

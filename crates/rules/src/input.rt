@@ -1,7 +1,7 @@
 // An input is one of eight kinds, each with its own value.
 
 // What SwitchOnOffForced asks for, and the force that stands.
-#[derive(Drop)]
+#[derive(Clone, Copy)]
 pub enum Force {
     Free,
     Off,
@@ -9,13 +9,13 @@ pub enum Force {
 }
 
 // What happens to the bus or to the power.
-#[derive(Drop)]
+#[derive(Clone, Copy)]
 pub enum Event {
     Failure,
     Return,
 }
 
-#[derive(Drop)]
+#[derive(Clone, Copy)]
 pub enum Input {
     SwitchOnOff(bool),
     TimedStartStop(bool),
@@ -29,7 +29,7 @@ pub enum Input {
 }
 
 // What a kind octet and a value octet mean.
-#[derive(Drop)]
+#[derive(Clone, Copy)]
 pub enum Decoded {
     Meant(Input),
     Wrong,

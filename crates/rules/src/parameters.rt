@@ -1,7 +1,7 @@
 // The parameters of an actuator and its scene table, as read from the octets of either version.
 
 // The version of the file that they are of, and by which they are judged. The four times are in tenths of a second; the modes have the numbers of the file.
-#[derive(Drop)]
+#[derive(Clone, Copy)]
 pub struct Params {
     pub version: u8,
     pub ondelay: u32,
@@ -17,7 +17,7 @@ pub struct Params {
 }
 
 // One of eight entries: the scene's number (255: unused), the output that it recalls, and whether it was taught in.
-#[derive(Drop)]
+#[derive(Clone, Copy)]
 pub struct Scene {
     pub number: u8,
     pub value: bool,
@@ -25,7 +25,7 @@ pub struct Scene {
 }
 
 // What recalling a scene number asks for.
-#[derive(Drop)]
+#[derive(Clone, Copy)]
 pub enum Recalled {
     Nothing,
     Output(bool),

@@ -1,5 +1,5 @@
 // The phases of the output. A phase that becomes another by itself carries the moment at which it does, its deadline.
-#[derive(Drop)]
+#[derive(Clone, Copy)]
 pub enum Phase {
     Dark,
     Lit,
@@ -10,7 +10,7 @@ pub enum Phase {
     Ending(u32),
 }
 
-#[derive(Drop)]
+#[derive(Clone, Copy)]
 pub enum Deadline {
     Never,
     At(u32),

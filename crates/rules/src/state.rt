@@ -5,14 +5,14 @@ use crate::input::Force;
 use crate::parameters::{Params, Scene};
 use crate::phase::Phase;
 
-#[derive(Drop)]
+#[derive(Clone, Copy)]
 pub enum Link {
     Up,
     BusDown,
     PowerDown,
 }
 
-#[derive(Drop)]
+#[derive(Clone, Copy)]
 pub struct State {
     pub params: Params,
     pub scenes: [Scene; 8],

@@ -5,7 +5,7 @@ ghost use Rattle.sensor.specs.Actions.{action_of, bad_action, check_actions};
 use base::refusal::{Check, Refusal};
 
 // What an edge does (DPT_PBAction).
-#[derive(Drop)]
+#[derive(Clone, Copy)]
 pub enum Action {
     Nothing,
     SendOff,

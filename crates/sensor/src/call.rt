@@ -12,7 +12,7 @@ use base::refusal::{Check, Refusal, number_of};
 use octets::group::stamp_at;
 
 // What four octets of actions give.
-#[derive(Drop)]
+#[derive(Clone, Copy)]
 pub struct FreshSensor {
     pub sensor: Sensor,
     pub code: u8,
@@ -20,7 +20,7 @@ pub struct FreshSensor {
 }
 
 // What one input gives: at most one switch input, in eight octets, all zero where nothing is sent.
-#[derive(Drop)]
+#[derive(Clone, Copy)]
 pub struct Sensed {
     pub sensor: Sensor,
     pub code: u8,

@@ -8,13 +8,13 @@ use crate::state::Sensor;
 use base::logic::negated;
 
 // What is sent, if anything.
-#[derive(Drop)]
+#[derive(Clone, Copy)]
 pub enum Telegram {
     Silent,
     Switch(bool),
 }
 
-#[derive(Drop)]
+#[derive(Clone, Copy)]
 pub struct Reaction {
     pub sensor: Sensor,
     pub telegram: Telegram,

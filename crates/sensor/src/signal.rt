@@ -5,13 +5,13 @@ ghost use Rattle.sensor.specs.Signals.{edge_of, signalled, signal_at};
 
 use octets::group::ends_in_zeros;
 
-#[derive(Drop)]
+#[derive(Clone, Copy)]
 pub enum Edge {
     Falling,
     Rising,
 }
 
-#[derive(Drop)]
+#[derive(Clone, Copy)]
 pub enum Signal {
     Button1(Edge),
     Button2(Edge),
@@ -19,7 +19,7 @@ pub enum Signal {
 }
 
 // What eight octets mean.
-#[derive(Drop)]
+#[derive(Clone, Copy)]
 pub enum Signalled {
     Meant(Signal),
     Wrong,

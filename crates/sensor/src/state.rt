@@ -5,7 +5,7 @@ ghost use Rattle.sensor.specs.Sensors.{fresh_sensor, own_sensor, sound_sensor};
 use crate::action::{Action, action_of};
 use base::moment::LAST_STAMP;
 
-#[derive(Drop)]
+#[derive(Clone, Copy)]
 pub struct Sensor {
     pub rising1: Action,
     pub falling1: Action,

@@ -6,7 +6,7 @@ use rules::parameters::{Recalled, Scene};
 use rules::phase::Phase;
 use scenes::table::recalls;
 
-#[derive(Drop)]
+#[derive(Clone, Copy)]
 pub enum Wish {
     Nothing,
     On,

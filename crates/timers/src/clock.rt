@@ -18,21 +18,21 @@ use rules::phase::{Deadline, Phase};
 use rules::state::State;
 
 // What one timer leaves: a phase, and the record of it.
-#[derive(Drop)]
+#[derive(Clone, Copy)]
 pub struct Timer {
     pub phase: Phase,
     pub note: Note,
 }
 
 // What timers leave: a phase, and the records that they wrote. All else of a lamp but its clock stays.
-#[derive(Drop)]
+#[derive(Clone, Copy)]
 pub struct Ticked {
     pub phase: Phase,
     pub notes: Notes,
 }
 
 // A state whose clock has moved, and the records that its timers wrote.
-#[derive(Drop)]
+#[derive(Clone, Copy)]
 pub struct Clocked {
     pub state: State,
     pub notes: Notes,

@@ -15,14 +15,14 @@ use sensor::signal::{Signal, Signalled, signal_at};
 use sensor::state::Sensor;
 
 // What an item asks of the actuator: an input, by its kind and value, or nothing.
-#[derive(Drop)]
+#[derive(Clone, Copy)]
 pub enum Asked {
     Nothing,
     Order(u8, u8),
 }
 
 // What its turn comes to: what it asks, and the sensor, which has heard the first so many records.
-#[derive(Drop)]
+#[derive(Clone, Copy)]
 pub struct Turn {
     pub asked: Asked,
     pub sensor: Sensor,

@@ -1,4 +1,6 @@
 // The version of the calls for C: which header an archive belongs to, and which cue files it reads.
+#![tactic(auto)]
+
 ghost use Rattle.std.specs.Prelude.{◌≡◌};
 ghost use Rattle.version.specs.Versions.{house_version};
 

@@ -1,5 +1,7 @@
 // A wall list, a cue file in which edges of push buttons stand among the inputs and the actions of these edges after it: its parts, and
 // what it is refused for.
+#![tactic(auto)]
+
 ghost use Rattle.std.specs.Prelude.{◌≡◌, ◌≤◌, length};
 ghost use Rattle.rules.specs.Readings.{verdict};
 ghost use Rattle.pairs.specs.Walls.{actions_size, file_in, actions_in, read_wall};
