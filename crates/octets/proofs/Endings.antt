@@ -23,4 +23,7 @@ module _ (octets : List ℕ) (at : ℕ) where
 
   -- "6-7 zero"
   pub zeros_exactly_when : (ends_in_zeros octets at ≡ true) ↔ ((track_at octets at ≡ 0) × (octet octets (at + 7) ≡ 0))
-  zeros_exactly_when = (λ e. let h = (ends_exactly_when 0).0 e in (omega (arith, h.0), h.1), λ g. (ends_exactly_when 0).1 (omega (arith, g.0), g.1))
+  zeros_exactly_when = (
+    λ e. let h = halves (eqb (track_at octets at) 0) (eqb (octet octets (at + 7)) 0) e in (eqb-true _ _ h.0, eqb-true _ _ h.1),
+    λ g. simp (eq-eqb (track_at octets at) 0 g.0, eq-eqb (octet octets (at + 7)) 0 g.1),
+  )

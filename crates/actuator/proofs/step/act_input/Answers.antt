@@ -1,0 +1,33 @@
+use Rattle.rules.proofs.Laws.Inputs.{kind_range}
+use Rattle.rules.specs.Barriers.{barrier}
+use Rattle.actuator.specs.Acts.{dropped_by}
+use Rattle.actuator.proofs.Taken.{dropped_leaves, acting_by_parts}
+use mathlib.Core.Path.{sym, ◌∙◌}
+use Rattle.actuator.proofs.step.act_input.Goals as goal
+
+pub fate_of-f-requires : goal.fate_of-f-requires
+fate_of-f-requires c = rw c.kind_of.ensures (kind_range c.args.i)
+
+pub take-d-requires : goal.take-d-requires
+unfolding barrier
+take-d-requires c =
+    (rw c.lamp_of-l.ensures c.requires, rw (← c.kind_of.ensures) (sym c.fate_of-f.ensures ∙ c.in-Counts.is))
+
+pub scenes_after-requires : goal.scenes_after-requires
+unfolding barrier
+scenes_after-requires c = (c.in-Counts.noted, rw (← c.kind_of.ensures) (sym c.fate_of-f.ensures ∙ c.in-Counts.is))
+
+pub returns-in-Dropped : goal.returns-in-Dropped
+unfolding barrier dropped_by
+returns-in-Dropped c =
+    let a = c.args in
+    let drops = rw (c.kind_of.ensures, c.lamp_of-l.ensures) at (sym c.fate_of-f.ensures ∙ c.in-Dropped.is) in
+    let left = dropped_leaves a.s a.i _ drops in
+    acting_by_parts a.s a.i (dropped_by a.s _) _ left.0 left.1
+
+pub returns-in-Counts : goal.returns-in-Counts
+returns-in-Counts c =
+    let a = c.args in
+    let l = c.lamp_of-l.ensures in
+    rw c.state_of.ensures
+    (acting_by_parts a.s a.i _ _ (rw l at c.take-d.ensures) (rw l at c.scenes_after.ensures))

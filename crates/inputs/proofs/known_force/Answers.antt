@@ -1,0 +1,15 @@
+use Rattle.rules.specs.Inputs.{force_of}
+use borrow.Author.Tests.{ne_eqb}
+use Rattle.inputs.proofs.known_force.Goals as goal
+
+pub returns-in-2 : goal.returns-in-2
+unfolding force_of
+returns-in-2 c = simp c.in-2.is
+
+pub returns-in-3 : goal.returns-in-3
+unfolding force_of
+returns-in-3 c = simp c.in-3.is
+
+pub returns-in_default : goal.returns-in_default
+unfolding force_of
+returns-in_default c = simp (ne_eqb _ _ c.in_default.rest.1, ne_eqb _ _ c.in_default.rest.0.1)

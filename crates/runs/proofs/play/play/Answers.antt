@@ -1,0 +1,68 @@
+use mathlib.Core.Path.{◌≡◌, refl, ◌∙◌}
+use native.Mathlib.Omega.{arith}
+use Rattle.octets.specs.Splice.{splice}
+use Rattle.rules.specs.Runs.{record_octets}
+use Rattle.rules.specs.Status.{record_of}
+use Rattle.phases.proofs.Rooms.{sound_room}
+use Rattle.pairs.specs.Pairs.{pair_of}
+use Rattle.turns.specs.Turns.{listened}
+use Rattle.player.specs.Playing.{Ready}
+use Rattle.rules.specs.Files.{input_count, inputs_in}
+use Rattle.runs.specs.Runs.{fresh_in}
+use Rattle.timers.proofs.Moves.{moved_few}
+use Rattle.runs.proofs.Ends.{record-alone, fit_ready, ended, filled_is_accepted}
+use Rattle.runs.proofs.play.play.Goals as goal
+
+-- the start record stands at the head of the buffer
+begun : (c : tie.After-put-record) → let a = c.before.before.before.before.before.before.before.before.before.before.before.args in c.put_record.new.0 ≡ splice a.records.now 0 (record_octets (record_of 0 (fresh_in a.file.now)))
+begun c =
+    c.put_record.ensures
+    ∙ rw (c.before.record_of.ensures, c.before.before.lamp-of.ensures, c.before.before.before.before.Fresh-in.ensures) (rw (record-alone 0 (fresh_in _)) refl)
+
+-- the fresh pair is sound, and the items are in order from there on
+ready : (c : tie.After-put-record) → let a = c.before.before.before.before.before.before.before.before.before.before.before.args in Ready (inputs_in a.file.now) (input_count a.file.now) (pair_of c.before.before.before.before.Fresh-in.result (listened c.put_record.new.0 1 a.first 0))
+ready c = rw c.before.before.before.before.Fresh-in.ensures (fit_ready _ _ _ _ (begun c) c.before.before.before.before.before.before.before.before.before.before.before.requires.0)
+
+pub fresh_in-start-requires : goal.fresh_in-start-requires
+fresh_in-start-requires c = rw c.form_in-form.ensures (refl, c.requires.0.start.header.enough.long)
+
+pub inputs_in-requires : goal.inputs_in-requires
+inputs_in-requires c = rw c.form_in-form.ensures (refl, c.requires.0.start.header.enough.long)
+
+pub play_items-played-requires : goal.play_items-played-requires
+play_items-played-requires c =
+    let n = c.input_count-n.ensures in
+    let room = c.requires in
+    (rw (c.inputs_in.ensures, n) (ready (?? c.before.before.before.before.before)), omega arith, omega (arith, n, c.put_record.auto.0, room.1), rw n room.2)
+
+pub move_clock-last-requires : goal.move_clock-last-requires
+move_clock-last-requires c = sound_room _ _ c.play_items-played.ensures.safe (omega (arith, c.end_time-end.ensures, c.requires.0.start.header.layout.end))
+
+pub put_notes-requires : goal.put_notes-requires
+put_notes-requires c =
+    let items = c.play_items-played in
+    let few = moved_few _ _ _ c.move_clock-last.ensures in
+    let n = c.input_count-n.ensures in
+    (omega (arith, few, n, items.ensures.few, (ready (?? c.before.before.before.before.before.before.before.before.before.before.before.before.before.before.before.before)).few), omega (arith, few), omega (arith, few, n, items.ensures.few, items.auto.1.1.1.1.1.0, c.put_record.auto.0, c.requires.1))
+
+pub overflow_add-count : goal.overflow_add-count
+overflow_add-count c = omega (arith, moved_few _ _ _ c.move_clock-last.ensures, c.input_count-n.ensures, c.play_items-played.ensures.few, (ready (?? c.before.before.before.before.before.before.before.before.before.before.before.before.before.before.before.before.before.before.before.before.before)).few)
+
+pub listen-requires : goal.listen-requires
+listen-requires c =
+    let items = c.play_items-played in
+    let few = moved_few _ _ _ c.move_clock-last.ensures in
+    (omega (arith, items.ensures.behind), omega (arith, few, c.input_count-n.ensures, items.ensures.few, c.put_notes.auto.0, items.auto.1.1.1.1.1.0, c.put_record.auto.0, c.requires.1))
+
+pub shape_of-records : goal.shape_of-records
+shape_of-records c = c.put_notes.auto.0 ∙ c.play_items-played.auto.1.1.1.1.1.0 ∙ c.put_record.auto.0
+
+pub shape_of-answers : goal.shape_of-answers
+shape_of-answers c = c.play_items-played.auto.1.1.1.1.1.1.0
+
+pub returns : goal.returns
+returns c =
+    let items = c.play_items-played in
+    let n = c.input_count-n.ensures in
+    rw c.listen.ensures
+    (filled_is_accepted _ _ _ _ _ _ _ _ (ended _ _ _ _ (begun (?? c.before.before.before.before.before.before.before.before.before.before.before.before.before.before.before.before.before.before.before.before.before.before.before)) c.requires.0 _ _ _ _ _ _ _ _ items.ensures.behind (omega (arith, n, items.ensures.few, items.auto.1.1.1.1.1.0, c.put_record.auto.0, c.requires.1)) (rw (c.fresh_in-start.ensures, c.inputs_in.ensures, n) at items.ensures.filled) _ (rw c.end_time-end.ensures at c.move_clock-last.ensures) c.put_notes.ensures))
