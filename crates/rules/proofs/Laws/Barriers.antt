@@ -65,6 +65,7 @@ what_fits_is_first (Stopped Forced) false false false true false h = refl
 what_fits_is_first Notes false false true force true h = refl
 what_fits_is_first Notes false false false true true h = refl
 what_fits_is_first Open false false false false value h = refl
+what_fits_is_first _ _ _ _ _ _ h = elim h [ ]
 
 exactly_one_fits : (b : Barrier) (power bus lock force value : Bool) → (first power bus lock force value ≡ b) ↔ T (fits b power bus lock force value)
 exactly_one_fits b power bus lock force value =
@@ -96,6 +97,7 @@ pub record Unstopped (power bus lock force : Bool) : Type 0 where
 
 unstopped_view : (power bus lock force value : Bool) → T (fits Open power bus lock force value) → Unstopped power bus lock force
 unstopped_view false false false false value h = record { powered = refl; connected = refl; unlocked = refl; unforced = refl }
+unstopped_view _ _ _ _ value h = elim h [ ]
 
 pub open_is_unstopped : (s : State) (i : Input) → barrier s i ≡ Open → Unstopped (power_stops s i) (bus_stops s i) (lock_stops s i) (force_stops s i)
 open_is_unstopped s i way = unstopped_view _ _ _ _ (is_value i) ((taken_exactly_when s i).0 way)
@@ -111,6 +113,7 @@ pub record HeldBack (power bus hold value : Bool) : Type 0 where
 held_back_view : (power bus lock force value : Bool) → T (fits Notes power bus lock force value) → HeldBack power bus (lock || force) value
 held_back_view false false true force true h = record { powered = refl; connected = refl; held = refl; valued = refl }
 held_back_view false false false true true h = record { powered = refl; connected = refl; held = refl; valued = refl }
+held_back_view _ _ _ _ _ h = elim h [ ]
 
 pub noted_is_held_back : (s : State) (i : Input) → barrier s i ≡ Notes → HeldBack (power_stops s i) (bus_stops s i) (lock_stops s i || force_stops s i) (is_value i)
 noted_is_held_back s i way = held_back_view _ _ (lock_stops s i) (force_stops s i) _ ((noted_exactly_when s i).0 way)
@@ -146,6 +149,7 @@ pub noted_there : (s : State) (i : Input) → NotedWhere s i → barrier s i ≡
 unfolding barrier barrier_to first_barrier row_of rows sets_value held outranked
 noted_there s (SwitchOnOffForced force) w = rw (w.linked, w.locked) refl
 noted_there s (NightMode value) w = night_is_noted s.link s.lock (standing s.force) w.linked w.held
+noted_there s _ w = elim w [ ]
 
 pub noted_exactly_where : (s : State) (i : Input) → (barrier s i ≡ Notes) ↔ NotedWhere s i
 noted_exactly_where s i = (noted_where s i, noted_there s i)
@@ -158,3 +162,4 @@ noted_is_held s i way = go i (noted_where s i way)
     go : (i : Input) → NotedWhere s i → (held s ≡ true) × (held (noted s i) ≡ true)
     go (SwitchOnOffForced force) w = rw w.locked (refl, refl)
     go (NightMode value) w = (w.held, w.held)
+    go _ w = elim w [ ]

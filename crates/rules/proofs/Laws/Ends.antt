@@ -41,6 +41,7 @@ module _ (delayed : ℕ) where
   pub earliest_by : (m : ℕ) (own : Deadline) → ComesBy m own → earliest_end delayed own ≤ m
   unfolding earliest_end
   earliest_by m (At d) h = omega arith
+  earliest_by m Never h = elim h [ ]
 
   pub earliest_from : (f : ℕ) (own : Deadline) → f ≤ delayed → DueFrom f own → f ≤ earliest_end delayed own
   unfolding earliest_end
@@ -63,6 +64,7 @@ pub still_ahead : (p : Params) (t : ℕ) (phase : Phase) → Quiet t (deadline p
 still_ahead p t (Timed d) quiet h = omega arith
 still_ahead p t (Warning d) quiet h = omega arith
 still_ahead p t (Ending d) quiet h = omega arith
+still_ahead p t _ quiet h = elim h [ ]
 
 -- from then on the timers leave Dark
 dark_after : (s : State) (c m : ℕ) (phase : Phase) (none : Bool) → eqb s.params.prewarning 0 ≡ none → ComesBy m (own_end s.params phase) → (clock_move (at_moment s c phase) m).state.phase ≡ Dark
@@ -71,6 +73,7 @@ dark_after s c m (Timed d) true e h = simp (le-leb d m (omega arith), e)
 dark_after s c m (Timed d) false e h = simp (le-leb d m (omega arith), e, le-leb (d + s.params.prewarning) m h)
 dark_after s c m (Warning d) none e h = rw (le-leb d m h)
 dark_after s c m (Ending d) none e h = rw (le-leb d m h)
+dark_after s c m _ none e h = elim h [ ]
 
 -- and until then light
 lit_before : (s : State) (c t : ℕ) (phase : Phase) → output phase ≡ true → Quiet t (own_end s.params phase) → output (clock_move (at_moment s c phase) t).state.phase ≡ true

@@ -109,6 +109,7 @@ module _ (s : State) (h : Stands s) where
       go : (i : Input) → NotedWhere s i → Stands (noted s i)
       go (SwitchOnOffForced force) w = record { steady = rw w.locked (rw w.locked at h.steady); decided = rw w.locked; clear = rw w.linked }
       go (NightMode value) w = record { steady = h.steady; decided = h.decided; clear = rw w.linked }
+      go _ w = elim w [ ]
 
 pub order_fits : (s : State) → Times s.params → Fits s → (i : Input) → barrier s i ≡ Open → Fits (order s i)
 order_fits s n f i way =

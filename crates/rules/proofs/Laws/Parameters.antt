@@ -70,6 +70,10 @@ one_answer f octets (Refused WrongLength place) (Refused BadParameter other) a b
 one_answer f octets (Refused BadParameter place) Passed a b = clash f octets place a.bad (b.good place a.within)
 one_answer f octets (Refused BadParameter place) (Refused WrongLength other) a b = absurd (b.1 a.whole)
 one_answer f octets (Refused BadParameter place) (Refused BadParameter other) a b = ap (Refused BadParameter) (same_place f octets place other a b)
+one_answer f octets Passed _ a b = elim b [ ]
+one_answer f octets (Refused WrongLength place) _ a b = elim b [ ]
+one_answer f octets (Refused BadParameter place) _ a b = elim b [ ]
+one_answer f octets _ y a b = elim a [ ]
 
 -- an answer is given exactly when it fits: the answer given fits, and no other does
 pub lowest_bad_octet : (f : Form) (octets : List ℕ) (x : Check) → (check_parameters f octets ≡ x) ↔ FoundWhen f octets x

@@ -204,3 +204,4 @@ a_noted_value_changes_nothing_else s i way = go i (noted_where s i way)
     go : (i : Input) → NotedWhere s i → OnlyItsValue s i (noted s i)
     go (SwitchOnOffForced force) w = record { leaves = record { params = refl; clock = refl; scenes = refl; flags = refl }; phase = refl }
     go (NightMode value) w = record { leaves = record { params = refl; clock = refl; scenes = refl; flags = refl }; phase = refl }
+    go _ w = elim w [ ]

@@ -65,17 +65,20 @@ repeated_off_changes_nothing : (p : Params) (m u : ℕ) (phase : Phase) → m �
 unfolding off earliest_end
 repeated_off_changes_nothing p m u Dark later h quiet = refl
 repeated_off_changes_nothing p m u (Ending d) later h quiet = rw (ne_eqb p.offdelay 0 (λ none. omega arith)) (ap Ending (omega arith))
+repeated_off_changes_nothing p m u _ later h quiet = elim h [ ]
 
 -- a timer keeps it so
 timer_fades : (p : Params) (night : Bool) (m : ℕ) (phase : Phase) → Fades m phase → Fades m (at_deadline p night phase)
 unfolding at_deadline
 timer_fades p night m Dark h = tt
 timer_fades p night m (Ending d) h = tt
+timer_fades p night m _ h = elim h [ ]
 
 -- and so does an order that neither brings light nor overrides: what fades has no light left to wait for, and ends by itself
 fading_ends : (p : Params) (m : ℕ) (phase : Phase) → output phase ≡ true → Fades m phase → ComesBy m (own_end p phase)
 fading_ends p m Dark lit h = no lit
 fading_ends p m (Ending d) lit h = h
+fading_ends p m _ lit h = elim h [ ]
 
 made_fades : {p : Params} {t : ℕ} {night before now : Bool} {Bright Holds Dims : Type 0} {phase after : Phase} (m : ℕ) → (Bright → ⊥) → (Holds → ⊥) → Fades m phase →
     Makes p t night before now Bright Holds Dims phase after → Fades m after
@@ -115,6 +118,7 @@ fading_is_dark : (s : State) (m u : ℕ) (phase : Phase) → m ≤ u → Fades m
 unfolding clock_move ticked tick tick_at
 fading_is_dark s m u Dark later h = refl
 fading_is_dark s m u (Ending d) later h = (ends_by_itself (at_moment s s.clock (Ending d))).after u d (refl) (omega arith)
+fading_is_dark s m u _ later h = elim h [ ]
 
 heard_is_dark : (s : State) (m u : ℕ) → m ≤ u → Heard m s → output (clock_move s u).state.phase ≡ false
 heard_is_dark s m u later h = ap output (fading_is_dark s m u s.phase later h.fades)
@@ -125,6 +129,7 @@ module _ (s : State) (m : ℕ) (h : Heard m s) where
   bus_is_up : (i : Input) → overrides i ≡ false → T (bus_on s i) → ⊥
   bus_is_up (Bus Failure) calm on = no (sym calm)
   bus_is_up (Bus Return) calm on = rw h.linked at on
+  bus_is_up _ calm on = elim on [ ]
 
   unlit : (i : Input) → overrides i ≡ false → lights s i ≡ false → Brightens s i → ⊥
   unlit i calm dark (lighting e) = no (sym dark ∙ e)

@@ -77,15 +77,18 @@ module _ (unstopped : Bool) (d : ℕ) (timed : Bool) where
   behind_is_dark : (phase : Phase) → Behind unstopped d timed phase → output phase ≡ false
   behind_is_dark Dark h = refl
   behind_is_dark (Starting other e) h = refl
+  behind_is_dark _ h = elim h [ ]
 
   behind_is_quiet : (t : ℕ) (phase : Phase) → t < d → Behind unstopped d timed phase → Quiet t (deadline phase)
   behind_is_quiet t Dark early h = tt
   behind_is_quiet t (Starting other e) early h = omega (arith, h.0)
+  behind_is_quiet t _ early h = elim h [ ]
 
   night_falls_behind : (p : Params) (t : ℕ) (phase : Phase) → Behind unstopped d timed phase → Behind unstopped d timed (night_falls p t phase)
   unfolding night_falls
   night_falls_behind p t Dark h = tt
   night_falls_behind p t (Starting other e) h = h
+  night_falls_behind p t _ h = elim h [ ]
 
   -- an order that finds it so at t waits for the whole on delay, and d is within that
   module _ (p : Params) (t : ℕ) (early : t < d) (within : d ≤ t + p.ondelay) where
@@ -93,11 +96,13 @@ module _ (unstopped : Bool) (d : ℕ) (timed : Bool) where
     unfolding from_dark on
     on_behind night held Dark h = rw (ne_eqb p.ondelay 0 (λ none. omega arith)) (within, λ stops e. no e)
     on_behind night held (Starting other e) h = (h.0, λ stops e. no e)
+    on_behind night held _ h = elim h [ ]
 
     timed_start_behind : (phase : Phase) → Behind unstopped d timed phase → Behind unstopped d true (timed_start p t phase)
     unfolding from_dark timed_start
     timed_start_behind Dark h = rw (ne_eqb p.ondelay 0 (λ none. omega arith)) (within, λ stops e. refl)
     timed_start_behind (Starting other e) h = (h.0, λ stops e. refl)
+    timed_start_behind _ h = elim h [ ]
 
 -- an Off leaves it Dark at once
 off_in_the_dark : (p : Params) (t : ℕ) (phase : Phase) → output phase ≡ false → off p t phase ≡ Dark
@@ -110,6 +115,7 @@ unfolding timed_stop
 steady_stop_behind unstopped p t d Dark h = tt
 steady_stop_behind unstopped p t d (Starting true e) h = rw (off_in_the_dark p t (Starting true e) refl) tt
 steady_stop_behind unstopped p t d (Starting false e) h = h
+steady_stop_behind unstopped p t d _ h = elim h [ ]
 
 -- and ends a timed one, and what is behind it
 timed_stop_behind : (unstopped : Bool) (p : Params) (t d : ℕ) (phase : Phase) → unstopped ≡ false → Behind unstopped d true phase → timed_stop p t phase ≡ Dark
@@ -117,6 +123,7 @@ unfolding timed_stop
 timed_stop_behind unstopped p t d Dark stops h = refl
 timed_stop_behind unstopped p t d (Starting true e) stops h = off_in_the_dark p t (Starting true e) refl
 timed_stop_behind unstopped p t d (Starting false e) stops h = no (h.1 stops refl)
+timed_stop_behind unstopped p t d _ stops h = elim h [ ]
 
 -- ---- the state without the order
 
@@ -403,6 +410,7 @@ module _ (p : Params) (night held : Bool) (t d : ℕ) where
   on_leaves (Timed e) h = absurd (lit_waits_for_nothing p (night && not held) t d h)
   on_leaves (Warning e) h = absurd (lit_waits_for_nothing p (night && not held) t d h)
   on_leaves (Ending e) h = absurd (lit_waits_for_nothing p (night && not held) t d h)
+  on_leaves Lit h = elim h [ ]
 
   on_found : (phase : Phase) → Waits d (on p night held t phase) → Behind false d false phase
   unfolding from_dark on set_on
@@ -411,6 +419,7 @@ module _ (p : Params) (night held : Bool) (t d : ℕ) where
   on_found (Timed e) h = absurd (lit_waits_for_nothing p (night && not held) t d h)
   on_found (Warning e) h = absurd (lit_waits_for_nothing p (night && not held) t d h)
   on_found (Ending e) h = absurd (lit_waits_for_nothing p (night && not held) t d h)
+  on_found Lit h = elim h [ ]
 
 -- a timed start leaves a timed one
 timed_start_leaves : (p : Params) (t d : ℕ) (phase : Phase) → Waits d (timed_start p t phase) → timed_start p t phase ≡ Starting true d
@@ -419,11 +428,13 @@ timed_start_leaves p t d Dark h =
     cond_case (λ (x : Phase). Waits d x → x ≡ Starting true d) (eqb p.ondelay 0) (Timed (t + p.timedon)) (Starting true (t + p.ondelay))
     (λ none w. absurd w) (λ some w. ap (Starting true) w) h
 timed_start_leaves p t d (Starting timed e) h = ap (Starting true) h
+timed_start_leaves p t d _ h = elim h [ ]
 
 timed_start_found : (p : Params) (t d : ℕ) (phase : Phase) → Waits d (timed_start p t phase) → Behind true d true phase
 unfolding from_dark timed_start
 timed_start_found p t d Dark h = tt
 timed_start_found p t d (Starting timed e) h = (omega arith, λ stops. no (sym stops))
+timed_start_found p t d _ h = elim h [ ]
 
 -- only for a timed start it matters that no timed stop follows
 abbrev is_timed : Input → Bool

@@ -61,6 +61,7 @@ Waits d (Ending e) = ⊥
 
 waits_awaited : (d : ℕ) (phase : Phase) → Waits d phase → (awaited phase ≡ true) × (output phase ≡ false)
 waits_awaited d (Starting timed e) h = (refl, refl)
+waits_awaited d _ h = elim h [ ]
 
 made_waits : {p : Params} {t : ℕ} {night before now : Bool} {Bright Holds Dims : Type 0} {phase after : Phase} (d : ℕ) → (Dims → ⊥) → Waits d phase →
     Makes p t night before now Bright Holds Dims phase after → Waits d after
@@ -76,6 +77,7 @@ made_waits d undimmed h (night_ends_lem x e day) = rw e at h
 
 not_yet_due : (t d : ℕ) (phase : Phase) → t < d → Waits d phase → Quiet t (deadline phase)
 not_yet_due t d (Starting timed e) early h = omega arith
+not_yet_due t d _ early h = elim h [ ]
 
 step_waits : (s : State) (i : Input) (t d : ℕ) → t < d → Waits d s.phase → (Taken (turn s t i) → dims (clock_move s t).state i ≡ false) → Waits d (step s i t).state.phase
 step_waits s i t d early waits undimmed =
@@ -86,10 +88,12 @@ step_waits s i t d early waits undimmed =
 
 waits_until : (d : ℕ) (phase : Phase) → Waits d phase → deadline phase ≡ At d
 waits_until d (Starting timed e) h = ap At h
+waits_until d _ h = elim h [ ]
 
 ends_in_light : (p : Params) (night : Bool) (d : ℕ) (phase : Phase) → 1 ≤ p.timedon → Waits d phase → LitAt d (at_deadline p night phase)
 unfolding at_deadline
 ends_in_light p night d (Starting timed e) some h = rw h (lit_lasts p (timed || night) d some)
+ends_in_light p night d _ some h = elim h [ ]
 
 pub comes_on : (s : State) (d : ℕ) → 1 ≤ s.params.timedon → Waits d s.phase → output (clock_move s d).state.phase ≡ true
 comes_on s d some waits =

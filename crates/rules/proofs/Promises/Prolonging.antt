@@ -53,6 +53,7 @@ module _ (s : State) (m : ℕ) (over : Over m s) where
       go : (i : Input) → NotedWhere s i → Over m (noted s i)
       go (SwitchOnOffForced force) w = rw w.locked (rw w.locked at over)
       go (NightMode value) w = rw (w.held, and-false value) (rw (w.held, and-false s.night) at over)
+      go _ w = elim w [ ]
 
 -- ---- a step
 

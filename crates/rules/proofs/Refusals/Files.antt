@@ -166,6 +166,7 @@ begins file =
         refused : (why : Refusal) → FoundWhen (form_in file) (parameters_in file) (Refused why place) → StartWhen file why place
         refused WrongLength g = absurd (g.1 (parameters_whole file header.enough.long))
         refused BadParameter g = (header, g)
+        refused _ g = elim g [ ]
 
     from : LongEnough file → Begins file (cond (eqb (actuators file) 1) (cond (layout_right file) (check_parameters (form_in file) (parameters_in file)) (Refused WrongLayout 0)) (Refused WrongActuators 0))
     from enough =
@@ -188,6 +189,7 @@ start_decides file =
     by WrongActuators p g = other_actuators file g.1 g.2 ∙ rw g.0
     by WrongLayout p g = other_layout file g.1 g.2 (layout_false file g.3) ∙ rw g.0
     by BadParameter p g = good_header file g.0 ∙ (lowest_bad_octet (form_in file) (parameters_in file) (Refused BadParameter p)).1 g.1
+    by _ p g = elim g [ ]
 
 -- ---- the whole file
 

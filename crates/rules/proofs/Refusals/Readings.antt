@@ -184,6 +184,7 @@ module _ {A : Type 0} (at : ℕ → Option A) (inputs : List ℕ) (n from to : �
   -- one that means something is ended by its stamp alone
   ends BadStamp place g =
       first_ends BadStamp place n 0 (omega arith) (omega (arith, g.within)) g.good (λ later. unfold read_one in rw (g.means, not_in_range _ _ _ g.untimely))
+  ends _ place g = elim g [ ]
 
   -- these many of a list, from index i on
   record SaysFrom (i left : ℕ) (list : List A) : Type 0 where

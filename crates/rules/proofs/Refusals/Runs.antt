@@ -188,10 +188,12 @@ narrow_start file WrongVersion p g = omega (arith, g.0)
 narrow_start file WrongActuators p g = omega (arith, g.0)
 narrow_start file WrongLayout p g = omega (arith, g.0)
 narrow_start file BadParameter p g = omega (arith, g.1.within, (few_octets (form_in file).scale).1)
+narrow_start file _ p g = elim g [ ]
 
 pub narrow_input : {A : Type 0} (at : ℕ → Option A) (inputs : List ℕ) (n from to : ℕ) (why : Refusal) (p : ℕ) → InputsWhen at inputs n from to why p → p < n
 narrow_input at inputs n from to BadInput p g = g.within
 narrow_input at inputs n from to BadStamp p g = g.within
+narrow_input {A = A} at inputs n from to _ p g = elim g [ ]
 
 pub narrow_place : (file : List ℕ) (why : Refusal) (p : ℕ) → GivenWhen file why p → p < 65_536
 narrow_place file why p (inl g) = narrow_start file why p g
