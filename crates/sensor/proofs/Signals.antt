@@ -83,12 +83,18 @@ module _ (octets : List ℕ) (at : ℕ) where
   pub signal_exactly_when : (s : Signal) → (signal_at octets at ≡ Meant s) ↔ SignalStands octets at s
   signal_exactly_when s = (by (ends_in_zeros octets at) refl, back)
     where
+      read : ends_in_zeros octets at ≡ true → signal_at octets at ≡ Meant s → signalled (kind_at octets at) (value_at octets at) ≡ Meant s
+      read zeros e = unfold signal_at in rw zeros at e
+
+      unread : ends_in_zeros octets at ≡ false → signal_at octets at ≡ Meant s → Wrong ≡ Meant s
+      unread others e = unfold signal_at in rw others at e
+
       by : (b : Bool) → ends_in_zeros octets at ≡ b → signal_at octets at ≡ Meant s → SignalStands octets at s
       by true zeros e =
           let z = both (eqb (octet octets (at + 6)) 0) _ zeros in
-          let m = (meant_exactly_when (kind_at octets at) (value_at octets at) s).0 (unfold signal_at in rw zeros at e) in
+          let m = (meant_exactly_when (kind_at octets at) (value_at octets at) s).0 (read zeros e) in
           record { kind = m.0; value = m.1; zeros = (eqb-true _ _ z.0, eqb-true _ _ z.1) }
-      by false others e = let none : Wrong ≡ Meant s = unfold signal_at in rw others at e in not_meant none
+      by false others e = not_meant (unread others e)
 
       back : SignalStands octets at s → signal_at octets at ≡ Meant s
       back g = unfold signal_at in rw (g.zeros.0, g.zeros.1) ((meant_exactly_when (kind_at octets at) (value_at octets at) s).1 (g.kind, g.value))

@@ -22,4 +22,4 @@ pub returns-in-4 : goal.returns-in-4
 returns-in-4 c = sym (force_value _ _ c.in-4.is)
 
 pub returns-in_default-kind : goal.returns-in_default-kind
-returns-in_default-kind c = sym (takes_no_more _ _ c.in_default-kind.rest.0.1 c.in_default-kind.rest.1 c.if-value-le1.false)
+returns-in_default-kind c = sym (takes_no_more _ _ c.in_default-kind.in_default-kind-own.rest.0.1 c.in_default-kind.in_default-kind-own.rest.1 c.if-value-le1.false)

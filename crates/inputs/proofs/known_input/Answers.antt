@@ -37,7 +37,7 @@ returns-in-7 c = rw c.known_event.ensures (of_kind _ 7 _ _ c.in-7.is (known_bit 
 pub returns-in_default : goal.returns-in_default
 unfolding decoded
 returns-in_default c =
-    let others = c.in_default.rest in
+    let others = c.in_default.in_default-own.rest in
     let late : 1 ≤ c.args.kind → 7 < c.args.kind =
     λ some.
     past _ 7 others.1

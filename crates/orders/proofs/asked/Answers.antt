@@ -25,4 +25,4 @@ returns-in_default c =
     let i = c.args.i in
     let same : c.kind_of.result ≡ kind i = c.kind_of.ensures in
     let few : c.kind_of.result ≤ 3 = rw same (leb-true (kind i) 3 c.requires) in
-    absurd (omega (arith, few, same, (kind_range i).0, c.in_default.rest.1, c.in_default.rest.0.1, c.in_default.rest.0.0.1))
+    absurd (omega (arith, few, same, (kind_range i).0, c.in_default.in_default-own.rest.1, c.in_default.in_default-own.rest.0.1, c.in_default.in_default-own.rest.0.0.1))

@@ -14,4 +14,4 @@ returns-in-6 c = simp (← a_note_is_by_its_kind, c.with_night.ensures, c.switch
 -- no other kind is noted
 pub returns-in_default : goal.returns-in_default
 unfolding noted_by_kind
-returns-in_default c = simp (← a_note_is_by_its_kind, ne_eqb _ 4 c.in_default.rest.0.1, ne_eqb _ 6 c.in_default.rest.1, ← c.kind_of.ensures)
+returns-in_default c = simp (← a_note_is_by_its_kind, ne_eqb _ 4 c.in_default.in_default-own.rest.0.1, ne_eqb _ 6 c.in_default.in_default-own.rest.1, ← c.kind_of.ensures)

@@ -34,7 +34,7 @@ returns-in_default c = λ k.
     let i = c.args.i in
     let n = c.kind_of.result in
     let same : n ≡ kind i = c.kind_of.ensures in
-    let other = c.in_default.rest in
+    let other = c.in_default.in_default-own.rest in
     let some : 4 ≤ n = rw same (leb-false (kind i) 3 c.requires.1) in
     let late : 6 ≤ n = omega (arith, some, other.0.0.0.0.1, other.0.0.0.1) in
     absurd (omega (arith, late, same, (kind_range i).1, other.0.0.1, other.0.1, other.1))

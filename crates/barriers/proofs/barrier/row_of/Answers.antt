@@ -36,7 +36,7 @@ returns-in-7 c = simp c.in-7.is
 pub returns-in_default : goal.returns-in_default
 unfolding row_of rows
 returns-in_default c =
-    let other = c.in_default.rest in
+    let other = c.in_default.in_default-own.rest in
     let late : 5 ≤ c.args.kind = omega (arith, c.requires.0, other.0.0.0.1, other.0.0.0.0.1, other.0.0.0.0.0.1, other.0.0.0.0.0.0.1) in
     let eighth : c.args.kind ≡ 8 = omega (arith, late, c.requires.1, other.1, other.0.1, other.0.0.1) in
     rw eighth refl

@@ -12,4 +12,4 @@ returns-in-6 c = simp c.in-6.is
 
 pub returns-in_default : goal.returns-in_default
 unfolding sets_value
-returns-in_default c = simp (ne_eqb _ 4 c.in_default.rest.0.1, ne_eqb _ 6 c.in_default.rest.1)
+returns-in_default c = simp (ne_eqb _ 4 c.in_default.in_default-own.rest.0.1, ne_eqb _ 6 c.in_default.in_default-own.rest.1)

@@ -10,12 +10,12 @@ stamped-requires c =
 
 pub returns-in-Known : goal.returns-in-Known
 unfolding joint_call joint_meant
-returns-in-Known c = simp (c.stamped.ensures, sym c.item_at-meant.ensures ∙ c.in-Known.is, c.stamp_at-stamp.ensures, sym c.is_sound_pair.ensures ∙ c.if-is_sound_pair.true)
+returns-in-Known c = record { whole = simp (c.stamped.ensures, sym c.item_at-meant.ensures ∙ c.in-Known.is, c.stamp_at-stamp.ensures, sym c.is_sound_pair.ensures ∙ c.if-is_sound_pair.true) }
 
 pub returns-in-Unknown : goal.returns-in-Unknown
 unfolding joint_call joint_meant
-returns-in-Unknown c = simp (c.refused.ensures, sym c.item_at-meant.ensures ∙ c.in-Unknown.is, sym c.is_sound_pair.ensures ∙ c.if-is_sound_pair.true)
+returns-in-Unknown c = record { whole = simp (c.refused.ensures, sym c.item_at-meant.ensures ∙ c.in-Unknown.is, sym c.is_sound_pair.ensures ∙ c.if-is_sound_pair.true) }
 
 pub returns-else-is_sound_pair : goal.returns-else-is_sound_pair
 unfolding joint_call
-returns-else-is_sound_pair c = simp (c.refused-else-is_sound_pair.ensures, sym c.is_sound_pair.ensures ∙ c.if-is_sound_pair.false)
+returns-else-is_sound_pair c = record { whole = simp (c.refused-else-is_sound_pair.ensures, sym c.is_sound_pair.ensures ∙ c.if-is_sound_pair.false) }

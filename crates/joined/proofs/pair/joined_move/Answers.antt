@@ -19,12 +19,12 @@ moved-requires c =
 
 pub returns-then-stamp_in_range : goal.returns-then-stamp_in_range
 unfolding joint_move_call
-returns-then-stamp_in_range c = simp (c.moved.ensures, c.move_clock.ensures, move_is_done, sym c.stamp_in_range.ensures ∙ c.if-stamp_in_range.true, sym c.is_sound_pair.ensures ∙ c.if-is_sound_pair.true)
+returns-then-stamp_in_range c = record { whole = simp (c.moved.ensures, c.move_clock.ensures, move_is_done, sym c.stamp_in_range.ensures ∙ c.if-stamp_in_range.true, sym c.is_sound_pair.ensures ∙ c.if-is_sound_pair.true) }
 
 pub returns-else-stamp_in_range : goal.returns-else-stamp_in_range
 unfolding joint_move_call
-returns-else-stamp_in_range c = simp (c.unmoved.ensures, sym c.stamp_in_range.ensures ∙ c.if-stamp_in_range.false, sym c.is_sound_pair.ensures ∙ c.if-is_sound_pair.true)
+returns-else-stamp_in_range c = record { whole = simp (c.unmoved.ensures, sym c.stamp_in_range.ensures ∙ c.if-stamp_in_range.false, sym c.is_sound_pair.ensures ∙ c.if-is_sound_pair.true) }
 
 pub returns-else-is_sound_pair : goal.returns-else-is_sound_pair
 unfolding joint_move_call
-returns-else-is_sound_pair c = simp (c.unmoved-else-is_sound_pair.ensures, sym c.is_sound_pair.ensures ∙ c.if-is_sound_pair.false)
+returns-else-is_sound_pair c = record { whole = simp (c.unmoved-else-is_sound_pair.ensures, sym c.is_sound_pair.ensures ∙ c.if-is_sound_pair.false) }

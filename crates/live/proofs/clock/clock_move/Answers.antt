@@ -13,14 +13,14 @@ move_clock-requires c =
 
 pub returns-then-stamp_in_range : goal.returns-then-stamp_in_range
 unfolding move_call
-returns-then-stamp_in_range c =
+returns-then-stamp_in_range c = record { whole =
     let a = c.args in
-    simp (c.result.ensures, c.move_clock.ensures, clocked_is_done (clock_move a.s a.stamp), sym c.stamp_in_range.ensures ∙ c.if-stamp_in_range.true, sym c.is_sound.ensures ∙ c.if-is_sound.true)
+    simp (c.result.ensures, c.move_clock.ensures, clocked_is_done (clock_move a.s a.stamp), sym c.stamp_in_range.ensures ∙ c.if-stamp_in_range.true, sym c.is_sound.ensures ∙ c.if-is_sound.true) }
 
 pub returns-else-stamp_in_range : goal.returns-else-stamp_in_range
 unfolding move_call
-returns-else-stamp_in_range c = simp (← c.refused.ensures, c.if-stamp_in_range.false, ← c.stamp_in_range.ensures, c.if-is_sound.true, ← c.is_sound.ensures)
+returns-else-stamp_in_range c = record { whole = simp (← c.refused.ensures, c.if-stamp_in_range.false, ← c.stamp_in_range.ensures, c.if-is_sound.true, ← c.is_sound.ensures) }
 
 pub returns-else-is_sound : goal.returns-else-is_sound
 unfolding move_call
-returns-else-is_sound c = simp (← c.refused-else-is_sound.ensures, c.if-is_sound.false, ← c.is_sound.ensures)
+returns-else-is_sound c = record { whole = simp (← c.refused-else-is_sound.ensures, c.if-is_sound.false, ← c.is_sound.ensures) }

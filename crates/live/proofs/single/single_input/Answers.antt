@@ -7,12 +7,12 @@ stamped-requires c = sym c.is_sound.ensures ∙ c.if-is_sound.true
 
 pub returns-in-Meant : goal.returns-in-Meant
 unfolding single_call single_meant
-returns-in-Meant c = simp (c.stamped.ensures, sym c.input_at-meant.ensures ∙ c.in-Meant.is, c.stamp_at-stamp.ensures, sym c.is_sound.ensures ∙ c.if-is_sound.true)
+returns-in-Meant c = record { whole = simp (c.stamped.ensures, sym c.input_at-meant.ensures ∙ c.in-Meant.is, c.stamp_at-stamp.ensures, sym c.is_sound.ensures ∙ c.if-is_sound.true) }
 
 pub returns-in-Wrong : goal.returns-in-Wrong
 unfolding single_call single_meant
-returns-in-Wrong c = simp (c.refused.ensures, sym c.input_at-meant.ensures ∙ c.in-Wrong.is, sym c.is_sound.ensures ∙ c.if-is_sound.true)
+returns-in-Wrong c = record { whole = simp (c.refused.ensures, sym c.input_at-meant.ensures ∙ c.in-Wrong.is, sym c.is_sound.ensures ∙ c.if-is_sound.true) }
 
 pub returns-else-is_sound : goal.returns-else-is_sound
 unfolding single_call single_meant
-returns-else-is_sound c = simp (← c.refused-else-is_sound.ensures, c.if-is_sound.false, ← c.is_sound.ensures)
+returns-else-is_sound c = record { whole = simp (← c.refused-else-is_sound.ensures, c.if-is_sound.false, ← c.is_sound.ensures) }

@@ -1,3 +1,4 @@
+use borrow.Author.Tests.{ne_eqb}
 use Rattle.rules.specs.Phases.{at_deadline}
 use native.Mathlib.Omega.{arith}
 use Rattle.phases.proofs.phase.at_deadline.Goals as goal
@@ -26,7 +27,7 @@ returns-then-none c = simp (c.if-none.true, c.in-Timed.is)
 
 pub returns-else-none : goal.returns-else-none
 unfolding at_deadline
-returns-else-none c = simp (c.later.ensures, c.if-none.false, c.in-Timed.is)
+returns-else-none c = simp (c.later.ensures, ne_eqb _ _ c.if-none.false, c.in-Timed.is)
 
 pub returns-in-Warning : goal.returns-in-Warning
 unfolding at_deadline

@@ -13,7 +13,7 @@ pub returns-then-e-number : goal.returns-then-e-number
 returns-then-e-number c =
     let a = c.args in
     let l = c.loop-i in
-    sym (l.invariant.2 ∙ (simp (eq-eqb _ _ c.if-e-number.true) at (absent_step a.t1 a.number l.i (omega arith))))
+    sym (l.invariant.2 ∙ (simp (eq-eqb _ _ c.if-e-number.true) at (absent_step a.k a.number l.i (omega arith))))
 
 pub loop-i-preserved : goal.loop-i-preserved
 loop-i-preserved c =
@@ -21,11 +21,11 @@ loop-i-preserved c =
     let l = c.loop-i in (
       search rules,
       search rules,
-      simp (add-one l.i) (l.invariant.2 ∙ (simp (ne_eqb _ _ c.if-e-number.false) at (absent_step a.t1 a.number l.i (omega arith)))),
+      simp (add-one l.i) (l.invariant.2 ∙ (simp (ne_eqb _ _ c.if-e-number.false) at (absent_step a.k a.number l.i (omega arith)))),
     )
 
 pub returns : goal.returns
 returns c =
     let a = c.args in
     let l = c.loop-i in
-    sym (l.invariant.2 ∙ absent_none (drop l.i a.t1) a.number (omega (arith, length-drop l.i a.t1)))
+    sym (l.invariant.2 ∙ absent_none (drop l.i a.k) a.number (omega (arith, length-drop l.i a.k)))

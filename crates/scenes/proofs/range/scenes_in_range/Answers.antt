@@ -12,17 +12,17 @@ loop-i-preserved c =
     let l = c.loop-i in (
       search rules,
       search rules,
-      l.invariant.2 ∙ range_goes_on a.t1 l.i (omega arith) (sym c.entry_fits.ensures ∙ c.if-entry_fits.true),
+      l.invariant.2 ∙ range_goes_on a.k l.i (omega arith) (sym c.entry_fits.ensures ∙ c.if-entry_fits.true),
     )
 
 pub returns-else-entry_fits : goal.returns-else-entry_fits
 returns-else-entry_fits c =
     let a = c.args in
     let l = c.loop-i in
-    sym (l.invariant.2 ∙ range_ends a.t1 l.i (omega arith) (sym c.entry_fits.ensures ∙ c.if-entry_fits.false))
+    sym (l.invariant.2 ∙ range_ends a.k l.i (omega arith) (sym c.entry_fits.ensures ∙ c.if-entry_fits.false))
 
 pub returns : goal.returns
 returns c =
     let a = c.args in
     let l = c.loop-i in
-    sym (l.invariant.2 ∙ range_none (drop l.i a.t1) (omega (arith, length-drop l.i a.t1)))
+    sym (l.invariant.2 ∙ range_none (drop l.i a.k) (omega (arith, length-drop l.i a.k)))

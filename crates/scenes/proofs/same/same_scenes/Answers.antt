@@ -14,17 +14,17 @@ loop-i-preserved c =
       search rules,
       search rules,
       search rules,
-      simp (add-one l.i) (l.invariant.3 ∙ (simp (sym c.same_scene.ensures ∙ c.if-same_scene.true) at (same_step a.t1 a.t2 l.i (omega arith) (omega arith)))),
+      simp (add-one l.i) (l.invariant.3 ∙ (simp (sym c.same_scene.ensures ∙ c.if-same_scene.true) at (same_step a.a a.b l.i (omega arith) (omega arith)))),
     )
 
 pub returns-else-same_scene : goal.returns-else-same_scene
 returns-else-same_scene c =
     let a = c.args in
     let l = c.loop-i in
-    sym (l.invariant.3 ∙ (simp (sym c.same_scene.ensures ∙ c.if-same_scene.false) at (same_step a.t1 a.t2 l.i (omega arith) (omega arith))))
+    sym (l.invariant.3 ∙ (simp (sym c.same_scene.ensures ∙ c.if-same_scene.false) at (same_step a.a a.b l.i (omega arith) (omega arith))))
 
 pub returns : goal.returns
 returns c =
     let a = c.args in
     let l = c.loop-i in
-    sym (l.invariant.3 ∙ same_none (drop l.i a.t1) (drop l.i a.t2) (omega (arith, length-drop l.i a.t1)) (omega (arith, length-drop l.i a.t2)))
+    sym (l.invariant.3 ∙ same_none (drop l.i a.a) (drop l.i a.b) (omega (arith, length-drop l.i a.a)) (omega (arith, length-drop l.i a.b)))

@@ -15,7 +15,7 @@ pub returns-then-e-number : goal.returns-then-e-number
 returns-then-e-number c =
     let a = c.args in
     let l = c.loop-i in
-    sym (l.invariant.2 ∙ learnt_here a.t1 a.number l.i (omega arith) a.on (eq-eqb _ _ c.if-e-number.true))
+    sym (l.invariant.2 ∙ learnt_here a.k a.number l.i (omega arith) a.on (eq-eqb _ _ c.if-e-number.true))
 
 pub loop-i-preserved : goal.loop-i-preserved
 loop-i-preserved c =
@@ -23,7 +23,7 @@ loop-i-preserved c =
     let l = c.loop-i in (
       search rules,
       search rules,
-      simp (add-one l.i) (l.invariant.2 ∙ learnt_later a.t1 a.number l.i (omega arith) a.on (ne_eqb _ _ c.if-e-number.false)),
+      simp (add-one l.i) (l.invariant.2 ∙ learnt_later a.k a.number l.i (omega arith) a.on (ne_eqb _ _ c.if-e-number.false)),
     )
 
 pub returns : goal.returns
@@ -32,5 +32,5 @@ returns c =
     let l = c.loop-i in
     sym
     (l.invariant.2 ∙
-    (rw (learnt_none (drop l.i a.t1) a.number a.on (omega (arith, length-drop l.i a.t1)))
-    (append-nil (take l.i a.t1) ∙ take_all l.i a.t1 (omega arith))))
+    (rw (learnt_none (drop l.i a.k) a.number a.on (omega (arith, length-drop l.i a.k)))
+    (append-nil (take l.i a.k) ∙ take_all l.i a.k (omega arith))))

@@ -9,8 +9,8 @@ fresh_with-requires c = omega (arith, passed_has_four _ (sym c.check_actions-che
 
 pub returns-in-Passed : goal.returns-in-Passed
 unfolding fresh_sensor_call fresh_sensor_by
-returns-in-Passed c = simp (c.fresh_with.ensures, sym c.check_actions-check.ensures ∙ c.in-Passed.is)
+returns-in-Passed c = record { whole = simp (c.fresh_with.ensures, sym c.check_actions-check.ensures ∙ c.in-Passed.is) }
 
 pub returns-in-Refused : goal.returns-in-Refused
 unfolding fresh_sensor_call fresh_sensor_by
-returns-in-Refused c = simp (c.number_of.ensures, c.own_sensor.ensures, sym c.check_actions-check.ensures ∙ c.in-Refused.is)
+returns-in-Refused c = record { whole = simp (c.number_of.ensures, c.own_sensor.ensures, sym c.check_actions-check.ensures ∙ c.in-Refused.is) }

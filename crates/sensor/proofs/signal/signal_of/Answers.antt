@@ -23,4 +23,4 @@ returns-in-13 c = simp (c.in-13.is, bit_means Status _ c.if-value-gt1.false)
 
 pub returns-in_default : goal.returns-in_default
 unfolding signalled
-returns-in_default c = simp (ne_eqb _ _ c.in_default.rest.1, ne_eqb _ _ c.in_default.rest.0.1, ne_eqb _ _ c.in_default.rest.0.0.1)
+returns-in_default c = simp (ne_eqb _ _ c.in_default.in_default-own.rest.1, ne_eqb _ _ c.in_default.in_default-own.rest.0.1, ne_eqb _ _ c.in_default.in_default-own.rest.0.0.1)
