@@ -167,6 +167,7 @@ module _ (s : State) (i : Input) where
       go : (i : Input) → is_light i ≡ true → NotedWhere s i → ⊥
       go (SwitchOnOffForced force) light w = no light
       go (NightMode value) light w = no light
+      go _ light w = elim w [ ]
 
   -- the scene table is that of the order: what is noted teaches nothing, and neither would its order
   pub counts_teaches : (noted : Bool) → fate (barrier s i) ≡ Counts noted → (order s i).scenes ≡ (act (still s) i).state.scenes
@@ -179,6 +180,7 @@ module _ (s : State) (i : Input) where
       untaught : (i : Input) → NotedWhere s i → scenes_after s i ≡ s.scenes
       untaught (SwitchOnOffForced force) w = refl
       untaught (NightMode value) w = refl
+      untaught _ w = elim w [ ]
 
   -- nothing is left of a dropped input but its answer
   pub dropped_leaves : (answer : ℕ) → fate (barrier s i) ≡ Dropped answer → (dropped_by s answer ≡ done (act (still s) i)) × (s.scenes ≡ (act (still s) i).state.scenes)

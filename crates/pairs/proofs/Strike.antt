@@ -124,6 +124,7 @@ pub a_silent_edge_moves_the_clock_only : (p : Pair) (i : Item) (t : ℕ) → IsS
 unfolding pair_step
 a_silent_edge_moves_the_clock_only p (Button1 edge) t silent = silent_press p (signal.Button1 edge) t refl silent
 a_silent_edge_moves_the_clock_only p (Button2 edge) t silent = silent_press p (signal.Button2 edge) t refl silent
+a_silent_edge_moves_the_clock_only p (Plain _) t silent = elim silent [ ]
 
 -- ---- struck from the list
 

@@ -34,6 +34,7 @@ heard_toggles z t value (Button1 Falling) e = e
 heard_toggles z t value (Button1 Rising) e = e
 heard_toggles z t value (Button2 Falling) e = e
 heard_toggles z t value (Button2 Rising) e = e
+heard_toggles z t value _ e = elim e [ ]
 
 hears_toggle : (l : List Record) (z : Sensor) (i : Item) → Toggles z i → Toggles (hears l z) i
 unfolding hears
@@ -51,6 +52,7 @@ pub a_toggle_inverts : (p : Pair) (i : Item) (t : ℕ) → Toggles p.sensor i �
 unfolding pair_step
 a_toggle_inverts p (Button1 edge) t e = pressed_sends p (signal.Button1 edge) t ∙ unfold react press in rw (moved_toggles p t (Button1 edge) e) refl
 a_toggle_inverts p (Button2 edge) t e = pressed_sends p (signal.Button2 edge) t ∙ unfold react press in rw (moved_toggles p t (Button2 edge) e) refl
+a_toggle_inverts p _ t e = elim e [ ]
 
 last_heard : (earlier : List Record) (r : Record) (z : Sensor) → (hears (earlier ++ (r ∷ [])) z).value ≡ shows r
 last_heard earlier r z = ap (λ (x : Sensor). x.value) (hears_one_more earlier r z) ∙ unfold hear in refl
@@ -108,3 +110,4 @@ dropped_still_toggles p (Button1 edge) j t u why first second value sent stops n
     unfold pair_step in sent_all_the_same p (signal.Button1 edge) t u value why j refl second (unfold pair_step in sent) stops (unfold pair_step in none)
 dropped_still_toggles p (Button2 edge) j t u why first second value sent stops none =
     unfold pair_step in sent_all_the_same p (signal.Button2 edge) t u value why j refl second (unfold pair_step in sent) stops (unfold pair_step in none)
+dropped_still_toggles p _ j t u why first second value sent stops none = elim first [ ]

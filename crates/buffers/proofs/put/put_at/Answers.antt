@@ -25,4 +25,4 @@ returns c =
     let rest = a.r.value ∷ a.r.attributes ∷ a.r.cause ∷ 0 ∷ [] in
     simp towards_suc
     (simp towards_suc at
-    (sets_after a.buf.now _ a.at (octets32 a.r.stamp) rest stamp.ensures (omega arith) (omega (arith, stamp.auto.0))))
+    (sets_after a.buf.now _ a.at (octets32 a.r.stamp) rest stamp.ensures (omega arith) (omega (arith, stamp.auto.buf))))

@@ -12,7 +12,7 @@ pub loop-j-preserved : goal.loop-j-preserved
 loop-j-preserved c =
     let l = c.loop-j in
     let p = c.put_record in
-    (search rules, p.ensures ∙ next_record _ _ _ l.j _ _ (omega arith) (omega arith) l.invariant.1, p.auto.0 ∙ l.invariant.2, l.invariant.3)
+    (search rules, p.ensures ∙ next_record _ _ _ l.j _ _ (omega arith) (omega arith) l.invariant.1, p.auto.buf ∙ l.invariant.2, l.invariant.3)
 
 pub returns : goal.returns
 returns c =

@@ -16,10 +16,10 @@ pub loop-n-preserved : goal.loop-n-preserved
 loop-n-preserved c =
     let p = c.put_scene in
     let l = c.loop-n in
-    (search rules, p.ensures ∙ put_next_scene _ _ 24 l.n _ _ (omega arith) (omega arith) l.invariant.1, p.auto.0 ∙ l.invariant.2, l.invariant.3)
+    (search rules, p.ensures ∙ put_next_scene _ _ 24 l.n _ _ (omega arith) (omega arith) l.invariant.1, p.auto.buf ∙ l.invariant.2, l.invariant.3)
 
 pub returns : goal.returns
 returns c =
     let l = c.loop-n in
-    let all = take_all l.n c.args.t2 (omega arith) in
+    let all = take_all l.n c.args.k (omega arith) in
     (rw all at l.invariant.1, l.invariant.3)
