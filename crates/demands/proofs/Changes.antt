@@ -483,21 +483,25 @@ clock_of_the_last inputs n s list read = let z : 0 + n ≡ n = omega arith in rw
 met_with : {A : Type 0} (at : ℕ → Option A) (inputs : List ℕ) (n from to : ℕ) (why : Refusal) (p : ℕ) → InputsWhen at inputs n from to why p → Among (number why) (6 ∷ 7 ∷ [])
 met_with at inputs n from to BadInput p g = inl refl
 met_with at inputs n from to BadStamp p g = inr (inl refl)
+met_with {A = A} at inputs n from to _ p g = elim g [ ]
 
 -- the codes of a change as a whole and those of an input are apart
 under_8 : (code : ℕ) → Among code (0 ∷ 6 ∷ 7 ∷ []) → code < 8
 under_8 code (inl a) = omega arith
 under_8 code (inr (inl a)) = omega arith
 under_8 code (inr (inr (inl a))) = omega arith
+under_8 code (inr (inr (inr x3))) = elim x3 [ ]
 
 pub no_two_codes : (code : ℕ) → Among code (9 ∷ 12 ∷ 8 ∷ []) → Among code (0 ∷ 6 ∷ 7 ∷ []) → ⊥
 no_two_codes code (inl a) other = omega (arith, under_8 code other)
 no_two_codes code (inr (inl a)) other = omega (arith, under_8 code other)
 no_two_codes code (inr (inr (inl a))) other = omega (arith, under_8 code other)
+no_two_codes code (inr (inr (inr x4))) other = elim x4 [ ]
 
 some_code : (code : ℕ) → Among code (6 ∷ 7 ∷ []) → code ≡ 0 → ⊥
 some_code code (inl a) e = omega arith
 some_code code (inr (inl a)) e = omega arith
+some_code code (inr (inr x3)) e = elim x3 [ ]
 
 module _ (s : State) (inputs r a : List ℕ) where
   by_check : (P : Whole → Type 0) → (sound s ≡ true → GoodGroups inputs → RoomFor (group_count inputs) r a → P (changed (singles 0 (groups_in inputs) s) r a)) →

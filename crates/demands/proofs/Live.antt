@@ -116,6 +116,7 @@ module _ (parameters state : List ℕ) where
       found : (why : Refusal) → FoundWhen (form_alone parameters) parameters (Refused why p) → (p < 65_536) × Among (number why) (0 ∷ 1 ∷ 5 ∷ 8 ∷ [])
       found WrongLength h = (omega (arith, h.0), inr (inl refl))
       found BadParameter h = (omega (arith, h.within, (few_octets (form_alone parameters).scale).1), inr (inr (inl refl)))
+      found _ h = elim h [ ]
 
   fresh_narrow : place_of (check_fresh parameters state) < 65_536
   fresh_narrow = by (check_fresh parameters state) refl
@@ -417,6 +418,8 @@ module _ (state inputs r a : List ℕ) (is : is_image state ≡ true) where
       by (inr (inl (inr (inr (inl e)), n))) = inr (inr (inr (inl e)))
       by (inr (inr (inl e, n))) = inr (inr (inr (inr (inl e))))
       by (inr (inr (inr (inl e), n))) = inr (inr (inr (inr (inr (inl e)))))
+      by (inr (inl (inr (inr (inr x7)) , n))) = elim x7 [ ]
+      by (inr (inr (inr (inr x8) , n))) = elim x8 [ ]
 
   image_refused : Among w.report.code (9 ∷ 12 ∷ 8 ∷ []) → (place_in (house_change state inputs r a).number ≡ 0) × AsLent state r a (house_change state inputs r a)
   unfolding imaged

@@ -61,10 +61,12 @@ start_numbered file WrongVersion place g = omega arith
 start_numbered file WrongActuators place g = omega arith
 start_numbered file WrongLayout place g = omega arith
 start_numbered file BadParameter place g = omega arith
+start_numbered file _ place g = elim g [ ]
 
 pub inputs_numbered : {A : Type 0} (at : ℕ → Option A) (inputs : List ℕ) (n from to : ℕ) (why : Refusal) (place : ℕ) → InputsWhen at inputs n from to why place → number why ≤ 8
 inputs_numbered at inputs n from to BadInput place g = omega arith
 inputs_numbered at inputs n from to BadStamp place g = omega arith
+inputs_numbered {A = A} at inputs n from to _ place g = elim g [ ]
 
 -- a run has the numbers 1 to 8, and 9 is for a state that was handed in
 numbered : (file : List ℕ) (why : Refusal) (place : ℕ) → GivenWhen file why place → number why ≤ 8

@@ -168,6 +168,7 @@ note_first : (s : State) (clock : ℕ) (night : Bool) (force : Force) → held s
 unfolding noted held
 note_first s clock night force holds agree steady (SwitchOnOffForced f) w = record { clock = clock; night = night; force = force; same = refl; holds = rw w.locked; agree = inl w.locked; steady = steady }
 note_first s clock night force holds agree steady (NightMode n) w = record { clock = clock; night = night; force = force; same = refl; holds = holds; agree = agree; steady = steady }
+note_first s clock night force holds agree steady _ w = elim w [ ]
 
 -- and in the second
 note_second : (s : State) (clock : ℕ) (night : Bool) (force : Force) → held s ≡ true → (s.lock ≡ true) ⊎ (force ≡ s.force) → Steady s.phase →
@@ -175,6 +176,7 @@ note_second : (s : State) (clock : ℕ) (night : Bool) (force : Force) → held 
 unfolding noted held
 note_second s clock night force holds agree steady (SwitchOnOffForced f) w = record { clock = clock; night = night; force = f; same = refl; holds = holds; agree = inl w.locked; steady = steady }
 note_second s clock night force holds agree steady (NightMode n) w = record { clock = clock; night = n; force = force; same = refl; holds = holds; agree = agree; steady = steady }
+note_second s clock night force holds agree steady _ w = elim w [ ]
 
 -- the lock after an order does not ask for night or force
 lock_by_flags : (s : State) (night : Bool) (force : Force) (i : Input) → (flags_after (noting s s.clock night force) i).lock ≡ (flags_after s i).lock
@@ -277,6 +279,7 @@ noted_keeps_lock s t i e =
     by : (i : Input) → NotedWhere (clock_move s t).state i → ((clock_move s t).state.lock && not (noted (clock_move s t).state i).lock) ≡ false
     by (SwitchOnOffForced f) w = unfold noted in never (clock_move s t).state.lock
     by (NightMode n) w = unfold noted in never (clock_move s t).state.lock
+    by _ w = elim w [ ]
 
 -- the noted inputs of a list, before what both lists have next: this cue, or the end
 module _ (a : State) (forces : List Force) (next : List Cue) (Goal : State → Type 0) where

@@ -68,6 +68,7 @@ bits_stay s i way = go i (noted_where s i way)
     go : (i : Input) → NotedWhere s i → OtherBitsStay (bit_of i) (attributes s) (attributes (noted s i))
     go (SwitchOnOffForced force) w = forced_bit_alone (not (power_down s.link)) s.lock s.night (staircase s.phase) (standing s.force) (standing force) _ _ refl refl
     go (NightMode night) w = night_bit_alone (not (power_down s.link)) s.lock (standing s.force) (staircase s.phase) s.night night _ _ refl refl
+    go _ w = elim w [ ]
 
 -- ---- every noted input of a list
 

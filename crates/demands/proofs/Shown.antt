@@ -281,7 +281,7 @@ at_or_before a v w [] f e = inl (f e)
 at_or_before a v w (r ∷ l) f e =
     elim (one_at_or_before a v w r l f) [
       | inr x ↦ inr x
-      | inl g ↦ elim (at_or_before a _ _ l g e) [ inl was ↦ inl was | inr x ↦ inr (lit_later a a a (r ∷ []) l (omega arith) x) ]
+      | inl g ↦ elim (at_or_before a (cond (leb r.stamp a) r.value v) (cond (leb a r.stamp) w r.value) l g e) [ inl was ↦ inl was | inr x ↦ inr (lit_later a a a (r ∷ []) l (omega arith) x) ]
     ]
 
 -- with a delay nothing that is stamped a dims, so that a lamp lit when the order is taken shows it in the last record of a

@@ -211,7 +211,7 @@ the_step_that_changes_nothing_breaks_light m only light =
 not_shown : (t v w : ℕ) (l : List Record) → (v ≡ 255 → w ≡ 0 → ⊥) → shown_before (suc t) v l ≡ 255 → shown_at t w l ≡ 0 → ⊥
 unfolding shown_before shown_at
 not_shown t v w [] differ lit dark = differ lit dark
-not_shown t v w (r ∷ l) differ lit dark = not_shown t _ _ l (by (leb (suc t) r.stamp) (leb r.stamp t) refl refl) lit dark
+not_shown t v w (r ∷ l) differ lit dark = not_shown t (cond (leb (suc t) r.stamp) v r.value) (cond (leb r.stamp t) r.value w) l (by (leb (suc t) r.stamp) (leb r.stamp t) refl refl) lit dark
   where
     by : (b c : Bool) → leb (suc t) r.stamp ≡ b → leb r.stamp t ≡ c → cond b v r.value ≡ 255 → cond c r.value w ≡ 0 → ⊥
     by true false e f x y = differ x y

@@ -5,13 +5,14 @@ use Rattle.cues.proofs.Inputs.{checked_as_read}
 use Rattle.wallfile.specs.Checks.{check_parts}
 use Rattle.wallfile.proofs.Items.{items_say}
 use Rattle.wallfile.proofs.check_parts.Goals as goal
+use Rattle.wallfile.proofs.check_parts.Goals.{In-Passed-edges}
 
 -- what stands before the inputs is good
-start : (c : tie.After-enum-told2) → GoodStart c.before.before.before.before.before.before.before.before.args.file.now
-start c = (start_decides _).passed.0 (sym c.before.before.before.before.before.check-start.ensures ∙ c.before.before.before.enum_told.given.1)
+start : (c : In-Passed-edges) → GoodStart c.args.file.now
+start c = (start_decides _).passed.0 (sym c.check_start-start.ensures ∙ c.in-Passed.is)
 
 pub check_inputs_in-requires : goal.check_inputs_in-requires
-check_inputs_in-requires c = start (?? c)
+check_inputs_in-requires c = start (goal.at.check_inputs_in-requires c).In-Passed-edges
 
 pub returns-in-Refused : goal.returns-in-Refused
 unfolding check_parts

@@ -27,7 +27,7 @@ pub loop-p-preserved : goal.loop-p-preserved
 loop-p-preserved c =
     let timer = c.run_timer-timer.ensures in
     let put = c.put_note-n in
-    rw timer (into_on c.args.p c.args.l c.args.t c.args.count _ _ _ _ c.loop-p.invariant (sym c.is_due.ensures ∙ c.loop-p-test.true) (omega (arith, c.requires.2)) _ (rw timer at put.ensures.0) _ (rw timer at put.ensures.1) put.auto.0)
+    rw timer (into_on c.args.p c.args.l c.args.t c.args.count _ _ _ _ c.loop-p.invariant (sym c.is_due.ensures ∙ c.loop-p-test.true) (omega (arith, c.requires.2)) _ (rw timer at put.ensures.0) _ (rw timer at put.ensures.1) put.auto.buf)
 
 pub shape_of-records : goal.shape_of-records
 shape_of-records c = c.loop-p.invariant.room

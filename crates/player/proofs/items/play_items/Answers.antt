@@ -23,48 +23,50 @@ use Rattle.turns.proofs.Turning.{turned}
 use Rattle.player.specs.Playing.{Ready}
 use Rattle.player.proofs.Turns.{going_first, next_item, going_rests, going_asks, going_acts, going_dropped, going_last}
 use Rattle.player.proofs.items.play_items.Goals as goal
+use Rattle.player.proofs.items.play_items.Goals.{After-lamp_of-l, After-turn_at-turn, In-Order}
 
 -- the pair that the items are played from is ready for them
-ready-to : (c : tie.After-lamp-of invariant-loop decreases-loop) → let a = c.before.before.before.before.before.before.args in Ready a.inputs.now a.n (pair_of (state_of a.start.params a.start.scenes c.lamp-of.result) (listened a.records.now a.before a.first 0))
-ready-to c = rw c.lamp-of.ensures c.before.before.before.before.before.before.requires.0
+ready_to : (c : After-lamp_of-l) → let a = c.args in Ready a.inputs.now a.n (pair_of (state_of a.start.params a.start.scenes c.lamp_of-l.result) (listened a.records.now a.before a.first 0))
+ready_to c = rw c.lamp_of-l.ensures c.requires.0
 
 -- the item's turn, where one stands
-took : (c : tie.After-turn-at invariant-loop decreases-loop) → let loop = c.before.before.before.before.before.before.before.before.before.before.loop in let inputs = c.before.before.before.before.before.before.before.before.before.before.before.before.before.before.before.before.before.args.inputs.now in let m = c.before.before.before.before.before.advance in
-    (j : Item) → item_at inputs (input_place loop.i) ≡ Known j → Turned j (stamp_at inputs (input_place loop.i)) m.new.0 m.result.count loop.z loop.heard c.turn_at.result
+took : (c : After-turn_at-turn) → let loop = c.loop-i in let inputs = c.args.inputs.now in let m = c.advance-m in
+    (j : Item) → item_at inputs (input_place loop.i) ≡ Known j → Turned j (stamp_at inputs (input_place loop.i)) m.new.records m.result.count loop.z loop.heard c.turn_at-turn.result
 took c j e =
-    let loop = c.before.before.before.before.before.before.before.before.before.before.loop in
-    let place = c.before.before.before.before.before.before.before.before.input-place.ensures in
-    rw (c.turn_at.ensures j (rw place e), c.before.before.before.before.before.before.before.stamp-at.ensures, place) (turned _ _ _ _ _ _ _ (omega (arith, loop.invariant.1, (c.before.before.before.before.before.advance.ensures loop.k).count)) j e)
+    let loop = c.loop-i in
+    let place = c.input_place-at.ensures in
+    rw (c.turn_at-turn.ensures j (rw place e), c.stamp_at-t.ensures, place) (turned _ _ _ _ _ _ _ (omega (arith, loop.invariant.1, (c.advance-m.ensures loop.k).count)) j e)
 
 -- the sensor has heard no more than there is
-behind-still : (c : tie.After-turn-at invariant-loop decreases-loop) → c.turn_at.result.heard ≤ c.before.before.before.before.before.advance.result.count
-behind-still c =
-    let f = next_item _ _ _ _ _ _ (ready-to c.before.before.before.before.before.before.before.before.before.before.before) _ _ _ _ _ c.before.before.before.before.before.before.before.before.before.before.loop.invariant.0 c.before.before.before.before.before.before.before.before.before.loop-test.true in
+behind_still : (c : After-turn_at-turn) → c.turn_at-turn.result.heard ≤ c.advance-m.result.count
+behind_still c =
+    let ready : Ready c.args.inputs.now c.args.n (pair_of (state_of c.args.start.params c.args.start.scenes c.lamp_of-l.result) (listened c.args.records.now c.args.before c.args.first 0)) = rw c.lamp_of-l.ensures c.requires.0 in
+    let f = next_item _ _ _ _ _ _ ready _ _ _ _ _ c.loop-i.invariant.0 c.loop-i-test.true in
     (took c f.input f.meant).behind
 
 -- an item that asks for something asks for an input
-asked : (c : tie.After-asked invariant-loop decreases-loop) → let given = c.asked.given.0 in (x : Input) × (decoded given.0 given.1.0 ≡ Meant x)
+asked : (c : In-Order) → (x : Input) × (decoded c.in-Order.kind c.in-Order.value ≡ Meant x)
 asked c =
-    let ready = ready-to c.before.before.before.before.before.before.before.before.before.before.before.before.before.before in
-    let a = c.before.before.before.before.before.before.before.before.before.before.before.before.before.before.before.before.before.before.before.before in
-    let loop = c.before.before.before.before.before.before.before.before.before.before.before.before.before.loop in
+    let ready : Ready c.args.inputs.now c.args.n (pair_of (state_of c.args.start.params c.args.start.scenes c.lamp_of-l.result) (listened c.args.records.now c.args.before c.args.first 0)) = rw c.lamp_of-l.ensures c.requires.0 in
+    let loop = c.loop-i in
     let g = loop.invariant.0 in
-    let within = c.before.before.before.before.before.before.before.before.before.before.before.before.loop-test.true in
-    let place = c.before.before.before.before.before.before.before.before.before.before.before.input-place.ensures in
-    let stamp = rw place at c.before.before.before.before.before.before.before.before.before.before.stamp-at.ensures in
-    let moves = c.before.before.before.before.before.before.before.before.advance in
-    let two = a_move_writes_at_most_two (state_of a.args.start.params loop.k loop.l) c.before.before.before.before.before.before.before.before.before.before.stamp-at.result in
-    going_asks _ _ _ _ _ _ ready a.args.start.params loop.k loop.l loop.z loop.heard _ _ _ _ g loop.invariant.1 within (omega (arith, a.requires.2)) a.requires.3 (omega (arith, within, g.stands.few, g.stands.room, a.requires.2)) _ _ (rw stamp at moves.ensures) moves.auto.0 (omega (arith, within, two, (moves.ensures loop.k).count, moves.auto.0, g.stands.few, g.stands.room, a.requires.2)) _ (took c.before.before.before) _ _ c.asked.given.1
+    let within = c.loop-i-test.true in
+    let place = c.input_place-at.ensures in
+    let stamp = rw place at c.stamp_at-t.ensures in
+    let moves = c.advance-m in
+    let two = a_move_writes_at_most_two (state_of c.args.start.params loop.k loop.l) c.stamp_at-t.result in
+    let took : (j : Item) → item_at c.args.inputs.now (input_place loop.i) ≡ Known j → Turned j (stamp_at c.args.inputs.now (input_place loop.i)) moves.new.records moves.result.count loop.z loop.heard c.turn_at-turn.result = λ j e. rw (c.turn_at-turn.ensures j (rw place e), c.stamp_at-t.ensures, place) (turned _ _ _ _ _ _ _ (omega (arith, loop.invariant.1, (moves.ensures loop.k).count)) j e) in
+    going_asks _ _ _ _ _ _ ready c.args.start.params loop.k loop.l loop.z loop.heard _ _ _ _ g loop.invariant.1 within (omega (arith, c.requires.2)) c.requires.3 (omega (arith, within, g.stands.few, g.stands.room, c.requires.2)) _ _ (rw stamp at moves.ensures) moves.auto.records (omega (arith, within, two, (moves.ensures loop.k).count, moves.auto.records, g.stands.few, g.stands.room, c.requires.2)) _ took _ _ c.in-Order.is
 
 pub loop-i-init : goal.loop-i-init
-loop-i-init c = (going_first _ _ _ _ _ _ (ready-to (?? c)), omega arith)
+loop-i-init c = (going_first _ _ _ _ _ _ (ready_to (goal.at.loop-i-init c).After-lamp_of-l), omega arith)
 
 pub stamp_at-t-requires : goal.stamp_at-t-requires
-stamp_at-t-requires c = omega (arith, c.input_place-at.ensures, c.loop-i-test.true, (ready-to (?? c.before.before.before)).whole)
+stamp_at-t-requires c = omega (arith, c.input_place-at.ensures, c.loop-i-test.true, (ready_to (goal.at.stamp_at-t-requires c).After-lamp_of-l).whole)
 
 pub advance-m-requires : goal.advance-m-requires
 advance-m-requires c =
-    let ready = ready-to (?? c.before.before.before.before.before) in
+    let ready = ready_to (goal.at.advance-m-requires c).After-lamp_of-l in
     let loop = c.loop-i in
     let g = loop.invariant.0 in
     let within = c.loop-i-test.true in
@@ -73,7 +75,7 @@ advance-m-requires c =
 
 pub turn_at-turn-requires : goal.turn_at-turn-requires
 turn_at-turn-requires c =
-    let ready = ready-to (?? c.before.before.before.before.before.before.before.before.before.before) in
+    let ready = ready_to (goal.at.turn_at-turn-requires c).After-lamp_of-l in
     let loop = c.loop-i in
     let g = loop.invariant.0 in
     let within = c.loop-i-test.true in
@@ -81,23 +83,23 @@ turn_at-turn-requires c =
     let stamp = rw place at c.stamp_at-t.ensures in
     let moves = c.advance-m in
     let two = a_move_writes_at_most_two (state_of c.args.start.params loop.k loop.l) c.stamp_at-t.result in
-    (omega (arith, place, within, ready.whole), omega (arith, loop.invariant.1, (moves.ensures loop.k).count), (omega (arith, within, two, (moves.ensures loop.k).count, moves.auto.0, g.stands.few, g.stands.room, c.requires.2)))
+    (omega (arith, place, within, ready.whole), omega (arith, loop.invariant.1, (moves.ensures loop.k).count), (omega (arith, within, two, (moves.ensures loop.k).count, moves.auto.records, g.stands.few, g.stands.room, c.requires.2)))
 
 pub overflow_cast-answers : goal.overflow_cast-answers
-overflow_cast-answers c = omega (arith, c.loop-i-test.true, (ready-to (?? c.before.before.before.before.before.before.before.before.before.before.before.before.before.before)).few)
+overflow_cast-answers c = omega (arith, c.loop-i-test.true, (ready_to (goal.at.overflow_cast-answers c).After-lamp_of-l).few)
 
 pub bounds-answers-i : goal.bounds-answers-i
 bounds-answers-i c = omega (arith, c.loop-i-test.true, c.loop-i.invariant.0.stands.places, c.requires.3)
 
 pub overflow_add-i : goal.overflow_add-i
-overflow_add-i c = omega (arith, c.loop-i-test.true, (ready-to (?? c.before.before.before.before.before.before.before.before.before.before.before.before.before.before)).few)
+overflow_add-i c = omega (arith, c.loop-i-test.true, (ready_to (goal.at.overflow_add-i c).After-lamp_of-l).few)
 
 pub loop-i-smaller-in-Nothing : goal.loop-i-smaller-in-Nothing
 loop-i-smaller-in-Nothing c = omega (arith, c.loop-i-test.true)
 
 pub loop-i-preserved-in-Nothing : goal.loop-i-preserved-in-Nothing
 loop-i-preserved-in-Nothing c =
-    let ready = ready-to (?? c.before.before.before.before.before.before.before.before.before.before.before.before.before.before) in
+    let ready = ready_to (goal.at.loop-i-preserved-in-Nothing c).After-lamp_of-l in
     let loop = c.loop-i in
     let g = loop.invariant.0 in
     let within = c.loop-i-test.true in
@@ -105,19 +107,19 @@ loop-i-preserved-in-Nothing c =
     let stamp = rw place at c.stamp_at-t.ensures in
     let moves = c.advance-m in
     let two = a_move_writes_at_most_two (state_of c.args.start.params loop.k loop.l) c.stamp_at-t.result in
-    (going_rests _ _ _ _ _ _ ready c.args.start.params loop.k loop.l loop.z loop.heard _ _ _ _ g loop.invariant.1 within (omega (arith, c.requires.2)) c.requires.3 (omega (arith, within, g.stands.few, g.stands.room, c.requires.2)) _ _ (rw stamp at moves.ensures) moves.auto.0 (omega (arith, within, two, (moves.ensures loop.k).count, moves.auto.0, g.stands.few, g.stands.room, c.requires.2)) _ (took (?? c.before.before.before)) c.in-Nothing.is, behind-still (?? c.before.before.before))
+    (going_rests _ _ _ _ _ _ ready c.args.start.params loop.k loop.l loop.z loop.heard _ _ _ _ g loop.invariant.1 within (omega (arith, c.requires.2)) c.requires.3 (omega (arith, within, g.stands.few, g.stands.room, c.requires.2)) _ _ (rw stamp at moves.ensures) moves.auto.records (omega (arith, within, two, (moves.ensures loop.k).count, moves.auto.records, g.stands.few, g.stands.room, c.requires.2)) _ (took (goal.at.loop-i-preserved-in-Nothing c).After-turn_at-turn) c.in-Nothing.is, behind_still (goal.at.loop-i-preserved-in-Nothing c).After-turn_at-turn)
 
 -- what is asked for is an input, of one of the eight kinds
 pub fate_of-f-requires : goal.fate_of-f-requires
-fate_of-f-requires c = let x = asked (?? c.before) in rw (← meant_kind _ _ x.0 x.1) (kind_range x.0)
+fate_of-f-requires c = let x = asked (goal.at.fate_of-f-requires c).In-Order in rw (← meant_kind _ _ x.0 x.1) (kind_range x.0)
 
 pub known_input-x-requires : goal.known_input-x-requires
-known_input-x-requires c = rw (asked (?? c.before.before.before.before.before)).1 refl
+known_input-x-requires c = rw (asked (goal.at.known_input-x-requires c).In-Order).1 refl
 
 pub take-d-requires : goal.take-d-requires
 unfolding barrier
 take-d-requires c =
-    let ready = ready-to (?? c.before.before.before.before.before.before.before.before.before.before.before.before.before.before.before.before.before.before.before.before) in
+    let ready = ready_to (goal.at.take-d-requires c).After-lamp_of-l in
     let a = c.args in
     let loop = c.loop-i in
     let s = state_of a.start.params loop.k loop.l in
@@ -128,7 +130,7 @@ take-d-requires c =
 
 pub put_note-count-requires : goal.put_note-count-requires
 put_note-count-requires c =
-    let ready = ready-to (?? c.before.before.before.before.before.before.before.before.before.before.before.before.before.before.before.before.before.before.before.before.before.before) in
+    let ready = ready_to (goal.at.put_note-count-requires c).After-lamp_of-l in
     let loop = c.loop-i in
     let g = loop.invariant.0 in
     let within = c.loop-i-test.true in
@@ -137,10 +139,10 @@ put_note-count-requires c =
     let moves = c.advance-m in
     let two = a_move_writes_at_most_two (state_of c.args.start.params loop.k loop.l) c.stamp_at-t.result in
     let own = listed_few c.take-d.result.note in
-    (omega (arith, within, two, (moves.ensures loop.k).count, g.stands.few, ready.few), omega (arith, within, two, own, (moves.ensures loop.k).count, moves.auto.0, g.stands.few, g.stands.room, c.requires.2))
+    (omega (arith, within, two, (moves.ensures loop.k).count, g.stands.few, ready.few), omega (arith, within, two, own, (moves.ensures loop.k).count, moves.auto.records, g.stands.few, g.stands.room, c.requires.2))
 
 pub overflow_cast-answers-in-Counts : goal.overflow_cast-answers-in-Counts
-overflow_cast-answers-in-Counts c = omega (arith, c.loop-i-test.true, (ready-to (?? c.before.before.before.before.before.before.before.before.before.before.before.before.before.before.before.before.before.before.before.before.before.before.before.before.before)).few)
+overflow_cast-answers-in-Counts c = omega (arith, c.loop-i-test.true, (ready_to (goal.at.overflow_cast-answers-in-Counts c).After-lamp_of-l).few)
 
 pub bounds-answers-i-in-Counts : goal.bounds-answers-i-in-Counts
 bounds-answers-i-in-Counts c = omega (arith, c.loop-i-test.true, c.loop-i.invariant.0.stands.places, c.requires.3)
@@ -150,14 +152,14 @@ unfolding barrier
 scenes_after-table-requires c = (c.in-Counts.noted, rw (← meant_kind _ _ _ c.known_input-x.ensures) at (sym c.fate_of-f.ensures ∙ c.in-Counts.is))
 
 pub overflow_add-i-in-Counts : goal.overflow_add-i-in-Counts
-overflow_add-i-in-Counts c = omega (arith, c.loop-i-test.true, (ready-to (?? c.before.before.before.before.before.before.before.before.before.before.before.before.before.before.before.before.before.before.before.before.before.before.before.before.before.before.before)).few)
+overflow_add-i-in-Counts c = omega (arith, c.loop-i-test.true, (ready_to (goal.at.overflow_add-i-in-Counts c).After-lamp_of-l).few)
 
 pub loop-i-smaller-in-Counts : goal.loop-i-smaller-in-Counts
 loop-i-smaller-in-Counts c = omega (arith, c.loop-i-test.true)
 
 pub loop-i-preserved-in-Counts : goal.loop-i-preserved-in-Counts
 loop-i-preserved-in-Counts c =
-    let ready = ready-to (?? c.before.before.before.before.before.before.before.before.before.before.before.before.before.before.before.before.before.before.before.before.before.before.before.before.before.before.before) in
+    let ready = ready_to (goal.at.loop-i-preserved-in-Counts c).After-lamp_of-l in
     let loop = c.loop-i in
     let g = loop.invariant.0 in
     let within = c.loop-i-test.true in
@@ -167,17 +169,17 @@ loop-i-preserved-in-Counts c =
     let two = a_move_writes_at_most_two (state_of c.args.start.params loop.k loop.l) c.stamp_at-t.result in
     let put = c.put_note-count in
     let means = c.known_input-x.ensures in
-    let goes = going_acts _ _ _ _ _ _ ready c.args.start.params loop.k loop.l loop.z loop.heard _ _ _ _ g loop.invariant.1 within (omega (arith, c.requires.2)) c.requires.3 (omega (arith, within, g.stands.few, g.stands.room, c.requires.2)) _ _ (rw stamp at moves.ensures) moves.auto.0 (omega (arith, within, two, (moves.ensures loop.k).count, moves.auto.0, g.stands.few, g.stands.room, c.requires.2)) _ (took (?? c.before.before.before.before.before.before.before.before.before.before.before.before.before.before.before.before)) _ _ c.in-Order.is _ means _ c.take-d.ensures _ put.ensures.0 _ put.ensures.1 (put.auto.0 ∙ moves.auto.0) _ c.scenes_after-table.ensures in
-    (goes, omega (arith, behind-still (?? c.before.before.before.before.before.before.before.before.before.before.before.before.before.before.before.before), put.ensures.0))
+    let goes = going_acts _ _ _ _ _ _ ready c.args.start.params loop.k loop.l loop.z loop.heard _ _ _ _ g loop.invariant.1 within (omega (arith, c.requires.2)) c.requires.3 (omega (arith, within, g.stands.few, g.stands.room, c.requires.2)) _ _ (rw stamp at moves.ensures) moves.auto.records (omega (arith, within, two, (moves.ensures loop.k).count, moves.auto.records, g.stands.few, g.stands.room, c.requires.2)) _ (took (goal.at.loop-i-preserved-in-Counts c).After-turn_at-turn) _ _ c.in-Order.is _ means _ c.take-d.ensures _ put.ensures.0 _ put.ensures.1 (put.auto.buf ∙ moves.auto.records) _ c.scenes_after-table.ensures in
+    (goes, omega (arith, behind_still (goal.at.loop-i-preserved-in-Counts c).After-turn_at-turn, put.ensures.0))
 
 pub overflow_cast-answers-in-Dropped : goal.overflow_cast-answers-in-Dropped
-overflow_cast-answers-in-Dropped c = omega (arith, c.loop-i-test.true, (ready-to (?? c.before.before.before.before.before.before.before.before.before.before.before.before.before.before.before.before.before.before.before)).few)
+overflow_cast-answers-in-Dropped c = omega (arith, c.loop-i-test.true, (ready_to (goal.at.overflow_cast-answers-in-Dropped c).After-lamp_of-l).few)
 
 pub bounds-answers-i-in-Dropped : goal.bounds-answers-i-in-Dropped
 bounds-answers-i-in-Dropped c = omega (arith, c.loop-i-test.true, c.loop-i.invariant.0.stands.places, c.requires.3)
 
 pub overflow_add-i-in-Dropped : goal.overflow_add-i-in-Dropped
-overflow_add-i-in-Dropped c = omega (arith, c.loop-i-test.true, (ready-to (?? c.before.before.before.before.before.before.before.before.before.before.before.before.before.before.before.before.before.before.before)).few)
+overflow_add-i-in-Dropped c = omega (arith, c.loop-i-test.true, (ready_to (goal.at.overflow_add-i-in-Dropped c).After-lamp_of-l).few)
 
 pub loop-i-smaller : goal.loop-i-smaller
 loop-i-smaller c = omega (arith, c.loop-i-test.true)
@@ -185,7 +187,7 @@ loop-i-smaller c = omega (arith, c.loop-i-test.true)
 pub loop-i-preserved : goal.loop-i-preserved
 unfolding barrier
 loop-i-preserved c =
-    let ready = ready-to (?? c.before.before.before.before.before.before.before.before.before.before.before.before.before.before.before.before.before.before.before) in
+    let ready = ready_to (goal.at.loop-i-preserved c).After-lamp_of-l in
     let loop = c.loop-i in
     let g = loop.invariant.0 in
     let within = c.loop-i-test.true in
@@ -193,10 +195,10 @@ loop-i-preserved c =
     let stamp = rw place at c.stamp_at-t.ensures in
     let moves = c.advance-m in
     let two = a_move_writes_at_most_two (state_of c.args.start.params loop.k loop.l) c.stamp_at-t.result in
-    let x = asked (?? c.before.before.before.before.before) in
+    let x = asked (goal.at.loop-i-preserved c).In-Order in
     let drops = rw (← meant_kind _ _ _ x.1) at (sym c.fate_of-f.ensures ∙ c.in-Dropped.is) in
-    let goes = going_dropped _ _ _ _ _ _ ready c.args.start.params loop.k loop.l loop.z loop.heard _ _ _ _ g loop.invariant.1 within (omega (arith, c.requires.2)) c.requires.3 (omega (arith, within, g.stands.few, g.stands.room, c.requires.2)) _ _ (rw stamp at moves.ensures) moves.auto.0 (omega (arith, within, two, (moves.ensures loop.k).count, moves.auto.0, g.stands.few, g.stands.room, c.requires.2)) _ (took (?? c.before.before.before.before.before.before.before.before)) _ _ c.in-Order.is x.0 x.1 c.in-Dropped.answer drops in
-    (goes, behind-still (?? c.before.before.before.before.before.before.before.before))
+    let goes = going_dropped _ _ _ _ _ _ ready c.args.start.params loop.k loop.l loop.z loop.heard _ _ _ _ g loop.invariant.1 within (omega (arith, c.requires.2)) c.requires.3 (omega (arith, within, g.stands.few, g.stands.room, c.requires.2)) _ _ (rw stamp at moves.ensures) moves.auto.records (omega (arith, within, two, (moves.ensures loop.k).count, moves.auto.records, g.stands.few, g.stands.room, c.requires.2)) _ (took (goal.at.loop-i-preserved c).After-turn_at-turn) _ _ c.in-Order.is x.0 x.1 c.in-Dropped.answer drops in
+    (goes, behind_still (goal.at.loop-i-preserved c).After-turn_at-turn)
 
 pub shape_of-records : goal.shape_of-records
 shape_of-records c = c.loop-i.invariant.0.stands.room
@@ -208,5 +210,5 @@ pub returns : goal.returns
 returns c =
     let loop = c.loop-i in
     let g = loop.invariant.0 in
-    let all = going_last _ _ _ _ _ _ (ready-to (?? c.before.before.before)) _ _ _ _ _ g c.loop-i-test.false in
+    let all = going_last _ _ _ _ _ _ (ready_to (goal.at.returns c).After-lamp_of-l) _ _ _ _ _ g c.loop-i-test.false in
     rw c.state_of.ensures (record { filled = rw c.lamp_of-l.ensures at all; safe = ((sound_pair_exactly_when _).0 g.safe).actuator; few = omega (arith, g.stands.few, g.upto); behind = loop.invariant.1 })

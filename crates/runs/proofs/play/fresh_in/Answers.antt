@@ -4,18 +4,19 @@ use Rattle.rules.specs.Layout.{parameters_size}
 use Rattle.runs.specs.Runs.{fresh_in}
 use Rattle.rules.proofs.Refusals.Files.{parameters_whole}
 use Rattle.runs.proofs.play.fresh_in.Goals as goal
+use Rattle.runs.proofs.play.fresh_in.Goals.{After-parameters_in-parameters}
 
 -- the parameters are as long as the row says
-whole : (c : tie.After-parameters-in) → length c.parameters-in.result.now ≡ parameters_size c.before.before.args.form
+whole : (c : After-parameters_in-parameters) → length c.parameters_in-parameters.result.now ≡ parameters_size c.args.form
 whole c =
-    let row = c.before.before.requires.0 in
-    rw (c.parameters-in.ensures, row) (parameters_whole _ (rw row at c.before.before.requires.1))
+    let row = c.requires.0 in
+    rw (c.parameters_in-parameters.ensures, row) (parameters_whole _ (rw row at c.requires.1))
 
 pub params_of-requires : goal.params_of-requires
-params_of-requires c = whole (?? c)
+params_of-requires c = whole (goal.at.params_of-requires c).After-parameters_in-parameters
 
 pub scenes_of-requires : goal.scenes_of-requires
-scenes_of-requires c = whole (?? c.before)
+scenes_of-requires c = whole (goal.at.scenes_of-requires c).After-parameters_in-parameters
 
 pub returns : goal.returns
 unfolding fresh_in

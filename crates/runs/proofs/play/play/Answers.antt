@@ -12,16 +12,17 @@ use Rattle.runs.specs.Runs.{fresh_in}
 use Rattle.timers.proofs.Moves.{moved_few}
 use Rattle.runs.proofs.Ends.{record-alone, fit_ready, ended, filled_is_accepted}
 use Rattle.runs.proofs.play.play.Goals as goal
+use Rattle.runs.proofs.play.play.Goals.{After-put_record}
 
 -- the start record stands at the head of the buffer
-begun : (c : tie.After-put-record) → let a = c.before.before.before.before.before.before.before.before.before.before.before.args in c.put_record.new.0 ≡ splice a.records.now 0 (record_octets (record_of 0 (fresh_in a.file.now)))
+begun : (c : After-put_record) → let a = c.args in c.put_record.new.buf ≡ splice a.records.now 0 (record_octets (record_of 0 (fresh_in a.file.now)))
 begun c =
     c.put_record.ensures
-    ∙ rw (c.before.record_of.ensures, c.before.before.lamp-of.ensures, c.before.before.before.before.Fresh-in.ensures) (rw (record-alone 0 (fresh_in _)) refl)
+    ∙ rw (c.record_of.ensures, c.lamp_of.ensures, c.fresh_in-start.ensures) (rw (record-alone 0 (fresh_in _)) refl)
 
 -- the fresh pair is sound, and the items are in order from there on
-ready : (c : tie.After-put-record) → let a = c.before.before.before.before.before.before.before.before.before.before.before.args in Ready (inputs_in a.file.now) (input_count a.file.now) (pair_of c.before.before.before.before.Fresh-in.result (listened c.put_record.new.0 1 a.first 0))
-ready c = rw c.before.before.before.before.Fresh-in.ensures (fit_ready _ _ _ _ (begun c) c.before.before.before.before.before.before.before.before.before.before.before.requires.0)
+ready : (c : After-put_record) → let a = c.args in Ready (inputs_in a.file.now) (input_count a.file.now) (pair_of c.fresh_in-start.result (listened c.put_record.new.buf 1 a.first 0))
+ready c = rw c.fresh_in-start.ensures (fit_ready _ _ _ _ (begun c) c.requires.0)
 
 pub fresh_in-start-requires : goal.fresh_in-start-requires
 fresh_in-start-requires c = rw c.form_in-form.ensures (refl, c.requires.0.start.header.enough.long)
@@ -33,7 +34,7 @@ pub play_items-played-requires : goal.play_items-played-requires
 play_items-played-requires c =
     let n = c.input_count-n.ensures in
     let room = c.requires in
-    (rw (c.inputs_in.ensures, n) (ready (?? c.before.before.before.before.before)), omega arith, omega (arith, n, c.put_record.auto.0, room.1), rw n room.2)
+    (rw (c.inputs_in.ensures, n) (ready (goal.at.play_items-played-requires c).After-put_record), omega arith, omega (arith, n, c.put_record.auto.buf, room.1), rw n room.2)
 
 pub move_clock-last-requires : goal.move_clock-last-requires
 move_clock-last-requires c = sound_room _ _ c.play_items-played.ensures.safe (omega (arith, c.end_time-end.ensures, c.requires.0.start.header.layout.end))
@@ -43,26 +44,26 @@ put_notes-requires c =
     let items = c.play_items-played in
     let few = moved_few _ _ _ c.move_clock-last.ensures in
     let n = c.input_count-n.ensures in
-    (omega (arith, few, n, items.ensures.few, (ready (?? c.before.before.before.before.before.before.before.before.before.before.before.before.before.before.before.before)).few), omega (arith, few), omega (arith, few, n, items.ensures.few, items.auto.1.1.1.1.1.0, c.put_record.auto.0, c.requires.1))
+    (omega (arith, few, n, items.ensures.few, (ready (goal.at.put_notes-requires c).After-put_record).few), omega (arith, few), omega (arith, few, n, items.ensures.few, items.auto.records, c.put_record.auto.buf, c.requires.1))
 
 pub overflow_add-count : goal.overflow_add-count
-overflow_add-count c = omega (arith, moved_few _ _ _ c.move_clock-last.ensures, c.input_count-n.ensures, c.play_items-played.ensures.few, (ready (?? c.before.before.before.before.before.before.before.before.before.before.before.before.before.before.before.before.before.before.before.before.before)).few)
+overflow_add-count c = omega (arith, moved_few _ _ _ c.move_clock-last.ensures, c.input_count-n.ensures, c.play_items-played.ensures.few, (ready (goal.at.overflow_add-count c).After-put_record).few)
 
 pub listen-requires : goal.listen-requires
 listen-requires c =
     let items = c.play_items-played in
     let few = moved_few _ _ _ c.move_clock-last.ensures in
-    (omega (arith, items.ensures.behind), omega (arith, few, c.input_count-n.ensures, items.ensures.few, c.put_notes.auto.0, items.auto.1.1.1.1.1.0, c.put_record.auto.0, c.requires.1))
+    (omega (arith, items.ensures.behind), omega (arith, few, c.input_count-n.ensures, items.ensures.few, c.put_notes.auto.buf, items.auto.records, c.put_record.auto.buf, c.requires.1))
 
 pub shape_of-records : goal.shape_of-records
-shape_of-records c = c.put_notes.auto.0 ∙ c.play_items-played.auto.1.1.1.1.1.0 ∙ c.put_record.auto.0
+shape_of-records c = c.put_notes.auto.buf ∙ c.play_items-played.auto.records ∙ c.put_record.auto.buf
 
 pub shape_of-answers : goal.shape_of-answers
-shape_of-answers c = c.play_items-played.auto.1.1.1.1.1.1.0
+shape_of-answers c = c.play_items-played.auto.answers
 
 pub returns : goal.returns
 returns c =
     let items = c.play_items-played in
     let n = c.input_count-n.ensures in
     rw c.listen.ensures
-    (filled_is_accepted _ _ _ _ _ _ _ _ (ended _ _ _ _ (begun (?? c.before.before.before.before.before.before.before.before.before.before.before.before.before.before.before.before.before.before.before.before.before.before.before)) c.requires.0 _ _ _ _ _ _ _ _ items.ensures.behind (omega (arith, n, items.ensures.few, items.auto.1.1.1.1.1.0, c.put_record.auto.0, c.requires.1)) (rw (c.fresh_in-start.ensures, c.inputs_in.ensures, n) at items.ensures.filled) _ (rw c.end_time-end.ensures at c.move_clock-last.ensures) c.put_notes.ensures))
+    (filled_is_accepted _ _ _ _ _ _ _ _ (ended _ _ _ _ (begun (goal.at.returns c).After-put_record) c.requires.0 _ _ _ _ _ _ _ _ items.ensures.behind (omega (arith, n, items.ensures.few, items.auto.records, c.put_record.auto.buf, c.requires.1)) (rw (c.fresh_in-start.ensures, c.inputs_in.ensures, n) at items.ensures.filled) _ (rw c.end_time-end.ensures at c.move_clock-last.ensures) c.put_notes.ensures))
