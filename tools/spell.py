@@ -14,13 +14,15 @@ import glob
 import re
 import sys
 
-WORD = re.compile(r"[A-Za-z_Α-ωµ][A-Za-z0-9_'₀-₉Α-ωµ]*(?:-[A-Za-z0-9_'₀-₉Α-ωµ]+)*")
+WORD = re.compile(r"[A-Za-z0-9_Α-ωµ][A-Za-z0-9_'₀-₉Α-ωµ]*(?:-[A-Za-z0-9_'₀-₉Α-ωµ]+)*")
 DECLARED = re.compile(r"^(?:(?:pub|abbrev|unfoldable) )*([^\s:(){}]+) :(?= |$)")
 INNER = re.compile(r"^ +(?:pub )?([a-z][^\s:(){}=.]*) :(?= |$)")
 OWN = re.compile(r"^use Rattle\.")
 USED = re.compile(r"^(?:ghost )?use ([^{}\s]+)\.\{([^}]*)\}")
 PAGES = ["README.md", "docs/ARCHITECTURE.md", "docs/DECISIONS.md", "docs/FORMAT.md", "docs/FORMS.md", "docs/PROMISES.md", "docs/TRACE.md"]
 
+# A name that snake case would make a numeral's.
+NAMED = {"255-is-lit": "lit_where_255"}
 # In one file: a name that would fall together with another, and what it is called there.
 APART = {
     ("crates/rules/proofs/Laws/Said.antt", "by_mode"): "by_mode_lem",
@@ -45,12 +47,12 @@ def antt_files():
 
 
 def declared():
-    """What the .antt files declare, each with the files that declare it. What a proof of a function calls its goals is Rattle's."""
+    """What the .antt files declare, each with the files that declare it. What a proof of a function calls its goals is Rattle's own."""
     names = collections.defaultdict(set)
     for path in antt_files():
         for line in read(path).splitlines():
             it = DECLARED.match(line) or INNER.match(line)
-            if it and " : tie." not in line and not re.match(r"(pub )?(record|data)\b", line):
+            if it and not re.search(r" : (tie|goal)\.", line) and not re.match(r"(pub )?(record|data) ", line):
                 names[it[1]].add(path)
     return names
 
@@ -79,7 +81,7 @@ def table():
     definitions = {snake(name) for name in names if not is_lemma(name, names)}
     new = {}
     for name in names:
-        spelled = snake(name)
+        spelled = NAMED.get(name) or snake(name)
         if spelled in definitions and is_lemma(name, names):
             spelled += "_lem"
         if spelled != name and not re.fullmatch(r"[A-Z][A-Za-z0-9']*", name):

@@ -48,9 +48,9 @@ lit_is_255 : (s : State) → output s.phase ≡ true → value s ≡ 255
 unfolding value
 lit_is_255 s lit = rw lit
 
-255-is-lit : (s : State) → value s ≡ 255 → output s.phase ≡ true
+lit_where_255 : (s : State) → value s ≡ 255 → output s.phase ≡ true
 unfolding value
-255-is-lit s = by (output s.phase)
+lit_where_255 s = by (output s.phase)
   where
     by : (b : Bool) → ◌≡◌ {A = ℕ} (cond b 255 0) 255 → b ≡ true
     by true e = refl
@@ -291,7 +291,7 @@ lit_through_ties : (p : Params) (scenes : List Scene) (list : List Cue) (end : �
 lit_through_ties p scenes list end r some delay before a i later split due was =
     let met : State = (turn_after p scenes before a i).met in
     let whole = rw (← split) at r in
-    let lit = 255-is-lit met (sym (shown_before_lem p scenes before a i (rises_before 0 end before a i later whole)) ∙ was) in
+    let lit = lit_where_255 met (sym (shown_before_lem p scenes before a i (rises_before 0 end before a i later whole)) ∙ was) in
     the_last_record_shows_the_output p scenes list end a 0 r (omega (arith, due.reached))
     ∙ lit_is_255 (state_at a list (fresh p scenes)) (a_lit_lamp_stays_lit p scenes list end r some delay before a i later split due lit)
 

@@ -39,9 +39,9 @@ use Rattle.player.specs.Playing.{items_from, Ready, Filled}
 use Rattle.runs.specs.Runs.{items_in, fresh_in, play_in, Fit}
 
 -- a record shows the lamp alone
-pub record-alone : (cause : ℕ) (s : State) → record_of cause (alone (lamp_of s)) ≡ record_of cause s
+pub record_alone : (cause : ℕ) (s : State) → record_of cause (alone (lamp_of s)) ≡ record_of cause s
 unfolding record_of value attributes
-record-alone cause s = refl
+record_alone cause s = refl
 
 -- ---- the items
 
