@@ -1,11 +1,9 @@
 #!/usr/bin/env bash
 # Instructions and time of the proved calls against the second model in Rust, over the kinds of show of shows.rs: of an input, and of
-# a whole call where a show has none. Needs valgrind and rustc. Both sides are compiled for this machine's own processor: the proved
-# calls from the very code that `rt staticlib` compiles of house, desk and walls, at -O3.
+# a whole call where a show has none. Needs valgrind and rustc. The proved calls are those of the archives.
 set -eu
 cd "$(dirname "$0")/.."
 . making/kit.sh
-. making/native.sh
 out=target/bench
 mkdir -p "$out"
 
@@ -29,13 +27,8 @@ ratio() {
     awk "BEGIN { printf \"%.2f\", $1 / $2 }"
 }
 
-rt check "${played[@]}" >"$out/check" 2>&1
-proved=()
-for crate in "${played[@]}"; do
-    native_object "$out/$crate.o" "$crate" -O3
-    proved+=(-C "link-arg=$out/$crate.o")
-done
-rustc --edition 2021 -C opt-level=3 -C codegen-units=1 bench/bench.rs -o "$out/bench" "${proved[@]}"
+making/archives.sh "${played[@]}" >"$out/archives" 2>&1
+rustc --edition 2021 -C opt-level=3 -C codegen-units=1 bench/bench.rs -o "$out/bench" -L target/staticlib "${played[@]/#/-lstatic=}"
 "$out/bench" shows >"$out/shows"
 
 echo "| show | inputs | change | change nothing | noted | stopped | records | of timers |"

@@ -1,4 +1,4 @@
-/* The calls for C behind a pipe, for tests on machines that cannot link them: reads calls on standard input, answers on standard
+/* The calls for C behind a pipe, for tests that reach them without linking them: reads calls on standard input, answers on standard
  * output. It uses no header at all, so that the kit's bare compiler builds it.
  *
  * A call: a letter (named below); the lengths of the list (a cue file, a wall list, parameters or inputs), of the state, of the

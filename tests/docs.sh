@@ -35,14 +35,28 @@ differ "the newest version of CHANGELOG differs from the header's" \
     "$(diff <(sed -n 's/^## \([0-9][0-9.]*\),.*/\1/p' CHANGELOG.md | head -n 1) <(making/version.sh))"
 
 # Contracts cite definitions, never a proof.
-differ "a contract cites a proof" "$(grep -nE '^ghost use .*[.·]proofs' crates/*/src/*.rt)"
+differ "a contract cites a proof" "$(grep -nE '^ghost use .*[.]proofs\b' crates/*/src/*.rt)"
 
-# A theorem that is named is declared: names of two or more words with hyphens between.
-declared=$(mktemp)
-grep -rhoE '^ *(pub )?[a-z][a-z0-9]*(-[a-z0-9]+)+ :' crates --include='*.antt' | sed -E 's/^ *(pub )?//; s/ :$//' | sort -u >"$declared"
-differ "named in the documents, and declared nowhere" \
-    "$(grep -ohE '`[a-z][a-z0-9]*(-[a-z0-9]+)+`' docs/PROMISES.md docs/TRACE.md docs/ARCHITECTURE.md | tr -d '`' | sort -u |
-        comm -23 - "$declared" | grep -vxE '(returns|loop)-[0-9a-z]+|.*-requires(-[0-9]+)?')"
-rm -f "$declared"
+# declared: what specs/ and proofs/ declare: definitions, theorems, and the parts of both.
+declared() {
+    grep -rhoE --include='*.antt' --exclude-dir=out '^ *((pub|abbrev|unfoldable|pattern) )*[a-z][a-z0-9]*(_[a-z0-9]+)+ :( |$)' crates | sed -E 's/ :.*$//; s/^.* //'
+}
+
+# other_names: the names that look like a theorem's and are none: crates, functions of the code, of words/ and of the header, and must-fail edits.
+other_names() {
+    ls crates
+    grep -hoE '\bfn [a-z][a-z0-9_]*' crates/*/src/*.rt | cut -d ' ' -f 2
+    grep -hoE '^function [a-z_]+' words/*.awk | cut -d ' ' -f 2
+    grep -hoE '\bhouse_[a-z_]+' include/house.h
+    ls crates/*/must-fail/*.edit | sed 's|.*/||; s|\.edit$||'
+}
+
+# named: the names of two or more words that stand alone in backquotes. (What a proof of a function calls its goals is Rattle's.)
+named() {
+    grep -ohE '`[a-z][a-z0-9]*([_-][a-z0-9]+)+`' docs/PROMISES.md docs/TRACE.md docs/ARCHITECTURE.md | tr -d '`' | grep -vxE '(returns|loop)[_-][0-9a-z_-]+|.*[_-]requires([_-][0-9]+)?'
+}
+
+# A theorem that is named is declared. (A name with hyphens never is.)
+differ "named in the documents, and declared nowhere" "$(named | sort -u | comm -23 - <({ declared && other_names; } | sort -u))"
 
 exit $bad

@@ -4,7 +4,7 @@ set -eu
 cd "$(dirname "$0")/.."
 
 awk '
-    { sub(/#.*/, "") }
+    { sub(/#.*/, ""); sub(/ +staticlib *:/, ":") }
     /:/ {
         name = $1; sub(/:$/, "", name)
         own[name] = 1; rows[++count] = name

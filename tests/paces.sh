@@ -1,7 +1,7 @@
 #!/usr/bin/env bash
 # Compares the stored output of the program `paces` and the printouts of the shows with what the independent model in Rust gives,
 # and runs the model's own tests. Needs a rustc on the PATH (1.63 or newer); builds in a temporary folder. (That the proved program
-# writes its stored output is for `rt check paces`.) The last line is 'N passed, M failed'; succeeds exactly when M is 0.
+# writes its stored output is for `rt ci`.) The last line is 'N passed, M failed'; succeeds exactly when M is 0.
 set -u
 cd "$(dirname "$0")/.." || exit 2
 

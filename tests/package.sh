@@ -2,8 +2,6 @@
 # The package, as a stranger gets it: made by ./package, moved elsewhere, looked into, and built against from a folder outside, with
 # nothing of the repository and no rt at hand. Called after the archives and the print program are built. The last line is
 # 'N passed, M failed'; the exit status is 0 exactly when M is 0.
-#
-# The programs are for x86-64. On aarch64 they are compiled by Debian's cross compilers and run under an emulator.
 set -u
 cd "$(dirname "$0")/.." || exit 2
 . making/kit.sh
@@ -124,7 +122,7 @@ has_no() {
 # A linker takes only what a program needs.
 takes_what_it_needs() {
     echo 'int main(void) { return house_version() != HOUSE_VERSION; }' >"$work/away/least.c"
-    outside "$cc" -include house.h least.c -o least $(outside pkg-config --cflags house) "$package/lib/libhouse.a" &&
+    outside cc -include house.h least.c -o least $(outside pkg-config --cflags house) "$package/lib/libhouse.a" &&
         [ "$(symbols "$work/away/least" --syms | grep -o 'house_.*')" = house_version ]
 }
 
@@ -166,13 +164,12 @@ glibc_as_said() {
     grep -q "glibc ${newest#GLIBC_} or later" README.md
 }
 
-# prints_as_here STATUS WORDS..: preview of the package ends so, and writes what ./preview does. Only an emulator needs the kit.
+# prints_as_here STATUS WORDS..: preview of the package ends so, and writes what ./preview does.
 prints_as_here() {
-    local status=$1 kit=()
+    local status=$1
     shift
-    [ "$(uname -m)" = x86_64 ] || kit=(env "RATTLE_HOME=$kit_home")
     ./preview "$@" >"$work/here" 2>&1
-    outside "${kit[@]}" "$package/bin/preview" "$@" >"$work/there" 2>&1
+    outside "$package/bin/preview" "$@" >"$work/there" 2>&1
     [ "$?" -eq "$status" ] && diff "$work/here" "$work/there"
 }
 
@@ -198,21 +195,6 @@ contents() {
 
 # ---- what is built against it
 
-# The compilers, and what runs their programs.
-choose_compilers() {
-    cc=cc cxx=c++ run=()
-    [ "$(uname -m)" != x86_64 ] || return
-    cc=x86_64-linux-gnu-gcc cxx=x86_64-linux-gnu-g++ run=(qemu-x86_64)
-    echo "AddressSanitizer and valgrind are for x86-64 machines: not tried here"
-}
-
-# can_build: on x86-64 what is missing is a failure of the checks that need it; elsewhere nothing is built then.
-can_build() {
-    local command
-    [ "$(uname -m)" != x86_64 ] || return 0
-    for command in "$cc" "$cxx" "${run[@]}" pkg-config; do command -v "$command" >/dev/null || return 1; done
-}
-
 # alone COMPILER LANGUAGE STANDARD: the header by itself.
 alone() {
     echo '#include <house.h>' | outside "$1" -x "$2" "-std=$3" "${warnings[@]}" $(outside pkg-config --cflags house) -fsyntax-only -
@@ -220,9 +202,9 @@ alone() {
 
 # build LANGUAGE LINK OUT [WORDS..]: calls.c as C or C++, with the archive or with the shared object. No C++ library is needed.
 build() {
-    local language=$1 link=$2 out=$3 compiler=("$cc" -std=c99) libs
+    local language=$1 link=$2 out=$3 compiler=(cc -std=c99) libs
     shift 3
-    [ "$language" = C ] || compiler=("$cxx" -x c++ -std=c++11)
+    [ "$language" = C ] || compiler=(c++ -x c++ -std=c++11)
     case $link in
     static) libs=(-Wl,-Bstatic $(outside pkg-config --static --libs house) -Wl,-Bdynamic) ;;
     shared) libs=($(outside pkg-config --libs house) "-Wl,-rpath,$package/lib") ;;
@@ -253,8 +235,7 @@ program() {
     local out=calls_$1_$2 name="a $1 program, $2"
     check "$name: built, warnings as errors" build "$1" "$2" "$out"
     check "$name: and linked so" needs "$2" "$out"
-    check "$name: every call" outside "${run[@]}" "./$out"
-    [ "$(uname -m)" = x86_64 ] || return 0
+    check "$name: every call" outside "./$out"
     check "$name: under valgrind" outside valgrind -q --error-exitcode=9 --leak-check=full "./$out"
     check "$name: with AddressSanitizer and UndefinedBehaviorSanitizer" sanitized "$1" "$2"
 }
@@ -270,12 +251,12 @@ readme_line() {
 
 # The figures are said with the verdict.
 stack() {
-    outside "$cc" -std=c99 "${warnings[@]}" -O2 $(outside pkg-config --cflags house) stack.c "$package/lib/libhouse.a" -o stack &&
-        outside "${run[@]}" ./stack >"$work/stack"
+    outside cc -std=c99 "${warnings[@]}" -O2 $(outside pkg-config --cflags house) stack.c "$package/lib/libhouse.a" -o stack &&
+        outside ./stack >"$work/stack"
 }
 
 headers() {
-    local compiler compilers=("$cc")
+    local compiler compilers=(cc)
     ! outside clang --version >/dev/null 2>&1 || compilers+=(clang)
     for compiler in "${compilers[@]}"; do
         check "house.h by itself has no warning: $compiler, C99" alone "$compiler" c c99
@@ -296,10 +277,8 @@ programs() {
     cp tests/package/calls.c tests/package/stack.c "$work/away/"
     for kind in "C static" "C shared" "C++ static" "C++ shared"; do in_background "$kind" program $kind; done
     headers
-    if [ "$(uname -m)" = x86_64 ]; then
-        check "README's first line builds a program" readme_line 1
-        check "README's second line builds a program, shared" readme_line 2
-    fi
+    check "README's first line builds a program" readme_line 1
+    check "README's second line builds a program, shared" readme_line 2
     check "a program takes from the archive what it needs" takes_what_it_needs
     check "every call stays within a kilobyte of stack" stack
     echo "   octets of stack, at most: $(cat "$work/stack")"
@@ -313,12 +292,7 @@ everything() {
     fi
     echo "ok: ./package fills a folder, and makes those above it"
     mv "$work/first/house" "$package"
-    choose_compilers
-    if can_build; then
-        programs
-    else
-        echo "the compilers for x86-64, qemu-x86_64 or pkg-config are not here: nothing is built against the package"
-    fi
+    programs
     folders
     contents
 }

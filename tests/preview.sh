@@ -144,44 +144,49 @@ explained shows/example.cue
 
 # ---- what it says while it builds: over a small repository, with a stand-in for rt that takes its time to prove nothing
 
-mkdir -p "$work/repository/crates/base" "$work/bin"
+mkdir -p "$work/repository/crates"/{base,cueprint} "$work/bin"
 cp -r preview words making shows include "$work/repository/"
-printf '# crates\nbase:\nrules: base\nother: base\ncueprint: rules io\n' >"$work/repository/crates.txt"
+printf '# crates\nbase:\nrules: base\nother: base\nhouse_c staticlib: other\ncueprint: rules io\n' >"$work/repository/crates.txt"
 : >"$work/repository/crates/base/lib.rt"
 cat >"$work/bin/rt" <<RT
 #!/bin/sh
-[ "\$*" = "check cueprint" ] || exit 2
-echo "fn base::x: proved"
-echo "rt: base proved (unchanged since it was last proved)"
-echo "rt: rules proved (3 s)"
-[ ! -f fails ] || { echo "rt: cueprint NOT PROVED (exit 1, 5 s)"; exit 1; }
-echo "rt: cueprint proved (5 s)"
-mkdir -p target/bin && cp "$PWD/target/bin/cueprint" target/bin/cueprint
+[ "\$*" = run ] && [ "\${PWD##*/}" = cueprint ] || exit 2
+echo "rt: chose --jobs 2 for rules"
+echo "fn rules::x: proved"
+echo "logic=proved functions=1 sum=0123456789abcdef"
+echo "rt: chose --jobs 2 for cueprint"
+[ ! -f ../../fails ] || { echo "logic=not-proved"; exit 1; }
+echo "logic=proved functions=2 sum=0123456789abcdef"
+echo "rt: running out/cueprint; to give it other input, run that file yourself"
+mkdir -p out && cp "$PWD/crates/cueprint/out/cueprint" out/ && out/cueprint
 RT
 chmod +x "$work/bin/rt"
 first="preview: cueprint is made first: 3 crates, proved where they are new or changed; from nothing that takes minutes"
 last="preview: all is proved and cueprint made, in N s"
+without_seconds() {
+    sed -E 's/\([0-9]+ s\)/(N s)/; s/, in [0-9]+ s/, in N s/'
+}
 building() { # WORDS..: with the stand-in; what it says on standard error, without the seconds that it took
     local status
     (cd "$work/repository" && RATTLE_HOME=$kit_home PATH=$work/bin:$PATH "$@" 2>"$work/said")
     status=$?
-    sed 's/, in [0-9]* s/, in N s/' "$work/said" >&2
+    without_seconds <"$work/said" >&2
     return $status
 }
 kit_home=$(dirname "$(dirname "$(readlink -f "$(command -v rt)")")")
-printf '%s\n' "$first" "preview: rules is proved (3 s), 1 left" "preview: cueprint is proved (5 s), 0 left" "$last" >"$work/log"
+printf '%s\n' "$first" "preview: rules is proved (N s), 1 left" "preview: cueprint is proved (N s), 0 left" "$last" >"$work/log"
 holds "a line for each crate that is proved" 0 shows/example.txt "$work/log" building ./preview
 holds "nothing is built twice" 0 shows/example.txt 0 building ./preview
 touch "$work/repository/crates/base/lib.rt" "$work/repository/fails"
-holds "a proof that fails" 3 "$work/nothing" 7 building ./preview
-rm -r "$work/repository/fails" "$work/repository/target"
+holds "a proof that fails" 3 "$work/nothing" 8 building ./preview
+rm -r "$work/repository/fails" "$work/repository/crates/cueprint/out"
 # on a terminal the lines of the crates are one line, written over and over and cleared in the end (script waits for its input, so it is
 # given one that never comes)
 mkfifo "$work/never"
-building script -qec "./preview 2>&1 >/dev/null" /dev/null <>"$work/never" | sed 's/, in [0-9]* s/, in N s/' >"$work/terminal"
+building script -qec "./preview 2>&1 >/dev/null" /dev/null <>"$work/never" | without_seconds >"$work/terminal"
 {
     printf '%s\r\n' "$first"
-    printf '%-60s\r' "preview: rules is proved (3 s), 1 left" "preview: cueprint is proved (5 s), 0 left" ""
+    printf '%-60s\r' "preview: rules is proved (N s), 1 left" "preview: cueprint is proved (N s), 0 left" ""
     printf '%s\r\n' "$last"
 } >"$work/rewritten"
 verdict "on a terminal one line that is rewritten" "$(cmp "$work/terminal" "$work/rewritten" 2>&1)"

@@ -1,7 +1,6 @@
 #!/usr/bin/env bash
 # Installs with apt-get what the tests from Rust and C need and this machine lacks, and says so. Fails where there is no Rust
-# compiler in the end. On aarch64 the rest can be done without (tests/run.sh and tests/package.sh say how), but for clang, without which
-# the fuzz tests fail; on x86-64 what is missing fails the tests that need it.
+# compiler in the end; what else is missing fails the tests that need it.
 set -u
 
 # lacking PACKAGE..: whether one of them is not installed.
@@ -29,22 +28,10 @@ updated=
 bring rustc rustc
 bring pkg-config pkg-config
 bring mandoc mandoc
-if [ "$(uname -m)" = x86_64 ]; then
-    bring cc gcc libc6-dev
-    bring c++ g++
-    # valgrind does not start without the names in the C library
-    ! lacking valgrind libc6-dbg || install valgrind libc6-dbg
-else
-    # Debian's own compiler with the library for x86-64, a linker for it, and an emulator.
-    cross=(rustc libstd-rust-dev:amd64 gcc-x86-64-linux-gnu libc6-dev-amd64-cross qemu-user)
-    if lacking "${cross[@]}"; then
-        echo "adding the architecture amd64 to this machine's packages"
-        dpkg --add-architecture amd64
-        updated=
-        install "${cross[@]}"
-    fi
-    bring x86_64-linux-gnu-g++ g++-x86-64-linux-gnu
-fi
+bring cc gcc libc6-dev
+bring c++ g++
+# valgrind does not start without the names in the C library
+! lacking valgrind libc6-dbg || install valgrind libc6-dbg
 # libFuzzer is in the runtime of clang, whose package has the version in its name.
 bring clang clang
 if command -v clang >/dev/null; then

@@ -2,13 +2,13 @@
 # Fuzzes the calls of include/house.h with libFuzzer, guided by what it reaches of the proved code itself, and compares every call with
 # the second model. README.md beside it says more. The last line is 'N passed, M failed'; the exit status is 0 exactly when M is 0.
 #
-# Usage: tests/fuzz/run.sh [SECONDS] [TARGET]: 20 seconds, and the targets cues, walls and live at the same time. The libraries of
-# crates.txt must be proved (target/rlib).
+# Usage: tests/fuzz/run.sh [SECONDS] [TARGET]: 20 seconds, and the targets cues, walls and live at the same time. The archives must be made
+# (making/archives.sh).
 set -u
 cd "$(dirname "$0")/../.." || exit 2
 . tests/count.sh
 . making/kit.sh
-. making/native.sh
+. making/modules.sh
 
 seconds=${1:-20}
 targets=(${2:-cues walls live})
@@ -23,13 +23,13 @@ finish() {
     exit
 }
 
-# proved_objects: sets `proved` to the proved code as the archives have it, at -O3, with a counter at every edge.
+# proved_objects: sets `proved` to the proved code, compiled as for the archives, with a counter at every edge.
 proved_objects() {
     local crate
     proved=()
     for crate in "${played[@]}"; do
         proved+=("$out/$crate.o")
-        native_object "$out/$crate.o" "$crate" -O3 -fsanitize-coverage=inline-8bit-counters,pc-table,trace-cmp || return 1
+        proved_object "$out/$crate.o" "$crate" -fsanitize-coverage=inline-8bit-counters,pc-table,trace-cmp || return 1
     done
 }
 

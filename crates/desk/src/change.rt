@@ -34,13 +34,7 @@ fn play_image(
 
 // Inputs to a state: its image is replaced, and both buffers are filled. Any octets as a state, any as inputs, and any pair of buffers: 9, 12 and 8
 // leave all of them as they were.
-#[unsafe(no_mangle)]
-pub extern "C" fn house_change(
-    state: &mut [u8],
-    inputs: &[u8],
-    records: &mut [u8],
-    answers: &mut [u8],
-) -> u64
+pub fn house_change(state: &mut [u8], inputs: &[u8], records: &mut [u8], answers: &mut [u8]) -> u64
     ensures { imaged_run_by result state.new records.new answers.new ≡ house_change state.old inputs.now records.old answers.old }
 {
     if state.len() != IMAGE_SIZE {

@@ -38,8 +38,7 @@ fn move_state(s: State, state: &mut [u8], stamp: u32, records: &mut [u8]) -> u64
 }
 
 // The clock of a state moves: its image is replaced, and the records are filled. Any octets as a state, any stamp, and any room for records.
-#[unsafe(no_mangle)]
-pub extern "C" fn house_move(state: &mut [u8], stamp: u32, records: &mut [u8]) -> u64
+pub fn house_move(state: &mut [u8], stamp: u32, records: &mut [u8]) -> u64
     ensures { imaged_move_by result state.new records.new ≡ house_move state.old stamp records.old }
 {
     if state.len() != IMAGE_SIZE {

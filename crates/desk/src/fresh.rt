@@ -11,8 +11,7 @@ use images::put::put_image;
 use live::fresh::fresh_state;
 
 // The image of the fresh state of parameters alone. Any octets as parameters, and any lent state: what is wrong with the parameters comes first.
-#[unsafe(no_mangle)]
-pub extern "C" fn house_fresh(parameters: &[u8], state: &mut [u8]) -> u64
+pub fn house_fresh(parameters: &[u8], state: &mut [u8]) -> u64
     ensures { imaged_by result state.new ≡ house_fresh parameters.now state.old }
 {
     let f = fresh_state(parameters);

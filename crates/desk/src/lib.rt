@@ -1,4 +1,5 @@
-// The live calls from C, in lent memory: a state goes in and comes out as its image, records and answers as octets, the report as one number.
+// The live calls for C, in lent memory: a state goes in and comes out as its image, records and answers as octets, the report as one number. `desk_c` exports
+// them.
 #![tactic(auto)]
 
 ghost use Rattle.std.specs.Prelude.{◌≡◌};

@@ -24,13 +24,7 @@ fn no_room(file: &[u8]) -> u64
 
 // A cue file, and the image of the state at its end. Any octets as a file, any lent state and any pair of buffers: a refused run leaves all of
 // them as they were.
-#[unsafe(no_mangle)]
-pub extern "C" fn house_run_to(
-    file: &[u8],
-    state: &mut [u8],
-    records: &mut [u8],
-    answers: &mut [u8],
-) -> u64
+pub fn house_run_to(file: &[u8], state: &mut [u8], records: &mut [u8], answers: &mut [u8]) -> u64
     ensures { imaged_run_by result state.new records.new answers.new ≡ house_run_to file.now state.old records.old answers.old }
 {
     if state.len() != IMAGE_SIZE {

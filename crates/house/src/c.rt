@@ -1,4 +1,4 @@
-// The call from C.
+// The call for C, with the types that C can give; `house_c` exports it.
 ghost use Rattle.std.specs.Prelude.{◌≡◌};
 ghost use Rattle.rules.specs.Runs.{answered, house_run};
 
@@ -6,8 +6,7 @@ use crate::run::run;
 use buffers::report::pack;
 
 // A cue file: one number, and both buffers are filled.
-#[unsafe(no_mangle)]
-pub extern "C" fn house_run(file: &[u8], records: &mut [u8], answers: &mut [u8]) -> u64
+pub fn house_run(file: &[u8], records: &mut [u8], answers: &mut [u8]) -> u64
     ensures { answered result records.new answers.new ≡ house_run file.now records.old answers.old }
 {
     let r = run(file, records, answers);

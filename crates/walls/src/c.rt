@@ -1,4 +1,4 @@
-// The call from C.
+// The call for C, with the types that C can give; `walls_c` exports it.
 ghost use Rattle.std.specs.Prelude.{◌≡◌};
 ghost use Rattle.rules.specs.Runs.{answered};
 ghost use Rattle.pairs.specs.Walls.{house_wall_run};
@@ -7,8 +7,7 @@ use crate::run::run_wall;
 use buffers::report::pack;
 
 // A wall list: one number, and both buffers are filled.
-#[unsafe(no_mangle)]
-pub extern "C" fn house_wall_run(wall: &[u8], records: &mut [u8], answers: &mut [u8]) -> u64
+pub fn house_wall_run(wall: &[u8], records: &mut [u8], answers: &mut [u8]) -> u64
     ensures { answered result records.new answers.new ≡ house_wall_run wall.now records.old answers.old }
 {
     let r = run_wall(wall, records, answers);
