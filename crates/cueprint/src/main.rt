@@ -1,0 +1,64 @@
+// Reads a cue file on standard input and prints what its run does, or the refusal's number and place. Started with a word that begins with
+// w, it reads a wall list; with one that begins with p, it prints the phase too, at the start, after each timer and each input, and at the end.
+//
+// Both are played to a pair: to one whose sensor does nothing a cue file is what it is to the actuator alone.
+#![tactic(auto)]
+
+mod lines;
+mod play;
+
+use base::refusal::{Check, number_of};
+use cues::check::check_file;
+use sensor::call::fresh_sensor;
+use sensor::state::own_sensor;
+use wallfile::{actions_in, check_wall, file_in};
+
+// A cue file, with no button beside it.
+fn print_file(file: &[u8], phases: bool) {
+    let check = check_file(file);
+    match check {
+        Check::Passed => play::play_file(file, own_sensor(), phases),
+        Check::Refused { why, place } => lines::print_refused(number_of(why), place),
+    }
+}
+
+// A wall list.
+fn print_wall(wall: &[u8], phases: bool) {
+    let check = check_wall(wall);
+    match check {
+        Check::Passed => {
+            let f = fresh_sensor(actions_in(wall));
+            let z = f.sensor;
+            play::play_file(file_in(wall), z, phases)
+        }
+        Check::Refused { why, place } => lines::print_refused(number_of(why), place),
+    }
+}
+
+// Whether the word at this place behind the program's name begins with a letter.
+fn begins_with(place: usize, letter: u8) -> bool {
+    let mut word = [0u8; 8];
+    os::arg(place, &mut word);
+    word[0] == letter
+}
+
+// Whether the program was started with a word that begins with a letter; it takes two words.
+fn told(letter: u8) -> bool {
+    if begins_with(1, letter) {
+        return true;
+    }
+    begins_with(2, letter)
+}
+
+// The longest wall list, of version 2, has 60 + 8 * 2048 + 4 octets, the longest cue file four less. One octet more is read, so that what is
+// longer is seen to be too long.
+fn main() {
+    let mut list = [0u8; 16449];
+    let n = io::read_full(libc::STDIN_FILENO, &mut list);
+    let phases = told(b'p');
+    if told(b'w') {
+        print_wall(&list[..n], phases);
+    } else {
+        print_file(&list[..n], phases);
+    }
+}
