@@ -3,56 +3,56 @@ use phases::phase::due_at;
 use rules::record::Record;
 use rules::state::State;
 use states::same::phase_number;
+use std::io;
+use std::io::Write;
 
-// A word, and numbers, each after a space. Whether the end of the line could be written.
-fn print_line(word: &[u8], numbers: &[u64]) -> bool {
-    io::write_all(libc::STDOUT_FILENO, word);
-    let mut i = 0;
-    while i < numbers.len() {
-        io::write_all(libc::STDOUT_FILENO, b" ");
-        io::print_decimal(libc::STDOUT_FILENO, numbers[i]);
-        i += 1;
+// A word, and numbers, each after a space.
+fn print_line<W: Write>(out: &mut W, word: &[u8], numbers: &[u64]) -> io::Result<()> {
+    out.write_all(word)?;
+    for number in numbers {
+        write!(out, " {number}")?;
     }
-    io::write_all(libc::STDOUT_FILENO, b"\n")
+    out.write_all(b"\n")
 }
 
-// The last line. A program of Rattle has no exit status: what cannot be written is said on standard error.
-fn print_last(word: &[u8], numbers: &[u64]) {
-    if !print_line(word, numbers) {
-        os::fail(b"cueprint: the printout cannot be written");
-    }
+// The last line: what was held back is written with it.
+fn print_last<W: Write>(out: &mut W, word: &[u8], numbers: &[u64]) -> io::Result<()> {
+    print_line(out, word, numbers)?;
+    out.flush()
 }
 
 // OK: count of inputs.
-pub fn print_accepted(inputs: u32) {
-    print_line(b"OK", &[inputs as u64]);
+pub fn print_accepted<W: Write>(out: &mut W, inputs: u32) -> io::Result<()> {
+    print_line(out, b"OK", &[inputs as u64])
 }
 
 // NO: code, place.
-pub fn print_refused(code: u8, place: u16) {
-    print_last(b"NO", &[code as u64, place as u64]);
+pub fn print_refused<W: Write>(out: &mut W, code: u8, place: u16) -> io::Result<()> {
+    print_last(out, b"NO", &[code as u64, place as u64])
 }
 
 // E: count of records.
-pub fn print_end(records: u64) {
-    print_last(b"E", &[records]);
+pub fn print_end<W: Write>(out: &mut W, records: u64) -> io::Result<()> {
+    print_last(out, b"E", &[records])
 }
 
 // A: input index from 0, answer.
-pub fn print_answer(index: u32, answer: u8) {
-    print_line(b"A", &[index as u64, answer as u64]);
+pub fn print_answer<W: Write>(out: &mut W, index: u32, answer: u8) -> io::Result<()> {
+    print_line(out, b"A", &[index as u64, answer as u64])
 }
 
 // S: input index from 0, value; only where something was sent, and then the kind of it is 1.
-pub fn print_sent(index: u32, sent: [u8; 8]) {
+pub fn print_sent<W: Write>(out: &mut W, index: u32, sent: [u8; 8]) -> io::Result<()> {
     if sent[4] == 1 {
-        print_line(b"S", &[index as u64, sent[5] as u64]);
+        print_line(out, b"S", &[index as u64, sent[5] as u64])?;
     }
+    Ok(())
 }
 
 // R: stamp, value, attributes, cause.
-pub fn print_record(r: Record) {
+pub fn print_record<W: Write>(out: &mut W, r: Record) -> io::Result<()> {
     print_line(
+        out,
         b"R",
         &[
             r.stamp as u64,
@@ -60,33 +60,36 @@ pub fn print_record(r: Record) {
             r.attributes as u64,
             r.cause as u64,
         ],
-    );
+    )
 }
 
 // The first n of three records.
-pub fn print_records(k: [Record; 3], n: u8) {
+pub fn print_records<W: Write>(out: &mut W, k: [Record; 3], n: u8) -> io::Result<()> {
     if n > 0 {
-        print_record(k[0]);
+        print_record(out, k[0])?;
     }
     if n > 1 {
-        print_record(k[1]);
+        print_record(out, k[1])?;
     }
     if n > 2 {
-        print_record(k[2]);
+        print_record(out, k[2])?;
     }
+    Ok(())
 }
 
 // P: clock, number of the phase as in an image, its deadline, 0 where it has none; only where it is asked for.
-pub fn print_phase(s: State, wanted: bool) {
+pub fn print_phase<W: Write>(out: &mut W, s: State, wanted: bool) -> io::Result<()> {
     let phase = s.phase;
     if wanted {
         print_line(
+            out,
             b"P",
             &[
                 s.clock as u64,
                 phase_number(phase) as u64,
                 due_at(phase) as u64,
             ],
-        );
+        )?;
     }
+    Ok(())
 }

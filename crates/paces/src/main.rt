@@ -37,21 +37,27 @@ mod read;
 mod show;
 mod written;
 
-// A proved loop has to end, so it counts its turns down, from a number that no run uses up.
-fn main() {
+use std::io;
+use std::io::{BufReader, BufWriter, Read, Write};
+
+// A proved loop has to end, so it counts its turns, up to a number that no run reaches.
+fn main(rt: HostRuntime) -> io::Result<()> {
+    let mut steps = BufReader::new(rt.alloc(), rt.stdin())?.chain(io::repeat(0));
+    let mut out = BufWriter::new(rt.alloc(), io::writer(&rt))?;
     let mut now = written::Pair {
         state: [0; 56],
         sensor: [0; 9],
     };
     let mut kept = now;
-    let mut letter = read::octet();
-    let mut turns = u64::MAX;
-    while turns > 0 && letter != 0 {
+    for _ in 0..u64::MAX {
+        let letter = read::octet(&mut steps)?;
+        if letter == 0 {
+            break;
+        }
         if letter == b'K' {
             kept = now;
         }
-        now = play::step(letter, now, kept);
-        letter = read::octet();
-        turns -= 1;
+        now = play::step(&mut steps, &mut out, letter, now, kept)?;
     }
+    out.flush()
 }

@@ -6,132 +6,154 @@ use joined::pair::{joined_input, joined_move};
 use octets::read32;
 use pairs::call::{Joint, JointMove};
 use sensor::call::{fresh_sensor, sensor_input};
+use std::io;
+use std::io::{Read, Write};
 
-fn title() {
-    let n = read::octet();
-    let b = read::some(n);
-    let size = io::count(n as isize, &b);
-    io::write_all(1, &b[..size]);
-    show::mark(b'\n');
+fn title<R: Read, W: Write>(steps: &mut R, out: &mut W) -> io::Result<()> {
+    let n = read::octet(steps)?;
+    let b = read::some(steps, n)?;
+    out.write_all(&b[..n as usize])?;
+    show::mark(out, b'\n')
 }
 
-fn fresh() -> [u8; 9] {
-    let n = read::octet();
-    let b = read::some(n);
-    let size = io::count(n as isize, &b);
-    show::octets(&b[..size]);
+fn fresh<R: Read, W: Write>(steps: &mut R, out: &mut W) -> io::Result<[u8; 9]> {
+    let n = read::octet(steps)?;
+    let b = read::some(steps, n)?;
+    let size = n as usize;
+    show::octets(out, &b[..size])?;
     let r = fresh_sensor(&b[..size]);
     let z = r.sensor;
-    show::report(r.code, r.place, 0, 0);
-    sensor_octets(z)
+    show::report(out, r.code, r.place, 0, 0)?;
+    Ok(sensor_octets(z))
 }
 
-fn signal(now: [u8; 9]) -> [u8; 9] {
-    let b = read::input();
-    show::octets(&b);
+fn signal<R: Read, W: Write>(steps: &mut R, out: &mut W, now: [u8; 9]) -> io::Result<[u8; 9]> {
+    let b = read::input(steps)?;
+    show::octets(out, &b)?;
     let r = sensor_input(sensor_in(now), b);
     let z = r.sensor;
     let told = r.sent;
-    show::report(r.code, r.place, 0, 0);
-    show::sent(told);
-    sensor_octets(z)
+    show::report(out, r.code, r.place, 0, 0)?;
+    show::sent(out, told)?;
+    Ok(sensor_octets(z))
 }
 
-fn show_joint(r: Joint) {
+fn show_joint<W: Write>(out: &mut W, r: Joint) -> io::Result<()> {
     let k = r.records;
     let told = r.sent;
-    show::report(r.code, r.place, r.answer, r.count as u64);
-    show::record(k[0]);
-    show::record(k[1]);
-    show::record(k[2]);
-    show::sent(told);
+    show::report(out, r.code, r.place, r.answer, r.count as u64)?;
+    show::record(out, k[0])?;
+    show::record(out, k[1])?;
+    show::record(out, k[2])?;
+    show::sent(out, told)
 }
 
-fn input(now: Pair) -> Pair {
+fn input<R: Read, W: Write>(steps: &mut R, out: &mut W, now: Pair) -> io::Result<Pair> {
     let image = now.state;
     let sensor = now.sensor;
-    let b = read::input();
-    show::octets(&b);
+    let b = read::input(steps)?;
+    show::octets(out, &b)?;
     let r = joined_input(state_in(&image), sensor_in(sensor), b);
-    show_joint(r);
+    show_joint(out, r)?;
     let s = r.state;
     let z = r.sensor;
-    pair_of(s, z)
+    Ok(pair_of(s, z))
 }
 
-fn show_move(r: JointMove) {
+fn show_move<W: Write>(out: &mut W, r: JointMove) -> io::Result<()> {
     let k = r.records;
-    show::report(r.code, r.place, 0, r.count as u64);
-    show::record(k[0]);
-    show::record(k[1]);
+    show::report(out, r.code, r.place, 0, r.count as u64)?;
+    show::record(out, k[0])?;
+    show::record(out, k[1])
 }
 
-fn clock(now: Pair) -> Pair {
+fn clock<R: Read, W: Write>(steps: &mut R, out: &mut W, now: Pair) -> io::Result<Pair> {
     let image = now.state;
     let sensor = now.sensor;
-    let b = read::stamp();
-    show::octets(&b);
+    let b = read::stamp(steps)?;
+    show::octets(out, &b)?;
     let r = joined_move(state_in(&image), sensor_in(sensor), read32(&b, 0));
-    show_move(r);
+    show_move(out, r)?;
     let s = r.state;
     let z = r.sensor;
-    pair_of(s, z)
+    Ok(pair_of(s, z))
 }
 
 // A step to the sensor alone.
-fn sensor_step(letter: u8, now: Pair) -> Pair {
+fn sensor_step<R: Read, W: Write>(
+    steps: &mut R,
+    out: &mut W,
+    letter: u8,
+    now: Pair,
+) -> io::Result<Pair> {
     let state = now.state;
     let sensor = now.sensor;
-    show::mark(letter);
+    show::mark(out, letter)?;
     let after = if letter == b'N' {
-        fresh()
+        fresh(steps, out)?
     } else {
-        signal(sensor)
+        signal(steps, out, sensor)?
     };
-    show::sensor(after);
-    Pair {
+    show::sensor(out, after)?;
+    Ok(Pair {
         state,
         sensor: after,
-    }
+    })
 }
 
 // A step to the actuator alone.
-fn actuator_step(letter: u8, now: Pair) -> Pair {
+fn actuator_step<R: Read, W: Write>(
+    steps: &mut R,
+    out: &mut W,
+    letter: u8,
+    now: Pair,
+) -> io::Result<Pair> {
     let state = now.state;
     let sensor = now.sensor;
-    show::mark(letter);
+    show::mark(out, letter)?;
     let after = Pair {
-        state: alone::step(letter, state),
+        state: alone::step(steps, out, letter, state)?,
         sensor,
     };
-    show::pair(after);
-    after
+    show::pair(out, after)?;
+    Ok(after)
 }
 
 // A step to the pair.
-fn pair_step(letter: u8, now: Pair) -> Pair {
-    show::mark(letter);
+fn pair_step<R: Read, W: Write>(
+    steps: &mut R,
+    out: &mut W,
+    letter: u8,
+    now: Pair,
+) -> io::Result<Pair> {
+    show::mark(out, letter)?;
     let after = if letter == b'J' {
-        input(now)
+        input(steps, out, now)?
     } else {
-        clock(now)
+        clock(steps, out, now)?
     };
-    show::pair(after);
-    after
+    show::pair(out, after)?;
+    Ok(after)
 }
 
 // The pair after a step. (K leaves it as it is, and so does a letter that is no step.)
-pub(crate) fn step(letter: u8, now: Pair, kept: Pair) -> Pair {
+pub(crate) fn step<R: Read, W: Write>(
+    steps: &mut R,
+    out: &mut W,
+    letter: u8,
+    now: Pair,
+    kept: Pair,
+) -> io::Result<Pair> {
     match letter {
         b'T' => {
-            title();
-            now
+            title(steps, out)?;
+            Ok(now)
         }
-        b'P' => read::pair(),
-        b'N' | b'E' => sensor_step(letter, now),
-        b'J' | b'M' => pair_step(letter, now),
-        b'S' | b'C' | b'H' => actuator_step(letter, now),
-        b'B' => kept,
-        _ => now,
+        b'P' => read::pair(steps),
+        b'N' | b'E' => sensor_step(steps, out, letter, now),
+        b'J' | b'M' => pair_step(steps, out, letter, now),
+        b'S' | b'C' | b'H' => actuator_step(steps, out, letter, now),
+        b'B' => Ok(kept),
+        _ => Ok(now),
     }
 }

@@ -1,36 +1,37 @@
-// Octets of standard input. Where the input has ended, they are 0.
+// Octets of the steps. They have no end: main reads zeros after the input.
 use crate::written::Pair;
+use std::io;
+use std::io::Read;
 
-pub(crate) fn octet() -> u8 {
+pub(crate) fn octet<R: Read>(steps: &mut R) -> io::Result<u8> {
     let mut b = [0u8; 1];
-    io::read_full(0, &mut b);
-    b[0]
+    steps.read_exact(&mut b)?;
+    Ok(b[0])
 }
 
-pub(crate) fn stamp() -> [u8; 4] {
+pub(crate) fn stamp<R: Read>(steps: &mut R) -> io::Result<[u8; 4]> {
     let mut b = [0u8; 4];
-    io::read_full(0, &mut b);
-    b
+    steps.read_exact(&mut b)?;
+    Ok(b)
 }
 
-pub(crate) fn input() -> [u8; 8] {
+pub(crate) fn input<R: Read>(steps: &mut R) -> io::Result<[u8; 8]> {
     let mut b = [0u8; 8];
-    io::read_full(0, &mut b);
-    b
+    steps.read_exact(&mut b)?;
+    Ok(b)
 }
 
-pub(crate) fn pair() -> Pair {
+pub(crate) fn pair<R: Read>(steps: &mut R) -> io::Result<Pair> {
     let mut state = [0u8; 56];
-    io::read_full(0, &mut state);
+    steps.read_exact(&mut state)?;
     let mut sensor = [0u8; 9];
-    io::read_full(0, &mut sensor);
-    Pair { state, sensor }
+    steps.read_exact(&mut sensor)?;
+    Ok(Pair { state, sensor })
 }
 
 // The next n octets, at the front.
-pub(crate) fn some(n: u8) -> [u8; 256] {
+pub(crate) fn some<R: Read>(steps: &mut R, n: u8) -> io::Result<[u8; 256]> {
     let mut b = [0u8; 256];
-    let room = io::count(n as isize, &b);
-    io::read_full(0, &mut b[..room]);
-    b
+    steps.read_exact(&mut b[..n as usize])?;
+    Ok(b)
 }

@@ -1,65 +1,67 @@
 // What is printed of octets and numbers.
 use crate::written::{Pair, record_octets};
 use rules::record::Record;
-
-fn wide(x: u8) -> u64 {
-    x as u64
-}
+use std::io;
+use std::io::Write;
 
 // Octets as hexadecimal digits, in groups of eight.
-pub(crate) fn octets(b: &[u8]) {
-    let mut i = 0;
-    while i < b.len() {
+pub(crate) fn octets<W: Write>(out: &mut W, b: &[u8]) -> io::Result<()> {
+    for (i, octet) in b.iter().enumerate() {
         if i % 8 == 0 {
-            io::write_all(1, b" ");
+            out.write_all(b" ")?;
         }
-        io::print_hex(1, wide(b[i]), 2);
-        i += 1;
+        write!(out, "{octet:02x}")?;
     }
+    Ok(())
 }
 
 // A part of a line, behind a bar.
-pub(crate) fn part(b: &[u8]) {
-    io::write_all(1, b" |");
-    octets(b);
+pub(crate) fn part<W: Write>(out: &mut W, b: &[u8]) -> io::Result<()> {
+    out.write_all(b" |")?;
+    octets(out, b)
 }
 
-fn number(n: u64) {
-    io::write_all(1, b" ");
-    io::print_decimal(1, n);
+fn number<W: Write>(out: &mut W, n: u64) -> io::Result<()> {
+    write!(out, " {n}")
 }
 
-pub(crate) fn report(code: u8, place: u16, answer: u8, count: u64) {
-    io::write_all(1, b" >");
-    number(code as u64);
-    number(place as u64);
-    number(answer as u64);
-    number(count);
+pub(crate) fn report<W: Write>(
+    out: &mut W,
+    code: u8,
+    place: u16,
+    answer: u8,
+    count: u64,
+) -> io::Result<()> {
+    out.write_all(b" >")?;
+    number(out, code as u64)?;
+    number(out, place as u64)?;
+    number(out, answer as u64)?;
+    number(out, count)
 }
 
-pub(crate) fn record(r: Record) {
-    part(&record_octets(r));
+pub(crate) fn record<W: Write>(out: &mut W, r: Record) -> io::Result<()> {
+    part(out, &record_octets(r))
 }
 
-pub(crate) fn sent(b: [u8; 8]) {
-    part(&b);
+pub(crate) fn sent<W: Write>(out: &mut W, b: [u8; 8]) -> io::Result<()> {
+    part(out, &b)
 }
 
 // The end of a line: a sensor.
-pub(crate) fn sensor(b: [u8; 9]) {
-    part(&b);
-    mark(b'\n');
+pub(crate) fn sensor<W: Write>(out: &mut W, b: [u8; 9]) -> io::Result<()> {
+    part(out, &b)?;
+    mark(out, b'\n')
 }
 
 // The end of a line: a pair.
-pub(crate) fn pair(p: Pair) {
+pub(crate) fn pair<W: Write>(out: &mut W, p: Pair) -> io::Result<()> {
     let state = p.state;
     let b = p.sensor;
-    part(&state);
-    sensor(b);
+    part(out, &state)?;
+    sensor(out, b)
 }
 
 // One octet as it is: the letter or the end of a line.
-pub(crate) fn mark(x: u8) {
-    io::write_all(1, &[x]);
+pub(crate) fn mark<W: Write>(out: &mut W, x: u8) -> io::Result<()> {
+    out.write_all(&[x])
 }
