@@ -9,7 +9,7 @@ use Rattle.octets.specs.Groups.{stamp_at}
 use Rattle.rules.specs.Forms.{form_in}
 use Rattle.rules.specs.Layout.{input_place}
 use Rattle.rules.specs.Steps.{fresh}
-use Rattle.rules.specs.Lists.{Cue, start, play_list}
+use Rattle.rules.specs.Lists.{Cue, play_list}
 use Rattle.rules.specs.Readings.{cues, read_inputs}
 use Rattle.rules.specs.Runs.{play_file}
 use Rattle.rules.specs.Files.{input_count, end_time, parameters_in, read_file, inputs_in}

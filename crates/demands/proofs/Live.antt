@@ -418,8 +418,8 @@ module _ (state inputs r a : List ℕ) (is : is_image state ≡ true) where
       by (inr (inl (inr (inr (inl e)), n))) = inr (inr (inr (inl e)))
       by (inr (inr (inl e, n))) = inr (inr (inr (inr (inl e))))
       by (inr (inr (inr (inl e), n))) = inr (inr (inr (inr (inr (inl e)))))
-      by (inr (inl (inr (inr (inr x7)) , n))) = elim x7 [ ]
-      by (inr (inr (inr (inr x8) , n))) = elim x8 [ ]
+      by (inr (inl (inr (inr (inr x7)), n))) = elim x7 [ ]
+      by (inr (inr (inr (inr x8), n))) = elim x8 [ ]
 
   image_refused : Among w.report.code (9 ∷ 12 ∷ 8 ∷ []) → (place_in (house_change state inputs r a).number ≡ 0) × AsLent state r a (house_change state inputs r a)
   unfolding imaged

@@ -21,7 +21,7 @@ use Rattle.rules.specs.declared.state.Link.TheVariants.{Up, BusDown, PowerDown}
 use Rattle.rules.specs.declared.state.State.{State}
 use Rattle.rules.specs.Inputs.{kind}
 use Rattle.rules.specs.Phases.{output}
-use Rattle.rules.specs.Orders.{with_link, standing, held, plain, by_mode, forced, locked, unlocked, lock_device, bus, power_fails, power_returns, power, order, noted}
+use Rattle.rules.specs.Orders.{with_link, standing, held, by_mode, forced, locked, unlocked, lock_device, bus, power_fails, power_returns, power, order, noted}
 use Rattle.rules.specs.Barriers.{rows, row_of, first_barrier, barrier_to, barrier}
 use Rattle.rules.specs.Soundness.{sound}
 use Rattle.rules.specs.Steps.{Moved, Stepped, fresh, at_moment, clock_move, act, step}

@@ -1,5 +1,5 @@
 -- Two versions of one show are accepted alike and have one run: the same answers and records, and the same end state but for its version.
-use Prim.Native.Nat.{ℕ, zero, suc, ◌+◌, ◌-◌, ◌*◌, ◌≤◌, ◌<◌}
+use Prim.Native.Nat.{ℕ, zero, suc, ◌+◌, ◌*◌, ◌≤◌, ◌<◌}
 use mathlib.Core.Bool.{true}
 use mathlib.Core.List.{List, [], ◌∷◌, ◌++◌}
 use mathlib.Core.Logic.{◌↔◌, inl, inr}
@@ -10,7 +10,7 @@ use lib.Seq.{get_or-drop, drop-drop}
 use Rattle.octets.specs.BigEndian.{octet}
 use Rattle.base.specs.declared.refusal.Check.TheVariants.{Passed}
 use Rattle.rules.specs.Lists.{Cue, Played}
-use Rattle.rules.specs.Forms.{version_one, version_two, form_of, version, form_in}
+use Rattle.rules.specs.Forms.{version_one, version_two, form_of, form_in}
 use Rattle.rules.specs.Layout.{modes_at, scene_place, flags_place, inputs_at}
 use Rattle.rules.specs.Parameters.{time_at, delay, params_of, scene_at, scenes_of, bad_time, number_above, bad_number, bad_flags, bad_octet}
 use Rattle.rules.specs.Readings.{cues}

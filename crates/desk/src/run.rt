@@ -31,7 +31,8 @@ pub fn house_run_to(file: &[u8], state: &mut [u8], records: &mut [u8], answers: 
         return no_room(file);
     }
     let r = run(file, records, answers);
-    if r.code != 0 {
+    let stopped = r.code != 0;
+    if stopped {
         return pack(r.code, r.place, r.count);
     }
     let s = r.state;

@@ -8,7 +8,7 @@ use native.Mathlib.Omega.{arith}
 use lib.ListN.{length, get_or, set, replicate, get_or-replicate, length-set}
 use lib.Seq.{get_or-set_same, get_or-set_other}
 use lib.Dec.{eqb, leb, ltb}
-use borrow.Author.Tests.{eqb-true, eqb-false, ne_eqb, lt-ltb, le-ltb, leb-true, leb-false, not-false}
+use borrow.Author.Tests.{eqb-true, eqb-false, ne_eqb, lt-ltb, leb-true, leb-false, not-false}
 use Rattle.octets.specs.BigEndian.{octet}
 use Rattle.rules.specs.declared.form.Scale.{Scale}
 use Rattle.rules.specs.declared.form.Scale.TheVariants.{Seconds, Tenths}

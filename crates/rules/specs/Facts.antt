@@ -23,7 +23,7 @@ use Rattle.rules.specs.Parameters.{delay, bad_octet}
 use Rattle.rules.specs.Said.{Held}
 use Rattle.rules.specs.Scenes.{recalled, learnt}
 use Rattle.rules.specs.Phases.{output, deadline}
-use Rattle.rules.specs.Status.{value, staircase, attributes}
+use Rattle.rules.specs.Status.{value, attributes}
 use Rattle.rules.specs.Calls.{unused}
 use Rattle.rules.specs.Images.{image}
 

@@ -27,7 +27,6 @@ use Rattle.pairs.specs.Lists.{PairPlayed, pair_plays, pair_plays_to, play_items}
 use Rattle.pairs.specs.Walls.{item_in, wall_whole, wall_accepted}
 use Rattle.pairs.proofs.Soundness.{sound_pair_exactly_when}
 use Rattle.lamps.specs.Lamps.{lamp_of, alone}
-use Rattle.records.specs.Notes.{notes}
 use Rattle.timers.specs.declared.clock.Clocked.{Clocked}
 use Rattle.timers.specs.Ticks.{clocked}
 use Rattle.timers.proofs.Moves.{moved_count, moved_records}

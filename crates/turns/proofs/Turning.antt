@@ -7,8 +7,6 @@ use Rattle.octets.specs.Groups.{kind_at, value_at}
 use Rattle.base.proofs.Tests.{eqb_same}
 use Rattle.rules.specs.declared.input.Input.{Input}
 use Rattle.rules.specs.declared.input.Input.TheVariants.{SwitchOnOff}
-use Rattle.rules.specs.declared.input.Decoded.TheVariants.{Meant}
-use Rattle.rules.specs.Inputs.{kind}
 use Rattle.rules.proofs.Laws.Inputs.{input_kind, kind_range, an_input_is_what_its_octets_mean}
 use Rattle.sensor.specs.declared.signal.Signal.{Signal}
 use Rattle.sensor.specs.declared.signal.Signal.TheVariants as signal

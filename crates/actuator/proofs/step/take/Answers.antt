@@ -1,12 +1,9 @@
 use Prim.Native.Nat.{◌≤◌, ◌<◌}
-use mathlib.Core.Bool.{true}
-use mathlib.Core.Logic.{⊎_elim}
-use mathlib.Core.Path.{◌≡◌, ◌∙◌}
+use mathlib.Core.Path.{◌∙◌}
 use native.Mathlib.Omega.{arith}
 use borrow.Author.Tests.{le-leb, lt-leb}
 use Rattle.rules.specs.Inputs.{kind}
 use Rattle.rules.proofs.Laws.Inputs.{kind_range}
-use Rattle.orders.specs.Lights.{is_light}
 use Rattle.actuator.proofs.Taken.{light_is_done, counts_is_done}
 use Rattle.actuator.proofs.step.take.Goals as goal
 

@@ -13,10 +13,10 @@ is_image_of-requires c = (c.if-state-ne-IMAGE_SIZE.false, c.state_in-s.ensures)
 
 pub play_image-requires : goal.play_image-requires
 play_image-requires c = (
-      sym c.is_image_of.ensures ∙ c.if-is_image_of.true,
-      c.state_in-s.ensures,
-      sym c.check_lent-met.ensures ∙ c.in-Passed.is,
-    )
+  sym c.is_image_of.ensures ∙ c.if-is_image_of.true,
+  c.state_in-s.ensures,
+  sym c.check_lent-met.ensures ∙ c.in-Passed.is,
+)
 
 pub returns-in-Refused : goal.returns-in-Refused
 returns-in-Refused c =

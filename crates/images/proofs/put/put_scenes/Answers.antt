@@ -1,9 +1,6 @@
-use Prim.Native.Nat.{◌-◌}
 use mathlib.Core.Path.{◌∙◌}
 use native.Mathlib.Omega.{arith}
-use lib.ListN.{take}
 use lib.Seq.{take_all}
-use Rattle.octets.specs.Splice.{splice}
 use Rattle.octets.proofs.Splices.{splice_none}
 use Rattle.images.proofs.Parts.{put_next_scene}
 use borrow.Author.Rules.{rules}

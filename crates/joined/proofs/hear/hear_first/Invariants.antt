@@ -2,7 +2,6 @@ use Prim.Native.Nat.{◌-◌, ◌≤◌}
 use mathlib.Core.Path.{◌≡◌}
 use lib.ListN.{length, take}
 use Rattle.pairs.specs.Pairs.{hears}
-use Rattle.joined.specs.Joints.{heard}
 use Rattle.joined.proofs.hear.hear_first.Given as goal
 
 -- the first j records were heard

@@ -13,9 +13,11 @@ move_clock-requires c =
 
 pub returns-then-stamp_in_range : goal.returns-then-stamp_in_range
 unfolding move_call
-returns-then-stamp_in_range c = record { whole =
-    let a = c.args in
-    simp (c.result.ensures, c.move_clock.ensures, clocked_is_done (clock_move a.s a.stamp), sym c.stamp_in_range.ensures ∙ c.if-stamp_in_range.true, sym c.is_sound.ensures ∙ c.if-is_sound.true) }
+returns-then-stamp_in_range c = record {
+  whole =
+      let a = c.args in
+      simp (c.result.ensures, c.move_clock.ensures, clocked_is_done (clock_move a.s a.stamp), sym c.stamp_in_range.ensures ∙ c.if-stamp_in_range.true, sym c.is_sound.ensures ∙ c.if-is_sound.true);
+}
 
 pub returns-else-stamp_in_range : goal.returns-else-stamp_in_range
 unfolding move_call

@@ -12,13 +12,17 @@ scenes_of-requires c = passed_length _ _ (sym c.check_parameters-check.ensures �
 
 pub returns-in-Passed : goal.returns-in-Passed
 unfolding fresh_call fresh_by check_alone
-returns-in-Passed c = record { whole =
-    let told = c.form_alone-form.ensures in
-    let passed = sym c.check_parameters-check.ensures ∙ c.in-Passed.is in
-    simp (← told, c.fresh_with-s.ensures, c.scenes_of.ensures, c.params_of.ensures, passed) }
+returns-in-Passed c = record {
+  whole =
+      let told = c.form_alone-form.ensures in
+      let passed = sym c.check_parameters-check.ensures ∙ c.in-Passed.is in
+      simp (← told, c.fresh_with-s.ensures, c.scenes_of.ensures, c.params_of.ensures, passed);
+}
 
 pub returns-in-Refused : goal.returns-in-Refused
 unfolding fresh_call fresh_by check_alone
-returns-in-Refused c = record { whole =
-    let told = c.form_alone-form.ensures in
-    simp (← told, c.number_of.ensures, c.own_state-s.ensures, sym c.check_parameters-check.ensures ∙ c.in-Refused.is) }
+returns-in-Refused c = record {
+  whole =
+      let told = c.form_alone-form.ensures in
+      simp (← told, c.number_of.ensures, c.own_state-s.ensures, sym c.check_parameters-check.ensures ∙ c.in-Refused.is);
+}

@@ -1,9 +1,7 @@
-use Prim.Native.Nat.{◌-◌}
 use mathlib.Core.Path.{◌≡◌, sym, ◌∙◌}
 use native.Mathlib.Omega.{arith}
 use borrow.Author.Rules.{rules}
 use Rattle.rules.specs.Layout.{time_place, parameters_size}
-use Rattle.rules.specs.Parameters.{lowest_bad}
 use Rattle.parameters.proofs.Loops.{from_time, time_step}
 use Rattle.parameters.proofs.range.lowest_bad.Goals as goal
 

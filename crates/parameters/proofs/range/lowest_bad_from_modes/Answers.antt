@@ -1,10 +1,9 @@
-use Prim.Native.Nat.{◌+◌, ◌-◌}
+use Prim.Native.Nat.{◌+◌}
 use mathlib.Core.Path.{◌≡◌, sym, ◌∙◌}
 use native.Mathlib.Omega.{arith}
 use borrow.Author.Tests.{lt-ltb, le-ltb}
 use borrow.Author.Rules.{rules}
 use Rattle.rules.specs.Layout.{modes_at}
-use Rattle.rules.specs.Parameters.{lowest_bad}
 use Rattle.parameters.proofs.Loops.{mode_step}
 use Rattle.parameters.proofs.range.lowest_bad_from_modes.Goals as goal
 

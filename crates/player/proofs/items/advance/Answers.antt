@@ -1,6 +1,5 @@
 use Rattle.player.proofs.Timers.{into_first, into_room, into_on, into_last}
 use Rattle.timers.proofs.Moves.{due_has_room, due_lowers_the_rank}
-use Rattle.rules.proofs.Laws.Steps.{rank}
 use native.Mathlib.Omega.{arith}
 use mathlib.Core.Path.{sym, ◌∙◌}
 use Rattle.player.proofs.items.advance.Goals as goal

@@ -1,11 +1,9 @@
-use Prim.Native.Nat.{◌-◌}
 use mathlib.Core.Path.{sym, ◌∙◌}
-use lib.ListN.{length, drop, length-drop}
+use lib.ListN.{drop, length-drop}
 use native.Mathlib.Numerals.{add-one}
 use native.Mathlib.Omega.{arith}
 use borrow.Author.Tests.{eq-eqb, ne_eqb}
 use borrow.Author.Rules.{rules}
-use Rattle.rules.specs.Scenes.{absent}
 use Rattle.scenes.proofs.Tables.{absent_step, absent_none}
 use Rattle.scenes.proofs.range.absent_from.Goals as goal
 

@@ -1,6 +1,5 @@
-use Prim.Native.Nat.{◌-◌}
 use mathlib.Core.Path.{sym, ◌∙◌}
-use lib.ListN.{length, drop, length-drop}
+use lib.ListN.{drop, length-drop}
 use native.Mathlib.Omega.{arith}
 use borrow.Author.Rules.{rules}
 use Rattle.scenes.proofs.Tables.{range_goes_on, range_ends, range_none}

@@ -1,13 +1,11 @@
-use Prim.Native.Nat.{◌-◌}
 use mathlib.Core.List.{append-nil}
 use mathlib.Core.Path.{sym, ◌∙◌}
-use lib.ListN.{length, take, drop, length-drop}
+use lib.ListN.{take, drop, length-drop}
 use lib.Seq.{take_all}
 use native.Mathlib.Numerals.{add-one}
 use native.Mathlib.Omega.{arith}
 use borrow.Author.Tests.{eq-eqb, ne_eqb}
 use borrow.Author.Rules.{rules}
-use Rattle.rules.specs.Scenes.{learnt}
 use Rattle.scenes.proofs.Tables.{learnt_here, learnt_later, learnt_none}
 use Rattle.scenes.proofs.table.learns.Goals as goal
 

@@ -1,4 +1,3 @@
-use Rattle.rules.proofs.Laws.Steps.{rank}
 use Rattle.timers.proofs.Moves.{noted_first, noted_few, noted_on, noted_last, due_has_room, due_lowers_the_rank}
 use mathlib.Core.Path.{sym, ◌∙◌}
 use Rattle.timers.proofs.clock.run_timers.Goals as goal
