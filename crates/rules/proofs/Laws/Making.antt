@@ -93,14 +93,14 @@ module _ {p : Params} {t : ℕ} {night before : Bool} {Bright Holds Dims : Type 
   unfolding from_dark
   from_dark_makes timed waits b steady = cond_zero (Makes p t night before before Bright Holds Dims Dark) p.ondelay _ _ (lit_makes before timed Dark b no steady) (begins waits refl b)
 
-  on_makes : (is_held_lem : Bool) (phase : Phase) → Bright → before ≡ (night && not is_held_lem) → Makes p t night before before Bright Holds Dims phase (on p night is_held_lem t phase)
+  on_makes : (is_held : Bool) (phase : Phase) → Bright → before ≡ (night && not is_held) → Makes p t night before before Bright Holds Dims phase (on p night is_held t phase)
   unfolding on set_on
-  on_makes is_held_lem Dark b e = from_dark_makes night false b (λ day. rw (e, day))
-  on_makes is_held_lem Lit b e = keeps (λ lasts on. on)
-  on_makes is_held_lem (Starting timed d) b e = awaits timed false d refl
-  on_makes is_held_lem (Timed d) b e = rw (← e) (lit_makes before before (Timed d) b no (λ same. same))
-  on_makes is_held_lem (Warning d) b e = rw (← e) (lit_makes before before (Warning d) b no (λ same. same))
-  on_makes is_held_lem (Ending d) b e = rw (← e) (lit_makes before before (Ending d) b no (λ same. same))
+  on_makes is_held Dark b e = from_dark_makes night false b (λ day. rw (e, day))
+  on_makes is_held Lit b e = keeps (λ lasts on. on)
+  on_makes is_held (Starting timed d) b e = awaits timed false d refl
+  on_makes is_held (Timed d) b e = rw (← e) (lit_makes before before (Timed d) b no (λ same. same))
+  on_makes is_held (Warning d) b e = rw (← e) (lit_makes before before (Warning d) b no (λ same. same))
+  on_makes is_held (Ending d) b e = rw (← e) (lit_makes before before (Ending d) b no (λ same. same))
 
   timed_start_makes : (phase : Phase) → Bright → Makes p t night before before Bright Holds Dims phase (timed_start p t phase)
   unfolding timed_start
