@@ -32,7 +32,7 @@ is_current() {
 }
 
 # proved_module NAME: makes target/modules/NAME.bc (LLVM bitcode) and NAME.words of the archive of this library. That proves its crate once
-# more, so what is up to date stays.
+# more, over what `rt lib` kept, so what is up to date stays.
 proved_module() {
     local name=$1 work words=() crate status
     ! is_current "$modules/$name.bc" || return 0
@@ -43,7 +43,7 @@ proved_module() {
     for crate in crates/*/out/rlib; do words+=(-L "dependency=../../$crate"); done
     (cd "crates/${name}_c" && "$kit_home/bin/rattle" build --crate-name "${name}_c" src/lib.rt --extern "std=$kit_home/rlibs/std.rlib" "${words[@]}" \
         -L "dependency=$kit_home/rlibs" --antt-project "$kit_home/rattle/logic/antt-project.json" --logic-built "$kit_home/logic_built" \
-        --toolchain "$work/tools" --backend llvm --crate-type staticlib -o "$work/$name.a") >"$modules/$name.log" 2>&1
+        --incremental out/incremental --toolchain "$work/tools" --backend llvm --crate-type staticlib -o "$work/$name.a") >"$modules/$name.log" 2>&1
     status=$?
     rm -rf "$work"
     return "$status"
