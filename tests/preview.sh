@@ -164,7 +164,7 @@ chmod +x "$work/bin/rt"
 first="preview: cueprint is made first: 3 crates, proved where they are new or changed; from nothing that takes minutes"
 last="preview: all is proved and cueprint made, in N s"
 without_seconds() {
-    sed -E 's/\([0-9]+ s\)/(N s)/; s/, in [0-9]+ s/, in N s/'
+    sed -E 's/\([0-9]+ s\)/(N s)/g; s/, in [0-9]+ s/, in N s/'
 }
 building() { # WORDS..: with the stand-in; what it says on standard error, without the seconds that it took
     local status
