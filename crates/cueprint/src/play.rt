@@ -181,15 +181,13 @@ fn play_inputs<W: Write>(
     let mut s = start;
     let mut z = fresh;
     let mut count: u32 = 0;
-    let mut i: u32 = 0;
-    while i < n {
+    for i in 0..n {
         let turn = play_turn(out, s, z, inputs, i, phases)?;
         let state = turn.state;
         let sensor = turn.sensor;
         s = state;
         z = sensor;
         count += turn.count;
-        i += 1;
     }
     Ok(Played {
         state: s,
