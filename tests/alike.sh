@@ -39,8 +39,7 @@ refused_by() {
     return "$bad"
 }
 
-# (rt takes the folder above that has a .git for the top of a repository)
-mkdir "$work/crates" "$work/.git"
+mkdir "$work/crates"
 for crate in $(needed rules); do
     cp -r "crates/$crate" "$work/crates/"
     grep "^$crate:" crates.txt >>"$work/crates.txt"

@@ -19,7 +19,7 @@ it is decided, and a site that stands there already is not tried again, so the h
 Outcomes: `refused` (with the first theorem whose proof fails), `survived`, `ill-formed` (the changed definition has no meaning: not
 a site), `unsure` (no verdict). A proof may fail where its theorem still holds, so `survived` is sure and `refused` is a strong hint.
 The code is left out of the copies, since a definition might be changed with its code: what is asked is whether theorems pin it."""
-import argparse, collections, concurrent.futures, hashlib, os, queue, re, shutil, subprocess, sys, tempfile
+import argparse, collections, concurrent.futures, glob, hashlib, os, queue, re, shutil, subprocess, sys, tempfile
 
 ROOT = os.path.dirname(os.path.dirname(os.path.abspath(__file__)))
 LIMIT = 300  # seconds for one check
@@ -27,12 +27,12 @@ LIMIT = 300  # seconds for one check
 # Names that stand for one another: each is changed to every other of its group.
 GROUPS = [g.split() for g in (
     'true false', 'Dark Lit', 'Timed Warning Ending', 'Free Off On', 'Failure Return', 'Up BusDown PowerDown',
-    'SwitchOnOff TimedStartStop LockDevice NightMode', 'Bus Power', 'powerDown busDown', 'isDark isLit', 'be16 be32',
-    'Seconds Tenths', 'versionOne versionTwo', 'width unit', 'formIn formAlone', 'delay timeAt', 'parametersSize inputsAt',
-    'modesAt scenesAt', 'scenePlace flagsPlace', 'recallsOn recallsOff', 'lights dims', 'min max', '≤ <', '&& ||',
+    'SwitchOnOff TimedStartStop LockDevice NightMode', 'Bus Power', 'power_down bus_down', 'is_dark is_lit', 'be16 be32',
+    'Seconds Tenths', 'version_one version_two', 'width unit', 'form_in form_alone', 'delay time_at', 'parameters_size inputs_at',
+    'modes_at scenes_at', 'scene_place flags_place', 'recalls_on recalls_off', 'lights dims', 'min max', '≤ <', '&& ||',
     # functions of one type, and variables that often stand side by side
-    'timedStart timedStop off nightFalls', 'switch timed', 'value attributes', 'version actuators',
-    'parametersOffset inputCount inputsOffset endTime', 't d', 'night held', 'timed night', 'clock stamp', 'last stamp end', 'before after', 'a b c')]
+    'timed_start timed_stop off night_falls', 'switch timed', 'value attributes', 'version actuators',
+    'parameters_offset input_count inputs_offset end_time', 't d', 'night held', 'timed night', 'clock stamp', 'last stamp end', 'before after', 'a b c')]
 # In these, and among fields, a name is changed to the next one only: the groups are long.
 RINGS = [g.split() for g in (
     'NoPower NoBus Locked Forced',
@@ -47,7 +47,8 @@ for group in GROUPS:
 for ring in RINGS:
     for name, following in zip(ring, ring[1:] + ring[:1]): OTHERS.setdefault(name, []).append(following)
 
-TOKEN = re.compile(r'\.[a-z][\w-]*|[(){};,]|[^\s(){};,]+')
+# A field stands right behind what has it, as in `p.ondelay`, and is a token of its own.
+TOKEN = re.compile(r'\.[a-z]\w*|[(){};,]|[^\s(){};,.]+|\.')
 Token = collections.namedtuple('Token', 'text start end')
 Site = collections.namedtuple('Site', 'file line definition old new text key')
 
@@ -82,12 +83,12 @@ def bodies(text):
 # ---- the changes of a body
 
 def closing(tokens, i):
-    """The index after the argument that starts at i: a name, or a pair of parentheses."""
+    """The index after the argument that starts at i: a name, or a pair of parentheses, with the fields right behind it."""
     depth = 0
     while i < len(tokens):
         depth += {'(': 1, ')': -1}.get(tokens[i].text, 0)
         i += 1
-        if depth <= 0: return i
+        if depth <= 0 and not (i < len(tokens) and tokens[i].text[0] == '.' and tokens[i].start == tokens[i - 1].end): return i
     return i
 
 
@@ -132,7 +133,7 @@ def changes(body, tokens, i):
 
 def imported(text, old, new):
     """The text with `new` added to the `use` line that brings `old`, if no line brings it."""
-    old, new = (x if re.match(r'\w', x) else '_%s_' % x for x in (old, new))  # as a `use` line has them
+    old, new = (x if re.match(r'\w', x) else '◌%s◌' % x for x in (old, new))  # as a `use` line has them
     brings = lambda x: re.compile(r'(?m)^(use .*[{ ])(' + re.escape(x) + r')(?=[,}])')
     return text if brings(new).search(text) else brings(old).sub(lambda m: m.group(1) + new + ', ' + m.group(2), text, count=1)
 
@@ -173,20 +174,22 @@ def described(s):
 # ---- asking the prover
 
 def without_code(folder):
-    """Types, definitions and laws alone: functions, and the proofs of functions, are taken out."""
-    for base, folders, files in os.walk(folder, topdown=False):
-        for f in files:
-            path = os.path.join(base, f)
-            if f.endswith('.rt'):
-                text = re.sub(r'(?m)^((pub|pub\(crate\)) )?(extern "C" )?fn (.|\n)*?^}\n', '', open(path).read())
-                types = re.sub(r'(?m)^(ghost )?use .*\n', '', text)
-                open(path, 'w').write(re.sub(r'(?m)^use [\w:]*?(\w+);\n', lambda m: m.group() if re.search(r'\b%s\b' % m.group(1), types) else '', text))
-        if 'Proof.antt' in files: shutil.rmtree(base)
+    """Types, definitions and laws alone: functions, and the proofs of functions, are taken out. (These lie in folders that are named as modules
+    and functions are, with a small letter.)"""
+    for path in glob.glob(folder + '/src/**/*.rt', recursive=True):
+        text = re.sub(r'(?m)^((pub|pub\(crate\)) )?(extern "C" )?fn (.|\n)*?^}\n', '', open(path).read())
+        types = re.sub(r'(?m)^(ghost )?use [^;]*;\n', '', text)
+        def wanted(m):
+            names = [n.strip() for n in m.group(2).strip('{}').split(',')]
+            names = [n for n in names if n and re.search(r'\b%s\b' % n.split('::')[-1], types)]
+            return 'use %s::{%s};\n' % (m.group(1), ', '.join(names)) if names else ''
+        open(path, 'w').write(re.sub(r'(?m)^use ([\w:]+)::(\w+|{[^}]*});\n', wanted, text))
+    for path in glob.glob(folder + '/proofs/[a-z+]*/'): shutil.rmtree(path)
 
 
 def crates_below(crate):
     """The crate and those it stands on, in the order of crates.txt."""
-    lines = dict(l.split(':') for l in open(os.path.join(ROOT, 'crates.txt')) if ':' in l and not l.startswith('#'))
+    lines = dict(l.split(':') for l in open(os.path.join(ROOT, 'crates.txt')) if ':' in l and 'staticlib' not in l and not l.startswith('#'))
     wanted, todo = set(), [crate]
     while todo:
         c = todo.pop()
@@ -201,7 +204,7 @@ def copy(crate):
     with open(os.path.join(scratch, 'crates.txt'), 'w') as out:
         for name, below in crates_below(crate):
             out.write('%s: %s\n' % (name, below))
-            shutil.copytree(os.path.join(ROOT, 'crates', name), os.path.join(scratch, 'crates', name), ignore=shutil.ignore_patterns('must-fail'))
+            shutil.copytree(os.path.join(ROOT, 'crates', name), os.path.join(scratch, 'crates', name), ignore=shutil.ignore_patterns('must-fail', 'out'))
             without_code(os.path.join(scratch, 'crates', name))
     outcome = ask(scratch, crate)
     if outcome != 'survived': sys.exit('the unchanged definitions are not proved (%s): see %s' % (outcome, scratch))
@@ -210,14 +213,16 @@ def copy(crate):
 
 def ask(scratch, crate):
     try:
-        p = subprocess.run(['rt', 'dev', crate], cwd=scratch, stdout=subprocess.PIPE, stderr=subprocess.STDOUT, text=True, timeout=LIMIT, env=dict(os.environ, RT_CUT='200'))
+        p = subprocess.run(['rt', 'check'], cwd=os.path.join(scratch, 'crates', crate), stdout=subprocess.PIPE, stderr=subprocess.STDOUT, text=True, timeout=LIMIT)
     except subprocess.TimeoutExpired:
         return 'unsure'
     if p.returncode == 0: return 'survived'
-    errors = re.findall(r'(?m)/crates/(\S+)/(specs|proofs)/(\S+?)\.antt:\d+:\d+: (?:error: )?`([^`]+)`', p.stdout)
-    if not errors: return 'unsure' if not re.search(r'(?m)/specs/\S+: error', p.stdout) else 'ill-formed'
-    if any(kind == 'specs' for _, kind, _, _ in errors): return 'ill-formed'
-    return 'refused (%s/%s: %s)' % (errors[0][0], errors[0][2], errors[0][3])
+    # rt stops at the first crate that fails, and tells files by their place in it
+    failed = ([crate] + re.findall(r'(?m)^rt: the library (\w+) did not build', p.stdout))[-1]
+    errors = re.findall(r'(?m)^\./(specs|proofs)/(\S+?)\.antt:\d+:\d+: error: (?:`([^`]+)`: )?', p.stdout)
+    if any(kind == 'specs' for kind, _, _ in errors): return 'ill-formed'
+    errors = [e for e in errors if e[2]]
+    return 'refused (%s/%s: %s)' % (failed, errors[0][1], errors[0][2]) if errors else 'unsure'
 
 
 def try_site(site, crate, copies):
