@@ -10,7 +10,7 @@ use Rattle.desk.proofs.clock.move_state.Goals as goal
 pub returns-then-records-lt-MOVE_ROOM : goal.returns-then-records-lt-MOVE_ROOM
 returns-then-records-lt-MOVE_ROOM c =
     let pre = c.requires in
-    rw c.refused.ensures (move_short _ _ _ pre.0 (rw pre.1 at (sym c.stamp_in_range.ensures ∙ c.if-stamp_in_range.true)) c.if-records-lt-MOVE_ROOM.true)
+    rw c.refused.ensures (move_short _ _ _ pre.0 (rw pre.1 at (sym c.stamp_in_range.ensures ∙ c.if-stamp_in_range.true)) (omega (arith, c.if-records-lt-MOVE_ROOM.true)))
 
 pub move_clock-m-requires : goal.move_clock-m-requires
 move_clock-m-requires c =

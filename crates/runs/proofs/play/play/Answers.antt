@@ -1,4 +1,5 @@
-use mathlib.Core.Path.{◌≡◌, refl, ◌∙◌}
+use Prim.Native.Nat.{ℕ}
+use mathlib.Core.Path.{◌≡◌, refl, ap, ◌∙◌}
 use native.Mathlib.Omega.{arith}
 use Rattle.octets.specs.Splice.{splice}
 use Rattle.rules.specs.Runs.{record_octets}
@@ -9,6 +10,8 @@ use Rattle.turns.specs.Turns.{listened}
 use Rattle.player.specs.Playing.{Ready}
 use Rattle.rules.specs.Files.{input_count, inputs_in}
 use Rattle.runs.specs.Runs.{fresh_in}
+use Rattle.rules.specs.Steps.{clock_move}
+use Rattle.timers.specs.Ticks.{clocked}
 use Rattle.timers.proofs.Moves.{moved_few}
 use Rattle.runs.proofs.Ends.{record_alone, fit_ready, ended, filled_is_accepted}
 use Rattle.runs.proofs.play.play.Goals as goal
@@ -66,4 +69,4 @@ returns c =
     let items = c.play_items-played in
     let n = c.input_count-n.ensures in
     rw c.listen.ensures
-    (filled_is_accepted _ _ _ _ _ _ _ _ (ended _ _ _ _ (begun (goal.at.returns c).After-put_record) c.requires.0 _ _ _ _ _ _ _ _ items.ensures.behind (omega (arith, n, items.ensures.few, items.auto.records, c.put_record.auto.buf, c.requires.1)) (rw (c.fresh_in-start.ensures, c.inputs_in.ensures, n) at items.ensures.filled) _ (rw c.end_time-end.ensures at c.move_clock-last.ensures) c.put_notes.ensures))
+    (filled_is_accepted _ _ _ _ _ _ _ _ (ended _ _ _ _ (begun (goal.at.returns c).After-put_record) c.requires.0 _ _ _ _ _ _ _ _ items.ensures.behind (omega (arith, n, items.ensures.few, items.auto.records, c.put_record.auto.buf, c.requires.1)) (rw (c.fresh_in-start.ensures, c.inputs_in.ensures, n) at items.ensures.filled) _ (c.move_clock-last.ensures ∙ ap (λ (t : ℕ). clocked (clock_move c.play_items-played.result.state t)) c.end_time-end.ensures) c.put_notes.ensures))
