@@ -1,7 +1,8 @@
-use Prim.Native.Nat.{◌≤◌}
+use Prim.Native.Nat.{ℕ, ◌≤◌}
+use mathlib.Core.List.{List}
 use mathlib.Core.Path.{◌≡◌, refl, sym, ◌∙◌}
 use native.Mathlib.Omega.{arith}
-use Rattle.octets.specs.Groups.{stamp_at}
+use Rattle.octets.specs.Groups.{stamp_at, kind_at, value_at}
 use Rattle.rules.specs.declared.input.Input.{Input}
 use Rattle.rules.specs.declared.input.Decoded.TheVariants.{Meant}
 use Rattle.rules.specs.Inputs.{decoded}
@@ -11,14 +12,18 @@ use Rattle.rules.proofs.Laws.Inputs.{kind_range, meant_kind}
 use Rattle.rules.proofs.Laws.Soundness.{move_clock}
 use Rattle.rules.proofs.Laws.Records.{a_move_writes_at_most_two}
 use Rattle.phases.proofs.Rooms.{sound_room, moved_roomy}
-use Rattle.lamps.specs.Lamps.{state_of}
+use Rattle.rules.specs.declared.state.State.{State}
+use Rattle.sensor.specs.declared.state.Sensor.{Sensor}
+use Rattle.lamps.specs.declared.lamp.Lamp.{Lamp}
+use Rattle.lamps.specs.Lamps.{lamp_of, state_of}
 use Rattle.records.proofs.Written.{listed_few}
 use Rattle.pairs.specs.declared.item.Item.{Item}
 use Rattle.pairs.specs.declared.item.Read.TheVariants.{Known}
 use Rattle.pairs.specs.Items.{item_at}
 use Rattle.pairs.specs.Pairs.{pair_of}
 use Rattle.pairs.proofs.Soundness.{sound_pair_exactly_when}
-use Rattle.turns.specs.Turns.{listened, Turned}
+use Rattle.turns.specs.declared.turn.Turn.{Turn}
+use Rattle.turns.specs.Turns.{listened, turn_of, Turned}
 use Rattle.turns.proofs.Turning.{turned}
 use Rattle.player.specs.Playing.{Ready}
 use Rattle.player.proofs.Turns.{going_first, next_item, going_rests, going_asks, going_acts, going_dropped, going_last}
@@ -26,28 +31,34 @@ use Rattle.player.proofs.items.play_items.Goals as goal
 use Rattle.player.proofs.items.play_items.Goals.{After-lamp_of-l, After-turn_at-turn, In-Order}
 
 -- the pair that the items are played from is ready for them
+is_ready : (inputs : List ℕ) (n : ℕ) (start : State) (z : Sensor) (l : Lamp) → l ≡ lamp_of start → Ready inputs n (pair_of start z) → Ready inputs n (pair_of (state_of start.params start.scenes l) z)
+is_ready inputs n start z l e ready = rw e ready
+
 ready_to : (c : After-lamp_of-l) → let a = c.args in Ready a.inputs.now a.n (pair_of (state_of a.start.params a.start.scenes c.lamp_of-l.result) (listened a.records.now a.before a.first 0))
-ready_to c = rw c.lamp_of-l.ensures c.requires.0
+ready_to c = is_ready _ _ _ _ _ c.lamp_of-l.ensures c.requires.0
 
 -- the item's turn, where one stands
+takes : (inputs records : List ℕ) (i at t count heard : ℕ) (z : Sensor) (turn : Turn) → at ≡ input_place i → t ≡ stamp_at inputs at → heard ≤ count →
+    ((j : Item) → item_at inputs at ≡ Known j → turn ≡ turn_of j (kind_at inputs at) (value_at inputs at) t records count z heard) →
+    (j : Item) → item_at inputs (input_place i) ≡ Known j → Turned j (stamp_at inputs (input_place i)) records count z heard turn
+takes inputs records i at t count heard z turn place stamped behind turns j e = rw (turns j (rw place e), stamped, place) (turned _ _ _ _ _ _ _ behind j e)
+
 took : (c : After-turn_at-turn) → let loop = c.loop-i in let inputs = c.args.inputs.now in let m = c.advance-m in
     (j : Item) → item_at inputs (input_place loop.i) ≡ Known j → Turned j (stamp_at inputs (input_place loop.i)) m.new.records m.result.count loop.z loop.heard c.turn_at-turn.result
-took c j e =
+took c =
     let loop = c.loop-i in
-    let place = c.input_place-at.ensures in
-    rw (c.turn_at-turn.ensures j (rw place e), c.stamp_at-t.ensures, place) (turned _ _ _ _ _ _ _ (omega (arith, loop.invariant.1, (c.advance-m.ensures loop.k).count)) j e)
+    takes c.args.inputs.now _ loop.i _ _ _ loop.heard loop.z _ c.input_place-at.ensures c.stamp_at-t.ensures (omega (arith, loop.invariant.1, (c.advance-m.ensures loop.k).count)) c.turn_at-turn.ensures
 
 -- the sensor has heard no more than there is
 behind_still : (c : After-turn_at-turn) → c.turn_at-turn.result.heard ≤ c.advance-m.result.count
 behind_still c =
-    let ready : Ready c.args.inputs.now c.args.n (pair_of (state_of c.args.start.params c.args.start.scenes c.lamp_of-l.result) (listened c.args.records.now c.args.before c.args.first 0)) = rw c.lamp_of-l.ensures c.requires.0 in
-    let f = next_item _ _ _ _ _ _ ready _ _ _ _ _ c.loop-i.invariant.0 c.loop-i-test.true in
+    let f = next_item _ _ _ _ _ _ (is_ready _ _ _ _ _ c.lamp_of-l.ensures c.requires.0) _ _ _ _ _ c.loop-i.invariant.0 c.loop-i-test.true in
     (took c f.input f.meant).behind
 
 -- an item that asks for something asks for an input
 asked : (c : In-Order) → (x : Input) × (decoded c.in-Order.kind c.in-Order.value ≡ Meant x)
 asked c =
-    let ready : Ready c.args.inputs.now c.args.n (pair_of (state_of c.args.start.params c.args.start.scenes c.lamp_of-l.result) (listened c.args.records.now c.args.before c.args.first 0)) = rw c.lamp_of-l.ensures c.requires.0 in
+    let ready = is_ready _ _ _ _ _ c.lamp_of-l.ensures c.requires.0 in
     let loop = c.loop-i in
     let g = loop.invariant.0 in
     let within = c.loop-i-test.true in
@@ -55,8 +66,8 @@ asked c =
     let stamp = rw place at c.stamp_at-t.ensures in
     let moves = c.advance-m in
     let two = a_move_writes_at_most_two (state_of c.args.start.params loop.k loop.l) c.stamp_at-t.result in
-    let took : (j : Item) → item_at c.args.inputs.now (input_place loop.i) ≡ Known j → Turned j (stamp_at c.args.inputs.now (input_place loop.i)) moves.new.records moves.result.count loop.z loop.heard c.turn_at-turn.result = λ j e. rw (c.turn_at-turn.ensures j (rw place e), c.stamp_at-t.ensures, place) (turned _ _ _ _ _ _ _ (omega (arith, loop.invariant.1, (moves.ensures loop.k).count)) j e) in
-    going_asks _ _ _ _ _ _ ready c.args.start.params loop.k loop.l loop.z loop.heard _ _ _ _ g loop.invariant.1 within (omega (arith, c.requires.2)) c.requires.3 (omega (arith, within, g.stands.few, g.stands.room, c.requires.2)) _ _ (rw stamp at moves.ensures) moves.auto.records (omega (arith, within, two, (moves.ensures loop.k).count, moves.auto.records, g.stands.few, g.stands.room, c.requires.2)) _ took _ _ c.in-Order.is
+    let turns = takes c.args.inputs.now _ loop.i _ _ _ loop.heard loop.z _ place c.stamp_at-t.ensures (omega (arith, loop.invariant.1, (moves.ensures loop.k).count)) c.turn_at-turn.ensures in
+    going_asks _ _ _ _ _ _ ready c.args.start.params loop.k loop.l loop.z loop.heard _ _ _ _ g loop.invariant.1 within (omega (arith, c.requires.2)) c.requires.3 (omega (arith, within, g.stands.few, g.stands.room, c.requires.2)) _ _ (rw stamp at moves.ensures) moves.auto.records (omega (arith, within, two, (moves.ensures loop.k).count, moves.auto.records, g.stands.few, g.stands.room, c.requires.2)) _ turns _ _ c.in-Order.is
 
 pub loop-i-init : goal.loop-i-init
 loop-i-init c = (going_first _ _ _ _ _ _ (ready_to (goal.at.loop-i-init c).After-lamp_of-l), omega arith)
