@@ -15,7 +15,7 @@ fn print_line<W: Write>(out: &mut W, word: &[u8], numbers: &[u64]) -> io::Result
     out.write_all(b"\n")
 }
 
-// The last line: what was held back is written with it.
+// The last line; a writer that holds lines back writes them with it.
 fn print_last<W: Write>(out: &mut W, word: &[u8], numbers: &[u64]) -> io::Result<()> {
     print_line(out, word, numbers)?;
     out.flush()

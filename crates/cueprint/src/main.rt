@@ -17,7 +17,7 @@ use sensor::call::fresh_sensor;
 use sensor::state::own_sensor;
 use std::env::Env;
 use std::io;
-use std::io::{BufWriter, Write};
+use std::io::Write;
 use wallfile::{actions_in, check_wall, file_in};
 
 // A cue file, with no button beside it.
@@ -63,7 +63,7 @@ fn main(rt: HostRuntime) -> anyhow::Result<()> {
     let mut list = [0u8; 16449];
     let n = read::read_full(&mut rt.stdin(), &mut list).context("the list cannot be read")?;
     let phases = told(&rt, b'p');
-    let mut out = BufWriter::new(rt.alloc(), io::writer(&rt))?;
+    let mut out = io::writer(&rt);
     let printed = if told(&rt, b'w') {
         print_wall(&mut out, &list[..n], phases)
     } else {

@@ -38,12 +38,12 @@ mod show;
 mod written;
 
 use std::io;
-use std::io::{BufReader, BufWriter, Read, Write};
+use std::io::{Read, Write};
 
 // A proved loop has to end, so it counts its turns, up to a number that no run reaches.
 fn main(rt: HostRuntime) -> io::Result<()> {
-    let mut steps = BufReader::new(rt.alloc(), rt.stdin())?.chain(io::repeat(0));
-    let mut out = BufWriter::new(rt.alloc(), io::writer(&rt))?;
+    let mut steps = rt.stdin().chain(io::repeat(0));
+    let mut out = io::writer(&rt);
     let mut now = written::Pair {
         state: [0; 56],
         sensor: [0; 9],
