@@ -1,4 +1,5 @@
 -- An input at the moved clock does what the rules say: it is dropped, or counts, taken or noted. A step is the clock move, and then that.
+use Rattle.std.specs.Prelude.{None, Result, Ok, Err}
 use Prim.Native.Nat.{ℕ, ◌≤◌}
 use mathlib.Core.Bool.{Bool, true, false, ◌&&◌}
 use mathlib.Core.List.{List, [], ◌∷◌, ◌++◌}
@@ -35,9 +36,6 @@ use Rattle.orders.proofs.Lights.{light_is_granted, other_orders_keep_the_table}
 use Rattle.timers.specs.declared.clock.Clocked.{Clocked}
 use Rattle.actuator.specs.declared.step.Acting.{Acting}
 use Rattle.actuator.specs.declared.step.Done.{Done}
-use Rattle.actuator.specs.declared.step.Fate.{Fate}
-use Rattle.actuator.specs.declared.step.Fate.TheVariants.{Dropped, Counts}
-use Rattle.records.specs.declared.notes.Note.TheVariants.{Silent}
 use Rattle.records.specs.Notes.{note_of, added}
 use Rattle.timers.specs.Ticks.{clocked}
 use Rattle.actuator.specs.Acts.{fate, meeting, after, acting, done, done_by, dropped_by, acted}
@@ -63,11 +61,11 @@ module _ (p : Params) (k : List Scene) (l : Lamp) (i : Input) where
   order_joined after e = rw (← e) (joined (order met i) p table (order_leaves met i).params refl)
 
   -- a lamp that stays: only the table can have changed, and nothing is shown
-  stays : (b : Barrier) (k₁ : List Scene) → record { lamp = l; answer = answer b (same_scenes k k₁); note = Silent } ≡ done_by b met i (state_of p k₁ l)
+  stays : (b : Barrier) (k₁ : List Scene) → record { lamp = l; answer = answer b (same_scenes k k₁); note = None } ≡ done_by b met i (state_of p k₁ l)
   unfolding done_by same_but_clock same_phase same_flags note_of same_status value attributes
   stays b k₁ = simp (eqb_same, beq_same)
 
-  pub lamp_stays : lamp_of (order met i) ≡ l → record { lamp = l; answer = answer Open (same_scenes k table); note = Silent } ≡ done_by Open met i (order met i)
+  pub lamp_stays : lamp_of (order met i) ≡ l → record { lamp = l; answer = answer Open (same_scenes k table); note = None } ≡ done_by Open met i (order met i)
   lamp_stays e = stays Open table ∙ ap (done_by Open met i) (order_joined l e)
 
   -- a lamp that does not
@@ -115,7 +113,7 @@ module _ (p : Params) (k : List Scene) (l : Lamp) (i : Input) (b : Bool) (other 
   parts : state_of p k next ≡ reached
   parts = let kept = other_keeps b (state_of p k l) i other in rw leads (joined reached p k kept.0 kept.1)
 
-  pub other_stays : (same_phase l.phase next.phase && same_flags (alone l) (alone next)) ≡ true → record { lamp = l; answer = 1; note = Silent } ≡ done_by (meeting b) (state_of p k l) i reached
+  pub other_stays : (same_phase l.phase next.phase && same_flags (alone l) (alone next)) ≡ true → record { lamp = l; answer = 1; note = None } ≡ done_by (meeting b) (state_of p k l) i reached
   other_stays same =
       let clock : l.clock ≡ next.clock = sym (ap (λ (x : Lamp). x.clock) leads ∙ (other_keeps b (state_of p k l) i other).2) in
       let here : state_of p k l ≡ reached = ap (state_of p k) (same_lamp l next clock same) ∙ parts in
@@ -132,34 +130,34 @@ noted_alone p k l i = noted_both (λ (u v : State). lamp_of u ≡ lamp_of v) (al
 -- ---- at the moved clock
 
 -- the answer that a dropped input gets
-abbrev answer_in : Fate → ℕ
-answer_in (Dropped answer) = answer
-answer_in (Counts noted) = 0
+abbrev answer_in : Result Bool ℕ → ℕ
+answer_in (Err answer) = answer
+answer_in (Ok noted) = 0
 
-dropped_or_counts : {A : Type 0} {answer : ℕ} {noted : Bool} → Dropped answer ≡ Counts noted → A
+dropped_or_counts : {A : Type 0} {answer : ℕ} {noted : Bool} → Err answer ≡ Ok noted → A
 dropped_or_counts e = absurd (let z : ◌≡◌ {A = ℕ} 0 1 = cc in omega arith)
 
 -- an input that counts is taken where it is free, and else noted
-counts_when_open : (b : Barrier) → fate b ≡ Counts false → b ≡ Open
+counts_when_open : (b : Barrier) → fate b ≡ Ok false → b ≡ Open
 unfolding fate
 counts_when_open Open e = refl
 counts_when_open Notes e = no cc
 counts_when_open (Stopped why) e = dropped_or_counts e
 
-counts_when_noted : (b : Barrier) → fate b ≡ Counts true → b ≡ Notes
+counts_when_noted : (b : Barrier) → fate b ≡ Ok true → b ≡ Notes
 unfolding fate
 counts_when_noted Open e = no cc
 counts_when_noted Notes e = refl
 counts_when_noted (Stopped why) e = dropped_or_counts e
 
 module _ (s : State) (i : Input) where
-  pub counts_is_done : (noted : Bool) → fate (barrier s i) ≡ Counts noted → done_by (meeting noted) s i (after (meeting noted) s i) ≡ done (act (still s) i)
+  pub counts_is_done : (noted : Bool) → fate (barrier s i) ≡ Ok noted → done_by (meeting noted) s i (after (meeting noted) s i) ≡ done (act (still s) i)
   unfolding meeting after done_by done act meet counted
   counts_is_done false e = rw (counts_when_open (barrier s i) e, first_written (kind i) s (order s i)) refl
   counts_is_done true e = rw (counts_when_noted (barrier s i) e, first_written (kind i) s (noted s i)) refl
 
   -- an order to the light is not noted
-  pub light_is_done : (noted : Bool) → is_light i ≡ true → fate (barrier s i) ≡ Counts noted → done_by Open s i (order s i) ≡ done (act (still s) i)
+  pub light_is_done : (noted : Bool) → is_light i ≡ true → fate (barrier s i) ≡ Ok noted → done_by Open s i (order s i) ≡ done (act (still s) i)
   unfolding meeting after
   light_is_done false light e = counts_is_done false e
   light_is_done true light e = absurd (go i light (noted_where s i (counts_when_noted (barrier s i) e)))
@@ -170,7 +168,7 @@ module _ (s : State) (i : Input) where
       go _ light w = elim w [ ]
 
   -- the scene table is that of the order: what is noted teaches nothing, and neither would its order
-  pub counts_teaches : (noted : Bool) → fate (barrier s i) ≡ Counts noted → (order s i).scenes ≡ (act (still s) i).state.scenes
+  pub counts_teaches : (noted : Bool) → fate (barrier s i) ≡ Ok noted → (order s i).scenes ≡ (act (still s) i).state.scenes
   unfolding act meet counted
   counts_teaches false e = rw (counts_when_open (barrier s i) e) refl
   counts_teaches true e =
@@ -183,11 +181,11 @@ module _ (s : State) (i : Input) where
       untaught _ w = elim w [ ]
 
   -- nothing is left of a dropped input but its answer
-  pub dropped_leaves : (answer : ℕ) → fate (barrier s i) ≡ Dropped answer → (dropped_by s answer ≡ done (act (still s) i)) × (s.scenes ≡ (act (still s) i).state.scenes)
+  pub dropped_leaves : (answer : ℕ) → fate (barrier s i) ≡ Err answer → (dropped_by s answer ≡ done (act (still s) i)) × (s.scenes ≡ (act (still s) i).state.scenes)
   unfolding act
   dropped_leaves answer = go (barrier s i)
     where
-      go : (b : Barrier) → fate b ≡ Dropped answer → (dropped_by s answer ≡ done (meet b (still s) i)) × (s.scenes ≡ (meet b (still s) i).state.scenes)
+      go : (b : Barrier) → fate b ≡ Err answer → (dropped_by s answer ≡ done (meet b (still s) i)) × (s.scenes ≡ (meet b (still s) i).state.scenes)
       go Open e = unfold fate in dropped_or_counts (sym e)
       go Notes e = unfold fate in dropped_or_counts (sym e)
       go (Stopped why) e = unfold fate dropped_by done meet in (rw (sym (ap answer_in e)) refl, refl)

@@ -1,5 +1,5 @@
 -- What an input came to, as the code has it.
-use Rattle.std.specs.Prelude.{ℕ, Bool, true, false}
+use Rattle.std.specs.Prelude.{ℕ, Bool, true, false, None, Result, Ok, Err}
 use Rattle.rules.specs.declared.input.Input.{Input}
 use Rattle.rules.specs.declared.state.State.{State}
 use Rattle.rules.specs.declared.barrier.Barrier.{Barrier}
@@ -8,20 +8,17 @@ use Rattle.rules.specs.Inputs.{kind}
 use Rattle.rules.specs.Orders.{order, noted}
 use Rattle.rules.specs.Answers.{stopped_number, answer, same_but_clock}
 use Rattle.rules.specs.Steps.{Stepped}
-use Rattle.records.specs.declared.notes.Note.TheVariants.{Silent}
 use Rattle.lamps.specs.Lamps.{lamp_of}
 use Rattle.actuator.specs.declared.step.Acted.{Acted}
 use Rattle.actuator.specs.declared.step.Acting.{Acting}
 use Rattle.actuator.specs.declared.step.Done.{Done}
-use Rattle.actuator.specs.declared.step.Fate.{Fate}
-use Rattle.actuator.specs.declared.step.Fate.TheVariants.{Dropped, Counts}
 use Rattle.records.specs.Notes.{notes, note_of, first_of}
 
 -- what becomes of an input, by what it meets
-unfoldable pub fate : Barrier → Fate
-fate Open = Counts false
-fate Notes = Counts true
-fate (Stopped why) = Dropped (stopped_number why)
+unfoldable pub fate : Barrier → Result Bool ℕ
+fate Open = Ok false
+fate Notes = Ok true
+fate (Stopped why) = Err (stopped_number why)
 
 -- what an input meets that counts, and what it then leaves
 unfoldable pub meeting : Bool → Barrier
@@ -50,4 +47,4 @@ unfoldable pub done_by : Barrier → State → Input → State → Done
 done_by b s i after = record { lamp = lamp_of after; answer = answer b (same_but_clock s after); note = note_of (kind i) s after }
 
 unfoldable pub dropped_by : State → ℕ → Done
-dropped_by s answer = record { lamp = lamp_of s; answer = answer; note = Silent }
+dropped_by s answer = record { lamp = lamp_of s; answer = answer; note = None }

@@ -19,7 +19,7 @@ use lamps::lamp;
 use lamps::lamp::Lamp;
 use orders::{light_order, noted_value, other_order, table_after};
 use records::notes;
-use records::notes::{Note, Notes};
+use records::notes::Notes;
 use rules::barrier::{Barrier, Why};
 use rules::input::Input;
 use rules::parameters::{Params, Scene};
@@ -28,19 +28,12 @@ use scenes::same::same_scenes;
 use states::same::{same_lamp, same_phase};
 use timers::clock::move_clock;
 
-// What becomes of an input at its barrier: it is dropped for good, with this answer, or it counts, noted (true) or taken (false).
-#[derive(Clone, Copy)]
-pub enum Fate {
-    Dropped(u8),
-    Counts(bool),
-}
-
 // What an input that counts does, but for the scene table.
 #[derive(Clone, Copy)]
 pub struct Done {
     pub lamp: Lamp,
     pub answer: u8,
-    pub note: Note,
+    pub note: Option<Record>,
 }
 
 // What an input came to while the clock stood.
@@ -48,7 +41,7 @@ pub struct Done {
 pub struct Acting {
     pub state: State,
     pub answer: u8,
-    pub note: Note,
+    pub note: Option<Record>,
 }
 
 // What an input came to, by value.
@@ -72,15 +65,15 @@ fn stopped_number(why: Why) -> u8
 }
 
 // What becomes of an input of a kind, once the clock has moved: the one place where an input meets its barrier.
-pub fn fate_of(l: Lamp, kind: u8) -> Fate
+pub fn fate_of(l: Lamp, kind: u8) -> Result<bool, u8>
     requires { (1 ≤ kind) × (kind ≤ 8) }
     ensures { result ≡ fate (barrier_to kind l.link l.lock l.force) }
 {
     let b = barrier_to(l, kind);
     match b {
-        Barrier::Open => Fate::Counts(false),
-        Barrier::Notes => Fate::Counts(true),
-        Barrier::Stopped(why) => Fate::Dropped(stopped_number(why)),
+        Barrier::Open => Ok(false),
+        Barrier::Notes => Ok(true),
+        Barrier::Stopped(why) => Err(stopped_number(why)),
     }
 }
 
@@ -126,7 +119,7 @@ fn take_light(p: Params, k: [Scene; 8], l: Lamp, i: Input) -> Done
         Done {
             lamp: l,
             answer: taken_number(same_table(p, k, l, i)),
-            note: Note::Silent,
+            note: None,
         }
     } else {
         let after = lamp::with_phase(l, next);
@@ -160,7 +153,7 @@ fn take_other(p: Params, l: Lamp, i: Input, noted: bool) -> Done
         Done {
             lamp: l,
             answer: UNCHANGED,
-            note: Note::Silent,
+            note: None,
         }
     } else {
         Done {
@@ -173,7 +166,7 @@ fn take_other(p: Params, l: Lamp, i: Input, noted: bool) -> Done
 
 // An input at the moved clock that counts: kinds 1 to 3 are orders to the light, and none of them is noted.
 pub fn take(p: Params, k: [Scene; 8], l: Lamp, i: Input, noted: bool) -> Done
-    requires { Roomy p l.clock l.phase × (fate (barrier (state_of p k l) i) ≡ Fate.Counts noted) }
+    requires { Roomy p l.clock l.phase × (fate (barrier (state_of p k l) i) ≡ Ok noted) }
     ensures { result ≡ done (act (still (state_of p k l)) i) }
 {
     match kind_of(i) {
@@ -184,7 +177,7 @@ pub fn take(p: Params, k: [Scene; 8], l: Lamp, i: Input, noted: bool) -> Done
 
 // The scene table after an input at the moved clock that counts.
 pub fn scenes_after(p: Params, k: [Scene; 8], l: Lamp, i: Input) -> [Scene; 8]
-    requires { (noted : Bool) × (fate (barrier (state_of p k l) i) ≡ Fate.Counts noted) }
+    requires { (noted : Bool) × (fate (barrier (state_of p k l) i) ≡ Ok noted) }
     ensures { result ≡ (act (still (state_of p k l)) i).state.scenes }
 {
     if is_lesson(i) {
@@ -204,12 +197,12 @@ pub fn act_input(s: State, i: Input) -> Acting
     let l = lamp::lamp_of(s);
     let f = fate_of(l, kind_of(i));
     match f {
-        Fate::Dropped(answer) => Acting {
+        Err(answer) => Acting {
             state: s,
             answer,
-            note: Note::Silent,
+            note: None,
         },
-        Fate::Counts(noted) => {
+        Ok(noted) => {
             let d = take(p, k, l, i, noted);
             let after = d.lamp;
             let note = d.note;

@@ -1,4 +1,5 @@
 -- The numbers of the table tell its rows apart; so the code and the place of a check are given exactly when its row holds.
+use Rattle.std.specs.Prelude.{Ok, Err}
 use Prim.Native.Nat.{ℕ, ◌≤◌}
 use mathlib.Core.Bool.{Bool, true, false, cond}
 use mathlib.Core.Logic.{◌↔◌, inl, inr, ⊎_elim}
@@ -8,9 +9,8 @@ use lib.Dec.{eqb, leb}
 use borrow.Author.Tests.{leb-true, le-leb}
 use Rattle.base.specs.declared.refusal.Refusal.{Refusal}
 use Rattle.base.specs.declared.refusal.Refusal.TheVariants.{WrongLength, WrongVersion, WrongActuators, WrongLayout, BadParameter, BadInput, BadStamp, ShortBuffer, UnsoundState, BadAction, WrongGroups}
-use Rattle.base.specs.declared.refusal.Check.{Check}
-use Rattle.base.specs.declared.refusal.Check.TheVariants.{Passed, Refused}
-use Rattle.base.specs.Refusals.{number, code_of, place_of, stamp_in_range, check_call, or_else, Decides, Only, Then, Codes, Timely, CallWhen, CallCodes}
+use Rattle.base.specs.declared.refusal.Refused.{Refused}
+use Rattle.base.specs.Refusals.{number, code_of, place_of, stamp_in_range, check_call, or_else, Decides, Only, Then, Codes, Timely, CallWhen, CallCodes, Check, refused_with}
 use Rattle.base.proofs.Tests.{both, no}
 
 pub some_number : (why : Refusal) → 1 ≤ number why
@@ -54,16 +54,22 @@ number_back UnsoundState = refl
 number_back BadAction = refl
 number_back WrongGroups = refl
 
+-- two refusals are one only if their rows and places are
+pub same_row : (why other : Refusal) (p q : ℕ) → refused_with why p ≡ refused_with other q → (why ≡ other) × (p ≡ q)
+same_row why other p q e =
+    let same : ◌≡◌ {A = Refused} (record { why = why; place = p }) (record { why = other; place = q }) = cc in
+    (ap (λ (r : Refused). r.why) same, ap (λ (r : Refused). r.place) same)
+
 -- what a check finds is told by its code and its place
-code_tells : (c : Check) (why : Refusal) (p : ℕ) → code_of c ≡ number why → place_of c ≡ p → c ≡ Refused why p
-code_tells Passed why p e f = absurd (omega (arith, some_number why, e))
-code_tells (Refused other q) why p e f =
-    let same : other ≡ why = sym (number_back other) ∙ ap refusal_of e ∙ number_back why in
+code_tells : (c : Check) (why : Refusal) (p : ℕ) → code_of c ≡ number why → place_of c ≡ p → c ≡ refused_with why p
+code_tells (Ok _) why p e f = absurd (omega (arith, some_number why, e))
+code_tells (Err fault) why p e f =
+    let same : fault.why ≡ why = sym (number_back fault.why) ∙ ap refusal_of e ∙ number_back why in
     rw (same, f) refl
 
-zero_tells : (c : Check) → code_of c ≡ 0 → c ≡ Passed
-zero_tells Passed e = refl
-zero_tells (Refused why p) e = absurd (omega (arith, some_number why, e))
+zero_tells : (c : Check) → code_of c ≡ 0 → c ≡ Ok tt
+zero_tells (Ok _) e = refl
+zero_tells (Err fault) e = absurd (omega (arith, some_number fault.why, e))
 
 -- a call gives the code and the place of its check, and so each exactly when the check finds it
 pub codes_of_a_check : {Given : Refusal → ℕ → Type 0} {Good : Type 0} (c : Check) → Decides Given Good c → Codes Given Good (code_of c) (place_of c)
@@ -83,29 +89,29 @@ failed true f = absurd (f refl)
 failed false f = refl
 
 -- a single test decides a single row
-pub one_test_decides : (Good : Type 0) (b : Bool) (row : Refusal) (place : ℕ) → ((b ≡ true) ↔ Good) → Decides (Only row place (Good → ⊥)) Good (cond b Passed (Refused row place))
+pub one_test_decides : (Good : Type 0) (b : Bool) (row : Refusal) (place : ℕ) → ((b ≡ true) ↔ Good) → Decides (Only row place (Good → ⊥)) Good (cond b (Ok tt) (refused_with row place))
 one_test_decides Good true row place t =
     record {
       refused = λ why p. (λ e. absurd (no_refusal why p e), λ g. absurd (g.2 (t.0 refl)));
       passed = (λ e. t.0 refl, λ g. refl);
     }
   where
-    no_refusal : (why : Refusal) (p : ℕ) → Passed ≡ Refused why p → ⊥
+    no_refusal : (why : Refusal) (p : ℕ) → (Ok tt) ≡ refused_with why p → ⊥
     no_refusal why p e = let z : ◌≡◌ {A = ℕ} 0 1 = cc in omega arith
 one_test_decides Good false row place t =
     record {
-      refused = λ why p. (λ e. (sym (cc), sym (cc), λ g. no (t.1 g)), λ g. rw (g.0, g.1) refl);
+      refused = λ why p. (λ e. let same = same_row row why place p e in (sym same.0, sym same.1, λ g. no (t.1 g)), λ g. rw (g.0, g.1) refl);
       passed = (λ e. let z : ◌≡◌ {A = ℕ} 0 1 = cc in absurd (omega arith), λ g. no (t.1 g));
     }
 
 -- one check after another decides the rows of both
 pub then_decides : {First Next : Refusal → ℕ → Type 0} {Good Fine : Type 0} (c d : Check) → Decides First Good c → Decides Next Fine d → Decides (Then First Good Next) (Good × Fine) (or_else c d)
-then_decides Passed d one two =
+then_decides (Ok _) d one two =
     record {
       refused = λ why p. (λ e. inr (one.passed.0 refl, (two.refused why p).0 e), λ g. ⊎_elim (λ f. absurd (let z : ◌≡◌ {A = ℕ} 0 1 = let e = (one.refused why p).1 f in cc in omega arith)) (λ n. (two.refused why p).1 n.1) g);
       passed = (λ e. (one.passed.0 refl, two.passed.0 e), λ g. two.passed.1 g.1);
     }
-then_decides (Refused reason place) d one two =
+then_decides (Err fault) d one two =
     record {
       refused = λ why p. (λ e. inl ((one.refused why p).0 e), λ g. ⊎_elim (λ f. (one.refused why p).1 f) (λ n. absurd (let z : ◌≡◌ {A = ℕ} 0 1 = let e = one.passed.1 n.0 in cc in omega arith)) g);
       passed = (λ e. absurd (let z : ◌≡◌ {A = ℕ} 0 1 = cc in omega arith), λ g. absurd (let z : ◌≡◌ {A = ℕ} 0 1 = let e = one.passed.1 g.0 in cc in omega arith));

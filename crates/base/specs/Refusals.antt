@@ -1,9 +1,8 @@
 -- The refusal numbers (01, "Refusal numbers"): one table, whichever call gives them.
-use Rattle.std.specs.Prelude.{ℕ, ◌≤◌, Bool, cond, ◌&&◌, ◌↔◌, ◌⊎◌, ◌≡◌, leb}
+use Rattle.std.specs.Prelude.{ℕ, ◌≤◌, Bool, cond, ◌&&◌, ◌↔◌, ◌⊎◌, ◌≡◌, leb, Result, Ok, Err, ⊤}
 use Rattle.base.specs.declared.refusal.Refusal.{Refusal}
 use Rattle.base.specs.declared.refusal.Refusal.TheVariants.{WrongLength, WrongVersion, WrongActuators, WrongLayout, BadParameter, BadInput, BadStamp, ShortBuffer, UnsoundState, BadAction, WrongGroups}
-use Rattle.base.specs.declared.refusal.Check.{Check}
-use Rattle.base.specs.declared.refusal.Check.TheVariants.{Passed, Refused}
+use Rattle.base.specs.declared.refusal.Refused.{Refused}
 use Rattle.base.specs.Time.{last_stamp}
 
 -- the table's first column (01, and 02 for the numbers that its requests add)
@@ -22,23 +21,30 @@ number BadAction = 11
 -- 02, [3]: "12 for more than 256 or a length not a multiple of 8"
 number WrongGroups = 12
 
--- what a check finds, as a code and a place: "an accepted call has code 0, place 0", a refused one the number and the place of its row
+-- what a check finds: nothing wrong, or the first row that holds, and where
+abbrev pub Check : Type 0
+Check = Result ⊤ Refused
+
+abbrev pub refused_with : Refusal → ℕ → Check
+refused_with why place = Err (record { why = why; place = place })
+
+-- as a code and a place: "an accepted call has code 0, place 0", a refused one the number and the place of its row
 abbrev pub code_of : Check → ℕ
-code_of Passed = 0
-code_of (Refused why place) = number why
+code_of (Ok _) = 0
+code_of (Err fault) = number fault.why
 
 abbrev pub place_of : Check → ℕ
-place_of Passed = 0
-place_of (Refused why place) = place
+place_of (Ok _) = 0
+place_of (Err fault) = fault.place
 
 -- one test, and its row where it fails
 abbrev pub if_not : Bool → Refusal → Check
-if_not test why = cond test Passed (Refused why 0)
+if_not test why = cond test (Ok tt) (refused_with why 0)
 
 -- one check, then another
 abbrev pub or_else : Check → Check → Check
-or_else Passed later = later
-or_else (Refused why place) later = Refused why place
+or_else (Ok _) later = later
+or_else (Err fault) later = Err fault
 
 -- "7 | stamp below .. (or the clock), above .. (single input or clock move: 864,000)"
 unfoldable pub stamp_in_range : ℕ → ℕ → Bool
@@ -54,8 +60,8 @@ check_call sound known timely = or_else (if_not sound UnsoundState) (or_else (if
 -- A check finds each row exactly when it is given, and passes exactly when none is. `Given why p`: the row of this reason holds, with this
 -- place; `Good`: no row holds.
 pub record Decides (Given : Refusal → ℕ → Type 0) (Good : Type 0) (c : Check) : Type 0 where
-  pub refused : (why : Refusal) (p : ℕ) → (c ≡ Refused why p) ↔ Given why p
-  pub passed : (c ≡ Passed) ↔ Good
+  pub refused : (why : Refusal) (p : ℕ) → (c ≡ refused_with why p) ↔ Given why p
+  pub passed : (c ≡ Ok tt) ↔ Good
 
 -- one row alone
 abbrev pub Only : Refusal → ℕ → Type 0 → Refusal → ℕ → Type 0

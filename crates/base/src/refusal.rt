@@ -18,11 +18,11 @@ pub enum Refusal {
     WrongGroups,
 }
 
-// What a check finds: nothing wrong, or the first thing that is wrong and where.
+// The first thing that is wrong, and where: what a check fails with.
 #[derive(Clone, Copy)]
-pub enum Check {
-    Passed,
-    Refused { why: Refusal, place: u16 },
+pub struct Refused {
+    pub why: Refusal,
+    pub place: u16,
 }
 
 // The number of a row.

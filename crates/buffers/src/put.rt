@@ -7,7 +7,7 @@ ghost use Rattle.records.specs.Notes.{listed};
 
 use base::logic::both;
 use octets::write32;
-use records::notes::{Note, Notes};
+use records::notes::Notes;
 use rules::record::Record;
 
 const RECORD_SIZE: usize = 8;
@@ -81,13 +81,13 @@ pub fn put_notes(buf: &mut [u8], before: u32, n: Notes)
 }
 
 // The record of a timer or an input, where it wrote one, after so many; how many records stand in the buffer then.
-pub fn put_note(buf: &mut [u8], before: u32, x: Note) -> u32
+pub fn put_note(buf: &mut [u8], before: u32, x: Option<Record>) -> u32
     requires { (before ≤ 3 * most_inputs + 2) × (record_place (before + length (listed x)) ≤ length buf.old) }
     ensures { (result ≡ before + length (listed x)) × (buf.new ≡ splice buf.old (record_place before) (records_octets (listed x))) }
 {
     match x {
-        Note::Silent => before,
-        Note::Wrote(r) => {
+        None => before,
+        Some(r) => {
             put_record(buf, before, r);
             before + 1
         }

@@ -1,4 +1,6 @@
 -- What the code finds before it plays decides how far the change goes, and what is played then is the change.
+use Rattle.base.specs.Refusals.{refused_with}
+use Rattle.std.specs.Prelude.{Ok}
 use Prim.Native.Nat.{ℕ, ◌*◌, ◌≤◌, ◌<◌}
 use mathlib.Core.Bool.{true, false}
 use mathlib.Core.List.{List}
@@ -8,7 +10,6 @@ use native.Mathlib.Omega.{arith}
 use lib.ListN.{length}
 use Rattle.base.specs.declared.refusal.Refusal.{Refusal}
 use Rattle.base.specs.declared.refusal.Refusal.TheVariants.{UnsoundState}
-use Rattle.base.specs.declared.refusal.Check.TheVariants.{Passed, Refused}
 use Rattle.base.specs.Time.{last_stamp}
 use Rattle.rules.specs.declared.state.State.{State}
 use Rattle.rules.specs.Lists.{Cue, Played, plays}
@@ -46,11 +47,11 @@ module _ (s : State) (inputs r a : List ℕ) where
   not_sound e = rw e
 
   module _ (safe : sound s ≡ true) where
-    pub lent_badly : (why : Refusal) (place : ℕ) → check_lent inputs r a ≡ Refused why place → whole (handed_back s why place) r a ≡ change_call s inputs r a
+    pub lent_badly : (why : Refusal) (place : ℕ) → check_lent inputs r a ≡ refused_with why place → whole (handed_back s why place) r a ≡ change_call s inputs r a
     unfolding change_call change_by check_change
     lent_badly why place e = rw (safe, e)
 
-    pub lent_well : check_lent inputs r a ≡ Passed → check_change s inputs r a ≡ Passed
+    pub lent_well : check_lent inputs r a ≡ (Ok tt) → check_change s inputs r a ≡ Ok tt
     unfolding check_change
     lent_well e = rw (safe, e)
 
@@ -81,7 +82,7 @@ found_before s inputs = checked_as_read (cue_at inputs) (known_at false inputs) 
 
 -- ---- what is played
 
-module _ (s : State) (inputs r a : List ℕ) (passed : check_change s inputs r a ≡ Passed) (reach : Reach) (up : Upto s inputs reach) where
+module _ (s : State) (inputs r a : List ℕ) (passed : check_change s inputs r a ≡ Ok tt) (reach : Reach) (up : Upto s inputs reach) where
   -- the items are the cues that were read
   items_read_lem : read_inputs (item_in inputs) inputs reach.count 0 s.clock last_stamp ≡ cues (plain_items up.list)
   unfolding change_read

@@ -4,7 +4,7 @@ ghost use Rattle.rules.specs.Runs.{whole};
 ghost use Rattle.rules.specs.Changes.{handed_back, change_call};
 
 use crate::play::{check_lent, play_inputs};
-use base::refusal::{Check, Refusal, number_of};
+use base::refusal::{Refusal, Refused, number_of};
 use rules::call::Ran;
 use rules::state::State;
 use states::sound::is_sound;
@@ -29,8 +29,8 @@ pub fn change(s: State, inputs: &[u8], records: &mut [u8], answers: &mut [u8]) -
     if is_sound(s) {
         let met = check_lent(inputs, records, answers);
         match met {
-            Check::Refused { why, place } => refused(s, why, place),
-            Check::Passed => play_inputs(s, inputs, records, answers),
+            Err(Refused { why, place }) => refused(s, why, place),
+            Ok(()) => play_inputs(s, inputs, records, answers),
         }
     } else {
         refused(s, Refusal::UnsoundState, 0)

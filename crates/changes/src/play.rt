@@ -1,13 +1,12 @@
 // A change of a sound state.
 ghost use Rattle.std.specs.Prelude.{◌≡◌};
 ghost use Rattle.rules.specs.Runs.{whole};
-ghost use Rattle.base.specs.declared.refusal.Check.TheVariants.{Passed};
 ghost use Rattle.rules.specs.Changes.{groups_fit, check_lent, check_change, change_call};
 ghost use Rattle.changes.specs.Reaches.{reach_of};
 
 use base::logic::both;
 use base::moment::LAST_STAMP;
-use base::refusal::{Check, Refusal, number_of};
+use base::refusal::{Refusal, Refused, number_of};
 use buffers::put::is_roomy;
 use cues::check::check_inputs;
 use layout::INPUT_SIZE;
@@ -36,16 +35,16 @@ fn groups_fit(inputs: &[u8]) -> bool
 }
 
 // All n inputs, or those before the one that is refused.
-fn reach_of(met: Check, n: u32) -> Reach
+fn reach_of(met: Result<(), Refused>, n: u32) -> Reach
     ensures { result ≡ reach_of met n }
 {
     match met {
-        Check::Passed => Reach {
+        Ok(()) => Reach {
             count: n,
             code: 0,
             place: 0,
         },
-        Check::Refused { why, place } => Reach {
+        Err(Refused { why, place }) => Reach {
             count: place as u32,
             code: number_of(why),
             place,
@@ -54,31 +53,31 @@ fn reach_of(met: Check, n: u32) -> Reach
 }
 
 // What is lent: 12, then 8.
-pub fn check_lent(inputs: &[u8], records: &[u8], answers: &[u8]) -> Check
+pub fn check_lent(inputs: &[u8], records: &[u8], answers: &[u8]) -> Result<(), Refused>
     ensures { result ≡ check_lent inputs.now records.now answers.now }
 {
     if groups_fit(inputs) {
         let n = (inputs.len() / INPUT_SIZE) as u32;
         if is_roomy(n, records.len(), answers.len()) {
-            Check::Passed
+            Ok(())
         } else {
-            Check::Refused {
+            Err(Refused {
                 why: Refusal::ShortBuffer,
                 place: 0,
-            }
+            })
         }
     } else {
-        Check::Refused {
+        Err(Refused {
             why: Refusal::WrongGroups,
             place: 0,
-        }
+        })
     }
 }
 
 // As far as the inputs go, where neither 9 nor 12 nor 8 is given. An input is refused by its octets and by the stamp before it alone, so that the
 // first one that is can be found before any is played.
 pub fn play_inputs(s: State, inputs: &[u8], records: &mut [u8], answers: &mut [u8]) -> Ran
-    requires { check_change s inputs.now records.old answers.old ≡ Passed }
+    requires { check_change s inputs.now records.old answers.old ≡ (Ok tt) }
     ensures { whole result records.new answers.new ≡ change_call s inputs.now records.old answers.old }
 {
     let n = (inputs.len() / INPUT_SIZE) as u32;

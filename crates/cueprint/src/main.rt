@@ -11,7 +11,7 @@ mod play;
 mod read;
 
 use anyhow::Context;
-use base::refusal::{Check, number_of};
+use base::refusal::{Refused, number_of};
 use cues::check::check_file;
 use sensor::call::fresh_sensor;
 use sensor::state::own_sensor;
@@ -24,8 +24,8 @@ use wallfile::{actions_in, check_wall, file_in};
 fn print_file<W: Write>(out: &mut W, file: &[u8], phases: bool) -> io::Result<()> {
     let check = check_file(file);
     match check {
-        Check::Passed => play::play_file(out, file, own_sensor(), phases),
-        Check::Refused { why, place } => lines::print_refused(out, number_of(why), place),
+        Ok(()) => play::play_file(out, file, own_sensor(), phases),
+        Err(Refused { why, place }) => lines::print_refused(out, number_of(why), place),
     }
 }
 
@@ -33,12 +33,12 @@ fn print_file<W: Write>(out: &mut W, file: &[u8], phases: bool) -> io::Result<()
 fn print_wall<W: Write>(out: &mut W, wall: &[u8], phases: bool) -> io::Result<()> {
     let check = check_wall(wall);
     match check {
-        Check::Passed => {
+        Ok(()) => {
             let f = fresh_sensor(actions_in(wall));
             let z = f.sensor;
             play::play_file(out, file_in(wall), z, phases)
         }
-        Check::Refused { why, place } => lines::print_refused(out, number_of(why), place),
+        Err(Refused { why, place }) => lines::print_refused(out, number_of(why), place),
     }
 }
 

@@ -1,18 +1,16 @@
 -- One input of a list at a time: what the check's loop needs, and that it finds what reading the list finds.
+use Rattle.rules.specs.declared.input.Input.{Input}
+use Rattle.std.specs.Prelude.{Some, None, Ok, Option}
 use Prim.Native.Nat.{ℕ, zero, suc, ◌+◌, ◌-◌, ◌≤◌, ◌<◌}
 use mathlib.Core.Bool.{Bool, true, false, cond, ◌&&◌, ◌||◌}
 use mathlib.Core.List.{List}
-use mathlib.Core.Option.{Option, some, none}
 use mathlib.Core.Path.{◌≡◌, refl, sym, ap, ◌∙◌}
 use native.Mathlib.Omega.{arith}
 use lib.Dec.{leb}
 use Rattle.octets.specs.Groups.{stamp_at}
-use Rattle.rules.specs.declared.input.Decoded.{Decoded}
-use Rattle.rules.specs.declared.input.Decoded.TheVariants.{Meant, Wrong}
 use Rattle.base.specs.declared.refusal.Refusal.{Refusal}
 use Rattle.base.specs.declared.refusal.Refusal.TheVariants.{BadStamp}
-use Rattle.base.specs.declared.refusal.Check.TheVariants.{Passed, Refused}
-use Rattle.base.specs.Refusals.{or_else}
+use Rattle.base.specs.Refusals.{or_else, refused_with}
 use Rattle.rules.specs.Inputs.{input_at}
 use Rattle.rules.specs.Layout.{input_place}
 use Rattle.rules.specs.Readings.{Reading, cues, bad, verdict, before, read_one, read_inputs}
@@ -25,16 +23,16 @@ use Rattle.cues.specs.Checks.{check_one, check_inputs, is_edge, is_known, known_
 
 -- whether an input says anything
 abbrev pub says : {A : Type 0} → Option A → Bool
-says (some x) = true
-says none = false
+says (Some x) = true
+says None = false
 
 -- an input decides by itself, or leaves it to those after it
 one_decides : {A : Type 0} (said : Option A) (stamp last end i : ℕ) (later : Reading A) → verdict (read_one said stamp last end i later) ≡ or_else (check_one (says said) stamp last end i) (verdict later)
 unfolding check_one read_one
-one_decides none stamp last end i later = refl
-one_decides (some x) stamp last end i later = by (leb last stamp && leb stamp end) later
+one_decides None stamp last end i later = refl
+one_decides (Some x) stamp last end i later = by (leb last stamp && leb stamp end) later
   where
-    by : (b : Bool) (later : Reading _) → verdict (cond b (before x later) (bad BadStamp i)) ≡ or_else (cond b Passed (Refused BadStamp i)) (verdict later)
+    by : (b : Bool) (later : Reading _) → verdict (cond b (before x later) (bad BadStamp i)) ≡ or_else (cond b (Ok tt) (refused_with BadStamp i)) (verdict later)
     by true (cues list) = refl
     by true (bad why place) = refl
     by false later = refl
@@ -54,13 +52,13 @@ pub known_says : (inputs : List ℕ) (i : ℕ) → known_at false inputs i ≡ s
 unfolding is_known cue_at
 known_says inputs i = by (input_at inputs (input_place i))
   where
-    by : (d : Decoded) → (is_meant d || (false && is_edge (signal_at inputs (input_place i)))) ≡ says (stamped (stamp_at inputs (input_place i)) d)
-    by (Meant x) = refl
-    by Wrong = refl
+    by : (d : Option Input) → (is_meant d || (false && is_edge (signal_at inputs (input_place i)))) ≡ says (stamped (stamp_at inputs (input_place i)) d)
+    by (Some x) = refl
+    by None = refl
 
 -- ---- the loop
 
-pub none_left : (known : ℕ → Bool) (inputs : List ℕ) (n i last end : ℕ) → n ≤ i → check_inputs known inputs (n - i) i last end ≡ Passed
+pub none_left : (known : ℕ → Bool) (inputs : List ℕ) (n i last end : ℕ) → n ≤ i → check_inputs known inputs (n - i) i last end ≡ Ok tt
 unfolding check_inputs
 none_left known inputs n i last end h = let e : n - i ≡ 0 = omega arith in rw e
 
@@ -69,8 +67,8 @@ module _ (known : ℕ → Bool) (inputs : List ℕ) (n i last end : ℕ) (more :
   unfolding check_inputs
   one_left = let e : n - i ≡ suc (n - (i + 1)) = omega arith in rw e
 
-  pub good_goes_on : check_one (known i) (stamp_at inputs (input_place i)) last end i ≡ Passed → check_inputs known inputs (n - i) i last end ≡ check_inputs known inputs (n - (i + 1)) (i + 1) (stamp_at inputs (input_place i)) end
+  pub good_goes_on : check_one (known i) (stamp_at inputs (input_place i)) last end i ≡ (Ok tt) → check_inputs known inputs (n - i) i last end ≡ check_inputs known inputs (n - (i + 1)) (i + 1) (stamp_at inputs (input_place i)) end
   good_goes_on h = simp h at one_left
 
-  pub bad_ends : (why : Refusal) (place : ℕ) → check_one (known i) (stamp_at inputs (input_place i)) last end i ≡ Refused why place → check_inputs known inputs (n - i) i last end ≡ Refused why place
+  pub bad_ends : (why : Refusal) (place : ℕ) → check_one (known i) (stamp_at inputs (input_place i)) last end i ≡ refused_with why place → check_inputs known inputs (n - i) i last end ≡ refused_with why place
   bad_ends why place h = simp h at one_left

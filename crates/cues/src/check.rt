@@ -1,6 +1,6 @@
 // The check of a whole file: the first thing that is wrong, in the order of the refusal numbers.
+ghost use Rattle.base.specs.Refusals.{refused_with};
 ghost use Rattle.std.specs.Prelude.{◌≡◌, ◌+◌, ◌≤◌, length};
-ghost use Rattle.base.specs.declared.refusal.Check.TheVariants.{Refused};
 ghost use Rattle.rules.specs.Parameters.{check_parameters};
 ghost use Rattle.rules.specs.Forms.{form_in};
 ghost use Rattle.rules.specs.Layout.{least_file, inputs_at, input_size, most_inputs, input_place};
@@ -11,16 +11,16 @@ ghost use Rattle.cues.specs.Checks.{check_one, check_inputs, is_edge, is_known, 
 
 use crate::header::{actuators_of, end_time, form_in, input_count, layout_is_right, version_of};
 use base::logic::both;
-use base::refusal::{Check, Refusal};
+use base::refusal::{Refusal, Refused};
 use inputs::is_input_at;
 use layout::{LEAST_FILE, input_place, inputs_at, inputs_in, is_version, parameters_in};
 use octets::group::stamp_at;
 use parameters::read::check_parameters;
 use rules::form::Form;
-use sensor::signal::{Signal, Signalled, signal_at};
+use sensor::signal::{Signal, signal_at};
 
 // The parameters of a file.
-fn check_parameters_in(file: &[u8], form: Form) -> Check
+fn check_parameters_in(file: &[u8], form: Form) -> Result<(), Refused>
     requires { (form ≡ form_in file.now) × (inputs_at form ≤ length file.now) }
     ensures { result ≡ check_parameters (form_in file.now) (parameters_in file.now) }
 {
@@ -28,7 +28,7 @@ fn check_parameters_in(file: &[u8], form: Form) -> Check
 }
 
 // Input i alone, known to mean something or not: 6 before 7.
-fn check_one(known: bool, stamp: u32, last: u32, end: u32, i: u32) -> Check
+fn check_one(known: bool, stamp: u32, last: u32, end: u32, i: u32) -> Result<(), Refused>
     requires { i ≤ most_inputs }
     ensures { result ≡ check_one known stamp last end i }
 {
@@ -36,31 +36,31 @@ fn check_one(known: bool, stamp: u32, last: u32, end: u32, i: u32) -> Check
         let risen = last <= stamp;
         let timely = stamp <= end;
         if both(risen, timely) {
-            Check::Passed
+            Ok(())
         } else {
-            Check::Refused {
+            Err(Refused {
                 why: Refusal::BadStamp,
                 place: i as u16,
-            }
+            })
         }
     } else {
-        Check::Refused {
+        Err(Refused {
             why: Refusal::BadInput,
             place: i as u16,
-        }
+        })
     }
 }
 
-fn is_edge(s: Signalled) -> bool
+fn is_edge(s: Option<Signal>) -> bool
     ensures { result ≡ is_edge s }
 {
     match s {
-        Signalled::Meant(signal) => match signal {
+        Some(signal) => match signal {
             Signal::Button1(_) => true,
             Signal::Button2(_) => true,
             Signal::Status(_) => false,
         },
-        Signalled::Wrong => false,
+        None => false,
     }
 }
 
@@ -81,7 +81,7 @@ fn is_known_at(inputs: &[u8], at: usize, edges: bool) -> bool
 
 // The first bad input of n, in a list that takes edges too or does not: none is stamped before the one before it, the first not before
 // `from`, and none after `end`.
-pub fn check_inputs(inputs: &[u8], n: u32, from: u32, end: u32, edges: bool) -> Check
+pub fn check_inputs(inputs: &[u8], n: u32, from: u32, end: u32, edges: bool) -> Result<(), Refused>
     requires { (n ≤ most_inputs) × (input_place n ≤ length inputs.now) }
     ensures { result ≡ check_inputs (known_at edges inputs.now) inputs.now n 0 from end }
 {
@@ -92,20 +92,20 @@ pub fn check_inputs(inputs: &[u8], n: u32, from: u32, end: u32, edges: bool) -> 
         let stamp = stamp_at(inputs, at);
         let one = check_one(is_known_at(inputs, at, edges), stamp, last, end, i);
         match one {
-            Check::Passed => {
+            Ok(()) => {
                 last = stamp;
                 i += 1;
             }
-            Check::Refused { why, place } => {
-                return Check::Refused { why, place };
+            Err(Refused { why, place }) => {
+                return Err(Refused { why, place });
             }
         }
     }
-    Check::Passed
+    Ok(())
 }
 
 // The inputs of a file whose start is good, as a list that takes edges too or does not.
-pub fn check_inputs_in(file: &[u8], edges: bool) -> Check
+pub fn check_inputs_in(file: &[u8], edges: bool) -> Result<(), Refused>
     requires { GoodStart file.now }
     ensures { result ≡ check_inputs (known_at edges (inputs_in file.now)) (inputs_in file.now) (input_count file.now) 0 0 (end_time file.now) }
 {
@@ -114,14 +114,14 @@ pub fn check_inputs_in(file: &[u8], edges: bool) -> Check
 }
 
 // A row of the table whose place is 0.
-fn refused(why: Refusal) -> Check
-    ensures { result ≡ Refused why 0 }
+fn refused(why: Refusal) -> Result<(), Refused>
+    ensures { result ≡ refused_with why 0 }
 {
-    Check::Refused { why, place: 0 }
+    Err(Refused { why, place: 0 })
 }
 
 // What stands before the inputs of a file of this row, from its length on.
-fn check_rest(file: &[u8], form: Form) -> Check
+fn check_rest(file: &[u8], form: Form) -> Result<(), Refused>
     requires { (form ≡ form_in file.now) × (least_file ≤ length file.now) }
     ensures { result ≡ check_rest file.now }
 {
@@ -139,7 +139,7 @@ fn check_rest(file: &[u8], form: Form) -> Check
 }
 
 // What stands before the inputs: the header, then the parameters.
-pub fn check_start(file: &[u8]) -> Check
+pub fn check_start(file: &[u8]) -> Result<(), Refused>
     ensures { result ≡ check_start file.now }
 {
     if LEAST_FILE <= file.len() {
@@ -154,12 +154,12 @@ pub fn check_start(file: &[u8]) -> Check
 }
 
 // A whole file: accepted, or refused for the first row of the table that holds.
-pub fn check_file(file: &[u8]) -> Check
+pub fn check_file(file: &[u8]) -> Result<(), Refused>
     ensures { result ≡ verdict (read_file file.now) }
 {
     let start = check_start(file);
     match start {
-        Check::Passed => check_inputs_in(file, false),
-        Check::Refused { why, place } => Check::Refused { why, place },
+        Ok(()) => check_inputs_in(file, false),
+        Err(Refused { why, place }) => Err(Refused { why, place }),
     }
 }

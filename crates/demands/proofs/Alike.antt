@@ -1,4 +1,5 @@
 -- No rule looks at the version: over any parameters and any list the same answers, records and telegrams, and the same end state but for its version.
+use Rattle.std.specs.Prelude.{Option, Some, None}
 use Prim.Native.Nat.{ℕ}
 use mathlib.Core.Bool.{Bool, true, false, cond, ◌||◌}
 use mathlib.Core.List.{List, [], ◌∷◌}
@@ -6,12 +7,8 @@ use mathlib.Core.Path.{◌≡◌, refl, sym, ap, ◌∙◌, subst}
 use lib.Dec.{eqb, leb}
 use Rattle.rules.specs.declared.parameters.Params.{Params}
 use Rattle.rules.specs.declared.parameters.Scene.{Scene}
-use Rattle.rules.specs.declared.parameters.Recalled.{Recalled}
-use Rattle.rules.specs.declared.parameters.Recalled.TheVariants.{Nothing, Output}
 use Rattle.rules.specs.declared.phase.Phase.{Phase}
 use Rattle.rules.specs.declared.phase.Phase.TheVariants.{Dark, Lit, Starting, Timed, Warning, Ending}
-use Rattle.rules.specs.declared.phase.Deadline.{Deadline}
-use Rattle.rules.specs.declared.phase.Deadline.TheVariants.{Never, At}
 use Rattle.rules.specs.declared.input.Force.{Force}
 use Rattle.rules.specs.declared.input.Force.TheVariants.{Free, Off, On}
 use Rattle.rules.specs.declared.input.Event.{Event}
@@ -37,8 +34,6 @@ use Rattle.rules.proofs.Laws.Orders.{noted_both}
 use Rattle.sensor.specs.declared.signal.Signal.{Signal}
 use Rattle.sensor.specs.declared.signal.Signal.TheVariants as signal
 use Rattle.sensor.specs.declared.state.Sensor.{Sensor}
-use Rattle.sensor.specs.declared.react.Telegram.{Telegram}
-use Rattle.sensor.specs.declared.react.Telegram.TheVariants.{Silent, Switch}
 use Rattle.sensor.specs.Reactions.{react}
 use Rattle.sensor.specs.Sensors.{fresh_sensor}
 use Rattle.pairs.specs.declared.item.Item.{Item}
@@ -105,10 +100,10 @@ module _ (v : ℕ) where
   alike_timed s true = ap (with_phase (like s)) (alike_start s.params s.clock s.phase)
   alike_timed s false = ap (with_phase (like s)) (alike_stop s.params s.clock s.phase)
 
-  alike_recall : (s : State) (r : Recalled) → recall (like s) r ≡ like (recall s r)
+  alike_recall : (s : State) (r : Option Bool) → recall (like s) r ≡ like (recall s r)
   unfolding recall
-  alike_recall s Nothing = refl
-  alike_recall s (Output value) = alike_switch s value
+  alike_recall s None = refl
+  alike_recall s (Some value) = alike_switch s value
 
   alike_scene : (s : State) (learns : Bool) (number : ℕ) → scene (like s) learns number ≡ like (scene s learns number)
   unfolding scene learn
@@ -178,9 +173,9 @@ module _ (v : ℕ) where
   unfolding tick tick_at
   alike_tick s t = by (deadline s.phase)
     where
-      by : (d : Deadline) → tick_at (like s) t d ≡ like (tick_at s t d)
-      by Never = refl
-      by (At d) = rw (alike_deadline s.params s.night s.phase) (alike_either (leb d t) _ s)
+      by : (d : Option ℕ) → tick_at (like s) t d ≡ like (tick_at s t d)
+      by None = refl
+      by (Some d) = rw (alike_deadline s.params s.night s.phase) (alike_either (leb d t) _ s)
 
   alike_written : (cause : ℕ) (a b : State) → written cause (like a) (like b) ≡ written cause a b
   unfolding written same_status value attributes record_of
@@ -238,10 +233,10 @@ module _ (v : ℕ) where
     records : new.records ≡ old.records
     telegram : new.telegram ≡ old.telegram
 
-  alike_tell : (r : Telegram) (m n : PairMoved) (z : Sensor) → PairMovesAlike m n → ItemsAlike (tell r m z) (tell r n z)
+  alike_tell : (r : Option Bool) (m n : PairMoved) (z : Sensor) → PairMovesAlike m n → ItemsAlike (tell r m z) (tell r n z)
   unfolding tell
-  alike_tell Silent m n z e = record { pair = rw e.0; answer = refl; records = e.1; telegram = refl }
-  alike_tell (Switch value) m n z e =
+  alike_tell None m n z e = record { pair = rw e.0; answer = refl; records = e.1; telegram = refl }
+  alike_tell (Some value) m n z e =
       let d = alike_act m.pair.actuator (SwitchOnOff value) in
       rw e.0 (record { pair = rw (d.0, d.2); answer = d.1; records = rw (e.1, d.2); telegram = refl })
 

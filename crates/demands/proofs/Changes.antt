@@ -1,9 +1,9 @@
 -- A whole scene change: cut in two anywhere it is the two changes one after the other, and a refused input leaves no trace.
+use Rattle.std.specs.Prelude.{Option, None}
 use Prim.Native.Nat.{ℕ, zero, suc, ◌+◌, ◌*◌, ◌-◌, ◌%◌, ◌≤◌, ◌<◌}
 use mathlib.Core.Bool.{Bool, true, false, cond}
 use mathlib.Core.List.{List, [], ◌∷◌, ◌++◌, append_assoc, append-nil}
 use mathlib.Core.Logic.{inl, inr}
-use mathlib.Core.Option.{Option}
 use mathlib.Core.Path.{◌≡◌, refl, sym, ap, ◌∙◌}
 use native.Mathlib.Omega.{arith}
 use lib.ListN.{length, take, drop, length-append, length-drop, length-take, take-append-drop, replicate}
@@ -467,7 +467,7 @@ module _ (s : State) (inputs r a : List ℕ) (safe : sound s ≡ true) (good : G
 read_clock : (inputs : List ℕ) (left i from : ℕ) (s : State) (list : List Cue) → s.clock ≡ stamp_before inputs from i → read_inputs (cue_at inputs) inputs left i s.clock last_stamp ≡ cues list →
     (plays list s).state.clock ≡ stamp_before inputs from (i + left)
 unfolding plays
-read_clock inputs zero i from s list here read = let none : list ≡ [] = unfold read_inputs in cc in let e : i + 0 ≡ i = omega arith in rw (none, e) here
+read_clock inputs zero i from s list here read = let None : list ≡ [] = unfold read_inputs in cc in let e : i + 0 ≡ i = omega arith in rw (None, e) here
 read_clock inputs (suc left) i from s list here read =
     let f = first_cue_lem inputs left i s.clock last_stamp list read in
     let u : ℕ = stamp_at inputs (input_place i) in

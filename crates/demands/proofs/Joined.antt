@@ -1,4 +1,5 @@
 -- The run is the public calls, joined in order: single inputs, or changes.
+use Rattle.std.specs.Prelude.{Ok}
 use Prim.Native.Nat.{ℕ, ◌≤◌}
 use mathlib.Core.Bool.{true}
 use mathlib.Core.List.{List, [], ◌∷◌}
@@ -8,7 +9,6 @@ use Rattle.rules.specs.declared.state.State.{State}
 use Rattle.rules.specs.declared.call.Fresh.{Fresh}
 use Rattle.base.specs.Time.{last_stamp}
 use Rattle.rules.specs.Parameters.{check_alone}
-use Rattle.base.specs.declared.refusal.Check.TheVariants.{Passed}
 use Rattle.rules.specs.Steps.{fresh, clock_move}
 use Rattle.rules.specs.Soundness.{sound}
 use Rattle.rules.specs.Status.{record_of, by_itself}
@@ -62,7 +62,7 @@ pub fresh_played : (file : List ℕ) → GoodStart file → fresh_call (paramete
 unfolding fresh_call fresh_by
 fresh_played file start =
     let told = told_in_a_file file start.header.enough.long in
-    let passed : check_alone (parameters_in file) ≡ Passed = unfold check_alone in rw told start.passed in
+    let passed : check_alone (parameters_in file) ≡ (Ok tt) = unfold check_alone in rw told start.passed in
     rw (passed, told)
 
 pub start_is_fresh : (file : List ℕ) → GoodStart file → start_of file ≡ fresh (params_in file) (scenes_in file)

@@ -1,4 +1,5 @@
 -- The live calls from C: refused exactly when the table says, answered whatever is lent, and what they leave is an image again.
+use Rattle.std.specs.Prelude.{Ok, Err}
 use Prim.Native.Nat.{ℕ, ◌+◌, ◌%◌, ◌≤◌, ◌<◌}
 use mathlib.Core.Bool.{Bool, true, false, cond}
 use mathlib.Core.List.{List, [], ◌∷◌, ◌++◌}
@@ -10,9 +11,7 @@ use lib.Dec.{eqb, leb}
 use borrow.Author.Tests.{eqb-true, eq-eqb, leb-true, le-leb}
 use Rattle.base.specs.declared.refusal.Refusal.{Refusal}
 use Rattle.base.specs.declared.refusal.Refusal.TheVariants.{WrongLength, BadParameter, BadStamp, ShortBuffer, UnsoundState}
-use Rattle.base.specs.declared.refusal.Check.{Check}
-use Rattle.base.specs.declared.refusal.Check.TheVariants.{Passed, Refused}
-use Rattle.base.specs.Refusals.{number, code_of, place_of, stamp_in_range, if_not, or_else, Only, Then, Decides, Codes, Timely}
+use Rattle.base.specs.Refusals.{number, code_of, place_of, stamp_in_range, if_not, or_else, Only, Then, Decides, Codes, Timely, Check, refused_with}
 use Rattle.base.proofs.Tests.{no}
 use Rattle.base.proofs.Codes.{some_number, codes_of_a_check, one_test_decides, then_decides, timely_exactly_when}
 use Rattle.rules.specs.Layout.{form_alone, input_place, record_place}
@@ -66,7 +65,7 @@ by_its_check : {Given : Refusal → ℕ → Type 0} {Good : Type 0} (c : Check) 
 by_its_check c count n decides same narrow few = let t = taken (code_of c) (place_of c) count narrow few in rw (same, t.0, t.1) (codes_of_a_check c decides)
 
 -- and where its code is 0, its check has passed
-has_passed : {Given : Refusal → ℕ → Type 0} {Good : Type 0} {c : Check} (n : ℕ) → NumberCodes Given Good n → Decides Given Good c → code_in n ≡ 0 → c ≡ Passed
+has_passed : {Given : Refusal → ℕ → Type 0} {Good : Type 0} {c : Check} (n : ℕ) → NumberCodes Given Good n → Decides Given Good c → code_in n ≡ 0 → c ≡ Ok tt
 has_passed n codes decides good = decides.passed.1 ((codes.accepted (place_in n)).0 (good, refl)).1
 
 -- ---- scene tables have eight entries
@@ -76,8 +75,8 @@ unfolding fresh_call
 fresh_scenes_are_eight parameters = by (check_alone parameters)
   where
     by : (c : Check) → length (fresh_by parameters c).state.scenes ≡ 8
-    by Passed = unfold fresh_by fresh scenes_of in refl
-    by (Refused why place) = unfold fresh_by own_state fresh no_scenes in refl
+    by (Ok _) = unfold fresh_by fresh scenes_of in refl
+    by (Err fault) = unfold fresh_by own_state fresh no_scenes in refl
 
 move_keeps_scenes : (s : State) (stamp : ℕ) → length (move_call s stamp).state.scenes ≡ length s.scenes
 move_keeps_scenes s stamp = by (move_finds s stamp)
@@ -97,7 +96,7 @@ module _ (parameters state : List ℕ) where
   unfolding check_fresh check_alone
   fresh_decides =
       then_decides _ _
-      (record { refused = λ why p. lowest_bad_octet (form_alone parameters) parameters (Refused why p); passed = lowest_bad_octet (form_alone parameters) parameters Passed })
+      (record { refused = λ why p. lowest_bad_octet (form_alone parameters) parameters (refused_with why p); passed = lowest_bad_octet (form_alone parameters) parameters (Ok tt) })
       (one_test_decides (length state ≡ 56) (eqb (length state) 56) ShortBuffer 0 (long_exactly_when state))
 
   fresh_number : (house_fresh parameters state).number ≡ packing (code_of (check_fresh parameters state)) (place_of (check_fresh parameters state)) 0
@@ -105,15 +104,15 @@ module _ (parameters state : List ℕ) where
   fresh_number = by (check_fresh parameters state)
     where
       by : (c : Check) → (fresh_imaged c parameters state).number ≡ packing (code_of c) (place_of c) 0
-      by Passed = unfold fresh_imaged in refl
-      by (Refused why place) = unfold fresh_imaged in refl
+      by (Ok _) = unfold fresh_imaged in refl
+      by (Err fault) = unfold fresh_imaged in refl
 
   -- 1 and 5 have the place of an octet at most
   fresh_rows : (why : Refusal) (p : ℕ) → HouseFreshWhen parameters state why p → (p < 65_536) × Among (number why) (0 ∷ 1 ∷ 5 ∷ 8 ∷ [])
   fresh_rows why p (inr g) = (omega (arith, g.1.1), rw g.1.0 (inr (inr (inr (inl refl)))))
   fresh_rows why p (inl g) = found why g
     where
-      found : (why : Refusal) → FoundWhen (form_alone parameters) parameters (Refused why p) → (p < 65_536) × Among (number why) (0 ∷ 1 ∷ 5 ∷ 8 ∷ [])
+      found : (why : Refusal) → FoundWhen (form_alone parameters) parameters (refused_with why p) → (p < 65_536) × Among (number why) (0 ∷ 1 ∷ 5 ∷ 8 ∷ [])
       found WrongLength h = (omega (arith, h.0), inr (inl refl))
       found BadParameter h = (omega (arith, h.within, (few_octets (form_alone parameters).scale).1), inr (inr (inl refl)))
       found _ h = elim h [ ]
@@ -122,8 +121,8 @@ module _ (parameters state : List ℕ) where
   fresh_narrow = by (check_fresh parameters state) refl
     where
       by : (c : Check) → check_fresh parameters state ≡ c → place_of c < 65_536
-      by Passed e = omega arith
-      by (Refused why place) e = (fresh_rows why place ((fresh_decides.refused why place).0 e)).0
+      by (Ok _) e = omega arith
+      by (Err fault) e = (fresh_rows fault.why fault.place ((fresh_decides.refused fault.why fault.place).0 e)).0
 
   pub house_fresh_refused_exactly_when : HouseFreshCodes parameters state (house_fresh parameters state).number
   house_fresh_refused_exactly_when = by_its_check (check_fresh parameters state) 0 (house_fresh parameters state).number fresh_decides fresh_number fresh_narrow (omega arith)
@@ -137,18 +136,18 @@ module _ (parameters state : List ℕ) where
   house_fresh_is_answered = by (check_fresh parameters state) refl
     where
       by : (c : Check) → check_fresh parameters state ≡ c → FreshAnswered parameters state (house_fresh parameters state)
-      by Passed e =
-          rw (fresh_as_checked Passed e)
+      by (Ok _) e =
+          rw (fresh_as_checked (Ok tt) e)
           (unfold fresh_imaged in record { numbered = inl (taken_0 0).0; counted = (taken_0 0).2; refused = λ f. absurd (f (taken_0 0).0); accepted = λ z. image_is_read_back (fresh_call parameters).state (fresh_scenes_are_eight parameters); within = image_length (fresh_call parameters).state (fresh_scenes_are_eight parameters) ∙ sym (fresh_decides.passed.0 e).1 })
-      by (Refused why place) e =
-          let t = taken (number why) place 0 (rw e at fresh_narrow) (omega arith) in
-          rw (fresh_as_checked (Refused why place) e)
-          (unfold fresh_imaged in record { numbered = rw t.0 (fresh_rows why place ((fresh_decides.refused why place).0 e)).1; counted = t.2; refused = λ f. refl; accepted = λ z. absurd (omega (arith, z, t.0, some_number why)); within = refl })
+      by (Err fault) e =
+          let t = taken (number fault.why) fault.place 0 (rw e at fresh_narrow) (omega arith) in
+          rw (fresh_as_checked (Err fault) e)
+          (unfold fresh_imaged in record { numbered = rw t.0 (fresh_rows fault.why fault.place ((fresh_decides.refused fault.why fault.place).0 e)).1; counted = t.2; refused = λ f. refl; accepted = λ z. absurd (omega (arith, z, t.0, some_number fault.why)); within = refl })
 
   -- an accepted one leaves an image, to be played on from
   pub a_fresh_state_is_an_image : code_in (house_fresh parameters state).number ≡ 0 → is_image (house_fresh parameters state).state ≡ true
   a_fresh_state_is_an_image good =
-      rw (fresh_as_checked Passed (has_passed (house_fresh parameters state).number house_fresh_refused_exactly_when fresh_decides good))
+      rw (fresh_as_checked (Ok tt) (has_passed (house_fresh parameters state).number house_fresh_refused_exactly_when fresh_decides good))
       (unfold fresh_imaged in image_is_accepted (fresh_call parameters).state (fresh_scenes_are_eight parameters) (fresh_call_is_sound parameters))
 
 -- ---- house_move
@@ -180,7 +179,7 @@ module _ (state : List ℕ) (stamp : ℕ) (records : List ℕ) where
   move_as_checked c e = rw e refl
 
   -- a move that is made writes at most two records
-  made : check_move state stamp records ≡ Passed → let m : Move = move_call (state_in state) stamp in (m.code ≡ 0) × (m.place ≡ 0) × (m.count ≤ 2)
+  made : check_move state stamp records ≡ (Ok tt) → let m : Move = move_call (state_in state) stamp in (m.code ≡ 0) × (m.place ≡ 0) × (m.count ≤ 2)
   unfolding move_done
   made e =
       let good = move_decides.passed.0 e in
@@ -190,8 +189,8 @@ module _ (state : List ℕ) (stamp : ℕ) (records : List ℕ) where
   move_number = by (check_move state stamp records) refl
     where
       by : (c : Check) → check_move state stamp records ≡ c → (n : ℕ) × (n ≤ 2) × ((house_move state stamp records).number ≡ packing (code_of c) (place_of c) n)
-      by (Refused why place) e = (0, omega arith, rw (move_as_checked (Refused why place) e) (unfold move_by in refl))
-      by Passed e = let m = made e in ((move_call (state_in state) stamp).count, m.2, rw (move_as_checked Passed e) (unfold move_by move_imaged in rw (m.0, m.1) refl))
+      by (Err fault) e = (0, omega arith, rw (move_as_checked (Err fault) e) (unfold move_by in refl))
+      by (Ok _) e = let m = made e in ((move_call (state_in state) stamp).count, m.2, rw (move_as_checked (Ok tt) e) (unfold move_by move_imaged in rw (m.0, m.1) refl))
 
   pub house_move_refused_exactly_when : HouseMoveCodes state stamp records (house_move state stamp records).number
   house_move_refused_exactly_when =
@@ -204,11 +203,11 @@ module _ (state : List ℕ) (stamp : ℕ) (records : List ℕ) where
   house_move_is_answered = by (check_move state stamp records) refl
     where
       by : (c : Check) → check_move state stamp records ≡ c → MoveAnswered state stamp records (house_move state stamp records)
-      by (Refused why place) e =
-          let t = taken (number why) place 0 (omega (arith, rw e at move_rows.0)) (omega arith) in
-          rw (move_as_checked (Refused why place) e)
-          (record { numbered = rw t.0 (rw e at move_rows.1); refused = λ f. (t.2, refl, refl); accepted = λ z. absurd (omega (arith, z, t.0, some_number why)); within = (refl, refl) })
-      by Passed e =
+      by (Err fault) e =
+          let t = taken (number fault.why) fault.place 0 (omega (arith, rw e at move_rows.0)) (omega arith) in
+          rw (move_as_checked (Err fault) e)
+          (record { numbered = rw t.0 (rw e at move_rows.1); refused = λ f. (t.2, refl, refl); accepted = λ z. absurd (omega (arith, z, t.0, some_number fault.why)); within = (refl, refl) })
+      by (Ok _) e =
           let good = move_decides.passed.0 e in
           let m : Move = move_call (state_in state) stamp in
           let few = made e in
@@ -216,7 +215,7 @@ module _ (state : List ℕ) (stamp : ℕ) (records : List ℕ) where
           let code = t.0 ∙ few.0 in
           let eight = move_keeps_scenes (state_in state) stamp ∙ read_scenes_are_eight state in
           let fits : length (records_octets (take m.count m.records)) ≤ length records = omega (arith, records_length (take m.count m.records), length-take m.count m.records, few.2, good.1.1) in
-          rw (move_as_checked Passed e)
+          rw (move_as_checked (Ok tt) e)
           (record { numbered = inl code; refused = λ f. absurd (f code); accepted = λ z. record { state = image_is_read_back m.state eight; count = t.2; records = refl }; within = (image_length m.state eight ∙ sym (accepted_is_long state good.0), over_length (records_octets (take m.count m.records)) records fits) })
 
   -- an accepted one leaves an image, to be played on from
@@ -224,7 +223,7 @@ module _ (state : List ℕ) (stamp : ℕ) (records : List ℕ) where
   a_moved_state_is_an_image code =
       let passed = has_passed (house_move state stamp records).number house_move_refused_exactly_when move_decides code in
       let safe = accepted_is_sound state (move_decides.passed.0 passed).0 in
-      rw (move_as_checked Passed passed)
+      rw (move_as_checked (Ok tt) passed)
       (unfold move_by move_imaged in image_is_accepted (move_call (state_in state) stamp).state (move_keeps_scenes (state_in state) stamp ∙ read_scenes_are_eight state) (move_call_keeps_sound (state_in state) stamp safe))
 
 -- ---- house_run_to
@@ -253,11 +252,11 @@ module _ (file state records answers : List ℕ) where
   run_to_narrow = by (check_run_to file state records answers) refl
     where
       by : (c : Check) → check_run_to file state records answers ≡ c → place_of c < 65_536
-      by Passed e = omega arith
-      by (Refused why place) e = given ((run_to_decides.refused why place).0 e)
+      by (Ok _) e = omega arith
+      by (Err fault) e = given ((run_to_decides.refused fault.why fault.place).0 e)
         where
-          given : HouseRunToWhen file state records answers why place → place < 65_536
-          given (inl (inl g)) = narrow_place file why place g
+          given : HouseRunToWhen file state records answers fault.why fault.place → fault.place < 65_536
+          given (inl (inl g)) = narrow_place file fault.why fault.place g
           given (inl (inr g)) = omega (arith, g.1.1)
           given (inr g) = omega (arith, g.1.1)
 
@@ -269,7 +268,7 @@ module _ (file state records answers : List ℕ) where
   run = (run_call file records answers).report
 
   -- a run that is accepted: code, place and count, and where it ends
-  module _ (passed : check_run_to file state records answers ≡ Passed) where
+  module _ (passed : check_run_to file state records answers ≡ Ok tt) where
     read : (list : List Cue) × (read_file file ≡ cues list)
     read = (accepted_exactly_when file).1 (run_to_decides.passed.0 passed).0.0
 
@@ -291,8 +290,8 @@ module _ (file state records answers : List ℕ) where
   run_to_number = by (check_run_to file state records answers) refl
     where
       by : (c : Check) → check_run_to file state records answers ≡ c → (n : ℕ) × (n < 4_294_967_296) × ((house_run_to file state records answers).number ≡ packing (code_of c) (place_of c) n)
-      by (Refused why place) e = (0, omega arith, rw (run_to_as_checked (Refused why place) e) (unfold run_imaged in refl))
-      by Passed e = let m = ran e in (run.count, m.2, rw (run_to_as_checked Passed e) (unfold run_imaged imaged packed in rw (m.0, m.1) refl))
+      by (Err fault) e = (0, omega arith, rw (run_to_as_checked (Err fault) e) (unfold run_imaged in refl))
+      by (Ok _) e = let m = ran e in (run.count, m.2, rw (run_to_as_checked (Ok tt) e) (unfold run_imaged imaged packed in rw (m.0, m.1) refl))
 
   pub house_run_to_refused_exactly_when : HouseRunToCodes file state records answers (house_run_to file state records answers).number
   house_run_to_refused_exactly_when =
@@ -304,10 +303,10 @@ module _ (file state records answers : List ℕ) where
   unfolding check_run_to
   run_to_table = room_last (verdict (read_call file records answers)) (rw (run_is_read file records answers).0 at (our_model_meets_every_demand.answers_all file records answers)) (eqb (length state) 56)
     where
-      room_last : (c : Check) → code_of c ≤ 8 → (b : Bool) → code_of (or_else c (cond b Passed (Refused ShortBuffer 0))) ≤ 8
-      room_last Passed few true = omega arith
-      room_last Passed few false = omega arith
-      room_last (Refused why place) few b = few
+      room_last : (c : Check) → code_of c ≤ 8 → (b : Bool) → code_of (or_else c (cond b (Ok tt) (refused_with ShortBuffer 0))) ≤ 8
+      room_last (Ok _) few true = omega arith
+      room_last (Ok _) few false = omega arith
+      room_last (Err fault) few b = few
 
   -- a numbered answer, whatever is lent: 1 to 8 write nothing, an accepted one gives what the run gives, and what is lent keeps its length
   pub house_run_to_is_answered : RunToAnswered file state records answers (house_run_to file state records answers)
@@ -315,21 +314,21 @@ module _ (file state records answers : List ℕ) where
   house_run_to_is_answered = by (check_run_to file state records answers) refl
     where
       by : (c : Check) → check_run_to file state records answers ≡ c → RunToAnswered file state records answers (house_run_to file state records answers)
-      by (Refused why place) e =
-          let t = taken (number why) place 0 (rw e at run_to_narrow) (omega arith) in
-          rw (run_to_as_checked (Refused why place) e)
+      by (Err fault) e =
+          let t = taken (number fault.why) fault.place 0 (rw e at run_to_narrow) (omega arith) in
+          rw (run_to_as_checked (Err fault) e)
           (record {
             numbered = rw t.0 (rw e at run_to_table);
             refused = λ f. record { count = t.2; state = refl; records = refl; answers = refl };
-            accepted = λ z. absurd (omega (arith, z, t.0, some_number why));
+            accepted = λ z. absurd (omega (arith, z, t.0, some_number fault.why));
             within = record { state = refl; records = refl; answers = refl };
           })
-      by Passed e =
+      by (Ok _) e =
           let m = ran e in
           let t = apart run (omega (arith, m.1)) m.2 in
           let code = t.code ∙ m.0 in
           let within = our_model_meets_every_demand.stays_within file records answers in
-          rw (run_to_as_checked Passed e)
+          rw (run_to_as_checked (Ok tt) e)
           (record {
             numbered = omega (arith, code);
             refused = λ f. absurd (f code);
@@ -341,14 +340,14 @@ module _ (file state records answers : List ℕ) where
   pub a_show_ends_in_an_image : code_in (house_run_to file state records answers).number ≡ 0 → is_image (house_run_to file state records answers).state ≡ true
   a_show_ends_in_an_image code =
       let passed = has_passed (house_run_to file state records answers).number house_run_to_refused_exactly_when run_to_decides code in
-      rw (run_to_as_checked Passed passed) (unfold run_imaged imaged in image_is_accepted run.state (ended passed).1 (ended passed).0)
+      rw (run_to_as_checked (Ok tt) passed) (unfold run_imaged imaged in image_is_accepted run.state (ended passed).1 (ended passed).0)
 
 -- ---- house_change
 
 -- the first row holds: its code, whatever the others say
 first_row_holds : {Good Fine : Type 0} {Next : Refusal → ℕ → Type 0} (row : Refusal) → (Good → ⊥) → Codes (Then (Only row 0 (Good → ⊥)) Good Next) (Good × Fine) (number row) 0
 first_row_holds row not =
-    codes_of_a_check (Refused row 0)
+    codes_of_a_check (refused_with row 0)
     (record {
       refused = λ why p. (λ e. inl (sym cc, sym cc, not), λ g. ⊎_elim (λ f. rw (f.0, f.1) refl) (λ n. absurd (not n.0)) g);
       passed = (λ e. absurd (let z : ◌≡◌ {A = ℕ} 0 1 = cc in omega arith), λ g. absurd (not g.0));

@@ -1,4 +1,5 @@
 -- Our calls of the pair by value meet what is demanded of them, and no others do.
+use Rattle.std.specs.Prelude.{Some}
 use Prim.Native.Nat.{ℕ}
 use mathlib.Core.Path.{◌≡◌, refl}
 use mathlib.Core.Logic.{inl, inr}
@@ -11,7 +12,6 @@ use Rattle.base.specs.Refusals.{Timely, CallWhen}
 use Rattle.base.proofs.Codes.{some_number, timely_exactly_when}
 use Rattle.sensor.specs.Calls.{telegram_octets}
 use Rattle.pairs.specs.declared.item.Item.{Item}
-use Rattle.pairs.specs.declared.item.Read.TheVariants.{Known}
 use Rattle.pairs.specs.declared.call.Joint.{Joint}
 use Rattle.pairs.specs.declared.call.JointMove.{JointMove}
 use Rattle.pairs.specs.Items.{item_at}
@@ -59,7 +59,7 @@ no_other_pair_meets_every_demand m f p octets = by (joint_finds p octets) (joint
     t : ℕ
     t = stamp_at octets 0
 
-    refused : (why : Refusal) → CallWhen (SoundPair p) ((i : Item) × (item_at octets 0 ≡ Known i)) (Timely p.actuator.clock t) why 0 → m p octets ≡ joint_refused p why
+    refused : (why : Refusal) → CallWhen (SoundPair p) ((i : Item) × (item_at octets 0 ≡ Some i)) (Timely p.actuator.clock t) why 0 → m p octets ≡ joint_refused p why
     refused why given =
         let table = ((f.judges p octets).refused why 0).1 given in
         let h = f.refuses_cleanly p octets (λ zero. omega (arith, table.0, zero, some_number why)) in

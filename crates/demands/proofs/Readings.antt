@@ -1,4 +1,5 @@
 -- Every list of the table of readings shows what the pair shows of it; and the readings that are not about a list from the start.
+use Rattle.std.specs.Prelude.{Some}
 use Prim.Native.Nat.{ℕ}
 use mathlib.Core.Bool.{true, false}
 use mathlib.Core.Path.{◌≡◌, refl}
@@ -15,7 +16,6 @@ use Rattle.rules.specs.Readings.{bad}
 use Rattle.rules.specs.Files.{cue_at, read_file}
 use Rattle.sensor.specs.declared.action.Action.TheVariants.{Nothing, SendInverse}
 use Rattle.sensor.specs.declared.state.Sensor.{Sensor}
-use Rattle.sensor.specs.declared.react.Telegram.TheVariants.{Switch}
 use Rattle.sensor.specs.Sensors.{fresh_sensor}
 use Rattle.pairs.specs.Pairs.{pair_of}
 use Rattle.pairs.specs.Lists.{PairPlayed, pair_plays_to, play_items}
@@ -42,7 +42,7 @@ actuator_at clock phase = at_moment (fresh (times 2 5 60 10) no_scenes) clock ph
 
 -- "the value before any is off", though the actuator that is handed in is lit: press 10 is On, answered 1
 pub a_fresh_sensor_beside_a_lit_actuator_sends_on : let run : PairPlayed = pair_plays_to 20 (press_at 10 ∷ []) (pair_of (actuator_at 0 Lit) (fresh_sensor toggles)) in
-    (run.telegrams ≡ Switch true ∷ []) × (run.answers ≡ 1 ∷ []) × (run.records ≡ [])
+    (run.telegrams ≡ Some true ∷ []) × (run.answers ≡ 1 ∷ []) × (run.records ≡ [])
 unfolding playing_pairs
 a_fresh_sensor_beside_a_lit_actuator_sends_on = (refl, refl, refl)
 

@@ -1,4 +1,5 @@
 -- Two versions of one show are accepted alike and have one run: the same answers and records, and the same end state but for its version.
+use Rattle.std.specs.Prelude.{Ok}
 use Prim.Native.Nat.{ℕ, zero, suc, ◌+◌, ◌*◌, ◌≤◌, ◌<◌}
 use mathlib.Core.Bool.{true}
 use mathlib.Core.List.{List, [], ◌∷◌, ◌++◌}
@@ -8,7 +9,6 @@ use native.Mathlib.Omega.{arith}
 use lib.ListN.{length, drop}
 use lib.Seq.{get_or-drop, drop-drop}
 use Rattle.octets.specs.BigEndian.{octet}
-use Rattle.base.specs.declared.refusal.Check.TheVariants.{Passed}
 use Rattle.rules.specs.Lists.{Cue, Played}
 use Rattle.rules.specs.Forms.{version_one, version_two, form_of, form_in}
 use Rattle.rules.specs.Layout.{modes_at, scene_place, flags_place, inputs_at}
@@ -152,7 +152,7 @@ module _ (old new : List ℕ) (same : SameShow old new) where
             whole = rw (new_row, same.count) (omega (arith, same.size));
           };
         };
-        passed = rw new_row ((lowest_bad_octet version_two (parameters_in new) Passed).1 (good_parameters long ((lowest_bad_octet version_one (parameters_in old) Passed).0 (rw old_row at g.passed))));
+        passed = rw new_row ((lowest_bad_octet version_two (parameters_in new) (Ok tt)).1 (good_parameters long ((lowest_bad_octet version_one (parameters_in old) (Ok tt)).0 (rw old_row at g.passed))));
       }
 
   pub good_start_of_old : GoodStart new → GoodStart old
@@ -173,7 +173,7 @@ module _ (old new : List ℕ) (same : SameShow old new) where
             whole = rw (old_row, ← same.count) (omega (arith, same.size));
           };
         };
-        passed = rw old_row ((lowest_bad_octet version_one (parameters_in old) Passed).1 (good_parameters_back long ((lowest_bad_octet version_two (parameters_in new) Passed).0 (rw new_row at g.passed))));
+        passed = rw old_row ((lowest_bad_octet version_one (parameters_in old) (Ok tt)).1 (good_parameters_back long ((lowest_bad_octet version_two (parameters_in new) (Ok tt)).0 (rw new_row at g.passed))));
       }
 
   same_cues : cues_read new ≡ cues_read old

@@ -1,4 +1,5 @@
 -- The run over a wall list is the public calls by value, joined in order.
+use Rattle.std.specs.Prelude.{Some}
 use Prim.Native.Nat.{ℕ, zero, suc, ◌+◌, ◌≤◌}
 use lib.ListN.{drop}
 use mathlib.Core.Bool.{true}
@@ -25,7 +26,6 @@ use Rattle.sensor.specs.Refusals.{GoodActions}
 use Rattle.sensor.proofs.Actions.{good_is_passed}
 use Rattle.sensor.proofs.Telegrams.{told_back}
 use Rattle.pairs.specs.declared.item.Item.{Item}
-use Rattle.pairs.specs.declared.item.Read.TheVariants.{Known}
 use Rattle.pairs.specs.declared.call.JointMove.{JointMove}
 use Rattle.pairs.specs.Items.{item_at}
 use Rattle.pairs.specs.Pairs.{Pair, hears, pair_move, pair_step}
@@ -60,7 +60,7 @@ unfolding item_at
 same_item inputs i = rw (group_input inputs i, same_signal inputs i)
 
 -- an item that is read without fault is a joined input that is not refused
-an_item_is_a_call : (inputs : List ℕ) (i : ℕ) (p : Pair) (x : Item) → pair_sound p ≡ true → item_at inputs (input_place i) ≡ Known x → Timely p.actuator.clock (stamp_at inputs (input_place i)) →
+an_item_is_a_call : (inputs : List ℕ) (i : ℕ) (p : Pair) (x : Item) → pair_sound p ≡ true → item_at inputs (input_place i) ≡ Some x → Timely p.actuator.clock (stamp_at inputs (input_place i)) →
     joint_call p (group_at inputs i) ≡ joint_done (stamp_at inputs (input_place i)) (pair_step p x (stamp_at inputs (input_place i)))
 an_item_is_a_call inputs i p x safe known timely =
     a_good_item_is_played p (group_at inputs i) x safe (same_item inputs i ∙ known) (rw (group_stamp inputs i) ((timely_exactly_when p.actuator.clock (stamp_at inputs (input_place i))).1 timely)) ∙ rw (group_stamp inputs i)

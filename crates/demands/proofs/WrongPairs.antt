@@ -1,4 +1,5 @@
 -- Pairs by value that are shut out, and what each of them breaks.
+use Rattle.std.specs.Prelude.{Some}
 use Prim.Native.Nat.{ℕ, ◌≤◌}
 use mathlib.Core.Bool.{true, false, true≢false}
 use mathlib.Core.Path.{◌≡◌, refl, sym, ap, ◌∙◌}
@@ -15,7 +16,6 @@ use Rattle.sensor.specs.declared.state.Sensor.{Sensor}
 use Rattle.sensor.specs.Sensors.{fresh_sensor}
 use Rattle.pairs.specs.declared.item.Item.{Item}
 use Rattle.pairs.specs.declared.item.Item.TheVariants.{Plain, Button1}
-use Rattle.pairs.specs.declared.item.Read.TheVariants.{Known}
 use Rattle.pairs.specs.Items.{item_at}
 use Rattle.pairs.specs.Pairs.{Pair, pair_of, pair_move, pair_step}
 use Rattle.pairs.specs.Refusals.{SoundPair}
@@ -54,7 +54,7 @@ not_before = refl
 
 -- one that never tells its sensor of a record
 pub the_pair_that_tells_its_sensor_of_no_record_breaks_demand_2 : (m : PairModel) →
-    ((p : Pair) (octets : List ℕ) (i : Input) → item_at octets 0 ≡ Known (Plain i) → (m p octets).sensor ≡ p.sensor) → PairPlays m → ⊥
+    ((p : Pair) (octets : List ℕ) (i : Input) → item_at octets 0 ≡ Some (Plain i) → (m p octets).sensor ≡ p.sensor) → PairPlays m → ⊥
 unfolding stamp_at
 the_pair_that_tells_its_sensor_of_no_record_breaks_demand_2 m tells-nothing plays =
     let heard = (plays fresh_pair (octets_of 5 1 1) (Plain (SwitchOnOff true)) on_is_accepted).sensor in
@@ -63,7 +63,7 @@ the_pair_that_tells_its_sensor_of_no_record_breaks_demand_2 m tells-nothing play
 
 -- one that refuses every edge, whatever its numbers are
 pub the_pair_that_refuses_every_edge_breaks_demand_1 : (m : PairModel) →
-    ((p : Pair) (octets : List ℕ) (i : Item) → item_at octets 0 ≡ Known i → IsEdge i → (m p octets).code ≡ 0 → ⊥) → PairJudges m → ⊥
+    ((p : Pair) (octets : List ℕ) (i : Item) → item_at octets 0 ≡ Some i → IsEdge i → (m p octets).code ≡ 0 → ⊥) → PairJudges m → ⊥
 the_pair_that_refuses_every_edge_breaks_demand_1 m refuses judges =
     let a = press_is_accepted in
     refuses fresh_pair (octets_of 5 11 1) (Button1 Rising) a.known tt (((judges fresh_pair (octets_of 5 11 1)).accepted 0).1 (refl, (a.sound, ((Button1 Rising, a.known), a.timely)))).0

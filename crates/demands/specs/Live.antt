@@ -3,8 +3,7 @@
 use Rattle.std.specs.Prelude.{ℕ, ◌+◌, ◌/◌, ◌%◌, ◌^◌, ◌≤◌, true, cond, List, [], ◌∷◌, ◌++◌, ◌≡◌, length, take, drop, eqb}
 use Rattle.base.specs.declared.refusal.Refusal.{Refusal}
 use Rattle.base.specs.declared.refusal.Refusal.TheVariants.{BadStamp, ShortBuffer, UnsoundState}
-use Rattle.base.specs.declared.refusal.Check.TheVariants.{Refused}
-use Rattle.base.specs.Refusals.{Only, Then, Codes, Timely}
+use Rattle.base.specs.Refusals.{Only, Then, Codes, Timely, refused_with}
 use Rattle.rules.specs.Files.{input_count}
 use Rattle.rules.specs.Refusals.{FoundWhen, GoodParameters, GivenWhen, GoodFile, RoomFor, ChangeWhen, GoodChange}
 use Rattle.rules.specs.Layout.{form_alone, input_place, record_place}
@@ -33,7 +32,7 @@ NumberCodes Given Good number = Codes Given Good (code_in number) (place_in numb
 
 -- house_fresh: "1, 5, then 8"
 abbrev pub HouseFreshWhen : List ℕ → List ℕ → Refusal → ℕ → Type 0
-HouseFreshWhen parameters state = Then (λ why p. FoundWhen (form_alone parameters) parameters (Refused why p)) (GoodParameters (form_alone parameters) parameters) (Only ShortBuffer 0 (length state ≡ 56 → ⊥))
+HouseFreshWhen parameters state = Then (λ why p. FoundWhen (form_alone parameters) parameters (refused_with why p)) (GoodParameters (form_alone parameters) parameters) (Only ShortBuffer 0 (length state ≡ 56 → ⊥))
 
 abbrev pub HouseFreshCodes : List ℕ → List ℕ → ℕ → Type 0
 HouseFreshCodes parameters state = NumberCodes (HouseFreshWhen parameters state) (GoodParameters (form_alone parameters) parameters × (length state ≡ 56))

@@ -1,13 +1,12 @@
 -- What is demanded of the calls of the pair by value, said of any model of them. Ours meet it and no others do (proofs/PairMeets.antt); wrong
 -- ones break it (proofs/WrongPairs.antt).
-use Rattle.std.specs.Prelude.{ℕ, ◌≡◌, List, [], ◌∷◌, length}
+use Rattle.std.specs.Prelude.{ℕ, ◌≡◌, List, [], ◌∷◌, length, Some}
 use Rattle.octets.specs.Groups.{stamp_at}
 use Rattle.base.specs.Refusals.{Timely}
 use Rattle.rules.specs.Calls.{places}
 use Rattle.sensor.specs.Calls.{telegram_octets}
 use Rattle.sensor.specs.Claims.{silence}
 use Rattle.pairs.specs.declared.item.Item.{Item}
-use Rattle.pairs.specs.declared.item.Read.TheVariants.{Known}
 use Rattle.pairs.specs.declared.call.Joint.{Joint}
 use Rattle.pairs.specs.declared.call.JointMove.{JointMove}
 use Rattle.pairs.specs.Items.{item_at}
@@ -44,7 +43,7 @@ PairRefusesCleanly m = (p : Pair) (octets : List ℕ) → ((m p octets).code ≡
 -- an item that no row of the table refuses
 pub record PairAccepted (p : Pair) (octets : List ℕ) (i : Item) : Type 0 where
   pub sound : SoundPair p
-  pub known : item_at octets 0 ≡ Known i
+  pub known : item_at octets 0 ≡ Some i
   pub timely : Timely p.actuator.clock (stamp_at octets 0)
 
 -- 2: what the pair does with it at t

@@ -2,7 +2,7 @@
 -- what was sent and what is heard, in which order, and what an edge is answered; with every answer, record and telegram of its run by the
 -- reading that is taken. (Checked: proofs/Readings.antt.) In proofs/Readings.antt alone: a pair that is handed in, the stamps, kinds and end
 -- of a list, and what counts as a cue. In crates/sensor/proofs/Readings.antt: those of the sensor alone, its octets, codes and edges.
-use Rattle.std.specs.Prelude.{ℕ, true, false, List, [], ◌∷◌}
+use Rattle.std.specs.Prelude.{ℕ, true, false, List, [], ◌∷◌, Option, Some, None, Bool}
 use Rattle.base.specs.Time.{tenths}
 use Rattle.rules.specs.declared.parameters.Params.{Params}
 use Rattle.rules.specs.declared.input.Event.TheVariants.{Failure, Return}
@@ -11,8 +11,6 @@ use Rattle.rules.specs.declared.input.Input.TheVariants.{SwitchOnOff, TimedStart
 use Rattle.rules.specs.declared.record.Record.{Record}
 use Rattle.rules.specs.Calls.{no_scenes}
 use Rattle.sensor.specs.declared.signal.Edge.TheVariants.{Rising, Falling}
-use Rattle.sensor.specs.declared.react.Telegram.{Telegram}
-use Rattle.sensor.specs.declared.react.Telegram.TheVariants.{Silent, Switch}
 use Rattle.sensor.specs.Sensors.{fresh_sensor}
 use Rattle.pairs.specs.declared.item.Item.TheVariants.{Plain, Button1}
 use Rattle.pairs.specs.Lists.{Listed, listed, PairPlayed, play_items}
@@ -70,15 +68,15 @@ return_at t = given_at t (Bus Return)
 abbrev rec : ℕ → ℕ → ℕ → ℕ → Record
 rec stamp value attributes cause = record { stamp = stamp; value = value; attributes = attributes; cause = cause }
 
-abbrev sends_on : Telegram
-sends_on = Switch true
+abbrev sends_on : Option Bool
+sends_on = Some true
 
-abbrev sends_off : Telegram
-sends_off = Switch false
+abbrev sends_off : Option Bool
+sends_off = Some false
 
 -- what a run shows: an answer and a telegram for each item, and every record
 pub record PairShown : Type 0 where
-  pub telegrams : List Telegram
+  pub telegrams : List (Option Bool)
   pub answers : List ℕ
   pub records : List Record
 
@@ -88,7 +86,7 @@ pub record PairCase : Type 0 where
   pub items : List Listed
   pub shows : PairShown
 
-abbrev case : Params → List Listed → List Telegram → List ℕ → List Record → PairCase
+abbrev case : Params → List Listed → List (Option Bool) → List ℕ → List Record → PairCase
 case params items telegrams answers records = record { params = params; items = items; shows = record { telegrams = telegrams; answers = answers; records = records } }
 
 -- what the pair shows of them
@@ -101,35 +99,35 @@ unfoldable pub pair_cases : List PairCase
 pair_cases =
     -- "the last value sent": a telegram that the actuator drops was sent. Bus failure 0, press 10 (answer 4), bus return 20, press 30: Off
     case (times 0 0 1 0) (failure_at 0 ∷ press_at 10 ∷ return_at 20 ∷ press_at 30 ∷ [])
-    (Silent ∷ sends_on ∷ Silent ∷ sends_off ∷ []) (0 ∷ 4 ∷ 0 ∷ 1 ∷ []) (rec 0 0 1 0 ∷ []) ∷
+    (None ∷ sends_on ∷ None ∷ sends_off ∷ []) (0 ∷ 4 ∷ 0 ∷ 1 ∷ []) (rec 0 0 1 0 ∷ []) ∷
     -- "received as InfoOnOff": a switch input from elsewhere is not heard, only what is recorded. On 0, press 5: On
     case (times 2 0 1 0) (on_at 0 ∷ press_at 5 ∷ [])
-    (Silent ∷ sends_on ∷ []) (0 ∷ 1 ∷ []) (rec 0 0 1 0 ∷ rec 20 255 1 0 ∷ []) ∷
+    (None ∷ sends_on ∷ []) (0 ∷ 1 ∷ []) (rec 0 0 1 0 ∷ rec 20 255 1 0 ∷ []) ∷
     -- "each record is a status": one in which only attributes changed, too. Press 0, night 5, press 10: On, so that it is lit at 20
     case (times 2 0 60 0) (press_at 0 ∷ night_at 5 ∷ press_at 10 ∷ [])
-    (sends_on ∷ Silent ∷ sends_on ∷ []) (0 ∷ 0 ∷ 1 ∷ []) (rec 0 0 1 0 ∷ rec 5 0 9 6 ∷ rec 20 255 25 0 ∷ rec 620 0 9 0 ∷ []) ∷
+    (sends_on ∷ None ∷ sends_on ∷ []) (0 ∷ 0 ∷ 1 ∷ []) (rec 0 0 1 0 ∷ rec 5 0 9 6 ∷ rec 20 255 25 0 ∷ rec 620 0 9 0 ∷ []) ∷
     -- the same in night with an off delay: the record of an Off, which ends the staircase, still says 255. Press 10, 100, 120: On Off Off
     case (times 0 5 60 10) (night_at 0 ∷ press_at 10 ∷ press_at 100 ∷ press_at 120 ∷ [])
-    (Silent ∷ sends_on ∷ sends_off ∷ sends_off ∷ []) (0 ∷ 0 ∷ 0 ∷ 1 ∷ []) (rec 0 0 1 0 ∷ rec 0 0 9 6 ∷ rec 10 255 25 1 ∷ rec 100 255 9 1 ∷ rec 150 0 9 0 ∷ []) ∷
+    (None ∷ sends_on ∷ sends_off ∷ sends_off ∷ []) (0 ∷ 0 ∷ 0 ∷ 1 ∷ []) (rec 0 0 1 0 ∷ rec 0 0 9 6 ∷ rec 10 255 25 1 ∷ rec 100 255 9 1 ∷ rec 150 0 9 0 ∷ []) ∷
     -- "whichever is later", at one stamp: in the order of happening, so that the record of an Off is later than the Off. Press 10, 100, 100: On Off Off
     case (times 0 5 60 10) (night_at 0 ∷ press_at 10 ∷ press_at 100 ∷ press_at 100 ∷ [])
-    (Silent ∷ sends_on ∷ sends_off ∷ sends_off ∷ []) (0 ∷ 0 ∷ 0 ∷ 1 ∷ []) (rec 0 0 1 0 ∷ rec 0 0 9 6 ∷ rec 10 255 25 1 ∷ rec 100 255 9 1 ∷ rec 150 0 9 0 ∷ []) ∷
+    (None ∷ sends_on ∷ sends_off ∷ sends_off ∷ []) (0 ∷ 0 ∷ 0 ∷ 1 ∷ []) (rec 0 0 1 0 ∷ rec 0 0 9 6 ∷ rec 10 255 25 1 ∷ rec 100 255 9 1 ∷ rec 150 0 9 0 ∷ []) ∷
     -- "the actuator's clock first moves to an edge's stamp": a timer due then is heard before the edge is decided. Timed start 0, press 10: On
     case (times 0 0 1 0) (timed_at 0 ∷ press_at 10 ∷ [])
-    (Silent ∷ sends_on ∷ []) (0 ∷ 0 ∷ []) (rec 0 0 1 0 ∷ rec 0 255 17 2 ∷ rec 10 0 1 0 ∷ rec 10 255 1 1 ∷ []) ∷
+    (None ∷ sends_on ∷ []) (0 ∷ 0 ∷ []) (rec 0 0 1 0 ∷ rec 0 255 17 2 ∷ rec 10 0 1 0 ∷ rec 10 255 1 1 ∷ []) ∷
     -- also before an edge that does nothing
     case (times 0 0 1 0) (timed_at 0 ∷ release_at 10 ∷ press_at 10 ∷ [])
-    (Silent ∷ Silent ∷ sends_on ∷ []) (0 ∷ 1 ∷ 0 ∷ []) (rec 0 0 1 0 ∷ rec 0 255 17 2 ∷ rec 10 0 1 0 ∷ rec 10 255 1 1 ∷ []) ∷
+    (None ∷ None ∷ sends_on ∷ []) (0 ∷ 1 ∷ 0 ∷ []) (rec 0 0 1 0 ∷ rec 0 255 17 2 ∷ rec 10 0 1 0 ∷ rec 10 255 1 1 ∷ []) ∷
     -- "heard before the next edge": each record once, where it was written. Press 0, 20, 30: the light of 20 comes before the Off of 20, so that 30 is On
     case (times 2 5 1 0) (press_at 0 ∷ press_at 20 ∷ press_at 30 ∷ [])
     (sends_on ∷ sends_off ∷ sends_on ∷ []) (0 ∷ 0 ∷ 0 ∷ []) (rec 0 0 1 0 ∷ rec 20 255 1 0 ∷ []) ∷
     -- however many timers there were between two edges: dark since 80, and so press 100 is On
     case (times 0 0 6 1) (night_at 0 ∷ press_at 10 ∷ press_at 100 ∷ [])
-    (Silent ∷ sends_on ∷ sends_on ∷ []) (0 ∷ 0 ∷ 0 ∷ []) (rec 0 0 1 0 ∷ rec 0 0 9 6 ∷ rec 10 255 25 1 ∷ rec 80 0 9 0 ∷ rec 100 255 25 1 ∷ rec 170 0 9 0 ∷ []) ∷
+    (None ∷ sends_on ∷ sends_on ∷ []) (0 ∷ 0 ∷ 0 ∷ []) (rec 0 0 1 0 ∷ rec 0 0 9 6 ∷ rec 10 255 25 1 ∷ rec 80 0 9 0 ∷ rec 100 255 25 1 ∷ rec 170 0 9 0 ∷ []) ∷
     -- "each record", with the bus down too: BusFailureMode on, failure 10, press 20: Off, answered 4
     case (times_and_bus 0 0 1 0 2) (failure_at 10 ∷ press_at 20 ∷ [])
-    (Silent ∷ sends_off ∷ []) (0 ∷ 4 ∷ []) (rec 0 0 1 0 ∷ rec 10 255 1 7 ∷ []) ∷
+    (None ∷ sends_off ∷ []) (0 ∷ 4 ∷ []) (rec 0 0 1 0 ∷ rec 10 255 1 7 ∷ []) ∷
     -- an answer for each item: 1 for an edge that sends nothing
     case (times 0 0 1 0) (release_at 5 ∷ [])
-    (Silent ∷ []) (1 ∷ []) (rec 0 0 1 0 ∷ []) ∷
+    (None ∷ []) (1 ∷ []) (rec 0 0 1 0 ∷ []) ∷
     []

@@ -1,6 +1,6 @@
 -- Runs over a wall list that are shut out. Two judge a list as the table does, and each plays it by a step of its own; the third judges
 -- otherwise: it refuses lists that the table accepts. What each breaks is proved in proofs/WrongWalls.antt.
-use Rattle.std.specs.Prelude.{ℕ, List, [], ◌∷◌, ◌⊎◌, ◌≡◌}
+use Rattle.std.specs.Prelude.{ℕ, List, [], ◌∷◌, ◌⊎◌, ◌≡◌, Option, Some, None, Bool}
 use Rattle.rules.specs.declared.input.Input.TheVariants.{SwitchOnOff}
 use Rattle.rules.specs.declared.state.State.{State}
 use Rattle.rules.specs.Steps.{clock_move, step}
@@ -8,8 +8,6 @@ use Rattle.rules.specs.Readings.{Reading, cues, bad}
 use Rattle.sensor.specs.declared.signal.Signal.{Signal}
 use Rattle.sensor.specs.declared.signal.Signal.TheVariants as signal
 use Rattle.sensor.specs.declared.state.Sensor.{Sensor}
-use Rattle.sensor.specs.declared.react.Telegram.{Telegram}
-use Rattle.sensor.specs.declared.react.Telegram.TheVariants.{Silent, Switch}
 use Rattle.sensor.specs.declared.react.Reaction.{Reaction}
 use Rattle.sensor.specs.Sensors.{fresh_sensor}
 use Rattle.sensor.specs.Reactions.{react}
@@ -64,11 +62,11 @@ deaf_wall_run = wall_run_by deaf_item deaf_move
 
 -- ---- one that decides an edge before the clock moves: the timers due by then run with the telegram, and are heard after it
 
-abbrev sent_after : ℕ → State → Sensor → Telegram → PairStepped
-sent_after t s z Silent = let m : PairMoved = heard_move (clock_move s t) z in record { pair = m.pair; answer = 1; records = m.records; telegram = Silent }
-sent_after t s z (Switch value) =
+abbrev sent_after : ℕ → State → Sensor → Option Bool → PairStepped
+sent_after t s z None = let m : PairMoved = heard_move (clock_move s t) z in record { pair = m.pair; answer = 1; records = m.records; telegram = None }
+sent_after t s z (Some value) =
     let d : PairStepped = heard_step (step s (SwitchOnOff value) t) z in
-    record { pair = d.pair; answer = d.answer; records = d.records; telegram = Switch value }
+    record { pair = d.pair; answer = d.answer; records = d.records; telegram = Some value }
 
 abbrev hasty_press : Pair → Signal → ℕ → PairStepped
 hasty_press p s t = let r : Reaction = react p.sensor s t in sent_after t p.actuator r.sensor r.telegram

@@ -1,4 +1,5 @@
 -- The live calls, one law for each way out.
+use Rattle.std.specs.Prelude.{Ok, Err}
 use Prim.Native.Nat.{ℕ, ◌≤◌, ◌<◌}
 use mathlib.Core.Bool.{Bool, true, false, cond}
 use mathlib.Core.List.{List}
@@ -8,9 +9,7 @@ use lib.ListN.{length, take}
 use borrow.Author.Tests.{eq-eqb, ne_eqb, le-leb, lt-leb}
 use Rattle.base.specs.declared.refusal.Refusal.{Refusal}
 use Rattle.base.specs.declared.refusal.Refusal.TheVariants.{BadStamp, ShortBuffer, UnsoundState}
-use Rattle.base.specs.declared.refusal.Check.{Check}
-use Rattle.base.specs.declared.refusal.Check.TheVariants.{Passed, Refused}
-use Rattle.base.specs.Refusals.{number, stamp_in_range, code_of, place_of, or_else}
+use Rattle.base.specs.Refusals.{number, stamp_in_range, code_of, place_of, or_else, Check, refused_with}
 use Rattle.base.proofs.Codes.{some_number}
 use Rattle.rules.specs.declared.state.State.{State}
 use Rattle.rules.specs.declared.call.Fresh.{Fresh}
@@ -56,15 +55,15 @@ module _ (parameters state : List ℕ) (f : Fresh) (given : f ≡ fresh_call par
   fresh_refused bad = by (check_alone parameters) refl
     where
       by : (c : Check) → check_alone parameters ≡ c → Ends (packing f.code f.place 0) state
-      by Passed e = absurd (bad (by_check Passed e).0)
-      by (Refused why place) e = let t = by_check (Refused why place) e in rw (t.0, t.1) (unfold house_fresh check_fresh fresh_imaged in rw e)
+      by (Ok _) e = absurd (bad (by_check (Ok tt) e).0)
+      by (Err fault) e = let t = by_check (Err fault) e in rw (t.0, t.1) (unfold house_fresh check_fresh fresh_imaged in rw e)
 
-  passed : f.code ≡ 0 → check_alone parameters ≡ Passed
+  passed : f.code ≡ 0 → check_alone parameters ≡ Ok tt
   passed good = by (check_alone parameters) refl
     where
-      by : (c : Check) → check_alone parameters ≡ c → check_alone parameters ≡ Passed
-      by Passed e = e
-      by (Refused why place) e = absurd (omega (arith, some_number why, good, (by_check (Refused why place) e).0))
+      by : (c : Check) → check_alone parameters ≡ c → check_alone parameters ≡ Ok tt
+      by (Ok _) e = e
+      by (Err fault) e = absurd (omega (arith, some_number fault.why, good, (by_check (Err fault) e).0))
 
   pub fresh_made : f.code ≡ 0 → length state ≡ 56 → Ends (packing 0 0 0) (image f.state)
   unfolding house_fresh check_fresh fresh_imaged
@@ -82,7 +81,7 @@ module _ (state inputs r a : List ℕ) where
   change_done h w e = rw (h, e) refl
 
   -- 12 and 8: the image of the state that comes back is the one that was lent
-  pub change_lent_badly : is_image state ≡ true → (why : Refusal) (place : ℕ) → check_lent inputs r a ≡ Refused why place → imaged_run_by (refused_number why place) state r a ≡ house_change state inputs r a
+  pub change_lent_badly : is_image state ≡ true → (why : Refusal) (place : ℕ) → check_lent inputs r a ≡ refused_with why place → imaged_run_by (refused_number why place) state r a ≡ house_change state inputs r a
   unfolding house_change change_imaged imaged change_call change_by check_change packed
   change_lent_badly h why place e = rw (h, accepted_is_sound state h, e, accepted_is_the_image state h) refl
 
@@ -122,10 +121,10 @@ module _ (file state r a : List ℕ) where
   unfolding house_run_to check_run_to short_number read_call run_imaged
   run_to_short other = rw (verdict_if_lent (lent_enough file r a) (read_file file), ne_eqb (length state) 56 other) (by (verdict (read_file file)) (lent_enough file r a))
     where
-      by : (c : Check) (b : Bool) → imaged_run_by (short_by c) state r a ≡ run_imaged (or_else (or_else c (cond b Passed (Refused ShortBuffer 0))) (Refused ShortBuffer 0)) file state r a
-      by (Refused why place) b = refl
-      by Passed true = refl
-      by Passed false = refl
+      by : (c : Check) (b : Bool) → imaged_run_by (short_by c) state r a ≡ run_imaged (or_else (or_else c (cond b (Ok tt) (refused_with ShortBuffer 0))) (refused_with ShortBuffer 0)) file state r a
+      by (Err fault) b = refl
+      by (Ok _) true = refl
+      by (Ok _) false = refl
 
   module _ (long : length state ≡ 56) (w : Whole) (ran : w ≡ run_call file r a) where
     told : (x : Reading Cue) → read_call file r a ≡ x → w.report.code ≡ code_of (verdict x)

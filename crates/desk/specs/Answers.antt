@@ -1,8 +1,7 @@
 -- What the live calls hand out: the number, and what stands in the lent memory then.
-use Rattle.std.specs.Prelude.{ℕ, List}
+use Rattle.base.specs.Refusals.{Check}
+use Rattle.std.specs.Prelude.{ℕ, List, Ok, Err}
 use Rattle.base.specs.declared.refusal.Refusal.TheVariants.{ShortBuffer}
-use Rattle.base.specs.declared.refusal.Check.{Check}
-use Rattle.base.specs.declared.refusal.Check.TheVariants.{Passed, Refused}
 use Rattle.rules.specs.Readings.{verdict}
 use Rattle.rules.specs.Files.{read_file}
 use Rattle.rules.specs.Live.{refused_number, Imaged, ImagedMove, ImagedRun}
@@ -18,8 +17,8 @@ imaged_run_by n state records answers = record { number = n; state = state; reco
 
 -- what a file is refused for where the lent state is no room for an image: its own row, then 8
 abbrev pub short_by : Check → ℕ
-short_by Passed = refused_number ShortBuffer 0
-short_by (Refused why place) = refused_number why place
+short_by (Ok _) = refused_number ShortBuffer 0
+short_by (Err fault) = refused_number fault.why fault.place
 
 unfoldable pub short_number : List ℕ → ℕ
 short_number file = short_by (verdict (read_file file))

@@ -1,13 +1,12 @@
 // A whole scene change.
 ghost use Rattle.std.specs.Prelude.{true, ◌≡◌};
-ghost use Rattle.base.specs.declared.refusal.Check.TheVariants.{Passed};
 ghost use Rattle.rules.specs.Changes.{check_lent};
 ghost use Rattle.rules.specs.Images.{state_in, is_image};
 ghost use Rattle.rules.specs.Live.{house_change};
 ghost use Rattle.desk.specs.Answers.{imaged_run_by};
 
 use crate::refused;
-use base::refusal::{Check, Refusal};
+use base::refusal::{Refusal, Refused};
 use buffers::report::pack;
 use changes::play::{check_lent, play_inputs};
 use images::put::put_image;
@@ -23,7 +22,7 @@ fn play_image(
     records: &mut [u8],
     answers: &mut [u8],
 ) -> u64
-    requires { (is_image state.old ≡ true) × (s ≡ state_in state.old) × (check_lent inputs.now records.old answers.old ≡ Passed) }
+    requires { (is_image state.old ≡ true) × (s ≡ state_in state.old) × (check_lent inputs.now records.old answers.old ≡ Ok tt) }
     ensures { imaged_run_by result state.new records.new answers.new ≡ house_change state.old inputs.now records.old answers.old }
 {
     let r = play_inputs(s, inputs, records, answers);
@@ -44,8 +43,8 @@ pub fn house_change(state: &mut [u8], inputs: &[u8], records: &mut [u8], answers
     if is_image_of(state, s) {
         let met = check_lent(inputs, records, answers);
         match met {
-            Check::Refused { why, place } => refused(why, place),
-            Check::Passed => play_image(s, state, inputs, records, answers),
+            Err(Refused { why, place }) => refused(why, place),
+            Ok(()) => play_image(s, state, inputs, records, answers),
         }
     } else {
         refused(Refusal::UnsoundState, 0)

@@ -4,7 +4,7 @@ ghost use Rattle.rules.specs.Live.{house_run_to};
 ghost use Rattle.desk.specs.Answers.{imaged_run_by, short_number};
 
 use crate::refused;
-use base::refusal::{Check, Refusal};
+use base::refusal::{Refusal, Refused};
 use buffers::report::pack;
 use cues::check::check_file;
 use house::run::run;
@@ -17,8 +17,8 @@ fn no_room(file: &[u8]) -> u64
 {
     let checked = check_file(file);
     match checked {
-        Check::Refused { why, place } => refused(why, place),
-        Check::Passed => refused(Refusal::ShortBuffer, 0),
+        Err(Refused { why, place }) => refused(why, place),
+        Ok(()) => refused(Refusal::ShortBuffer, 0),
     }
 }
 

@@ -1,10 +1,11 @@
 -- The whole run, one law for each way out.
+use Rattle.base.specs.Refusals.{refused_with}
+use Rattle.std.specs.Prelude.{Ok}
 use Prim.Native.Nat.{ℕ}
 use mathlib.Core.List.{List}
 use mathlib.Core.Path.{◌≡◌, sym, ap, ◌∙◌}
 use Rattle.base.specs.declared.refusal.Refusal.{Refusal}
 use Rattle.base.specs.declared.refusal.Refusal.TheVariants.{ShortBuffer}
-use Rattle.base.specs.declared.refusal.Check.TheVariants.{Passed, Refused}
 use Rattle.base.proofs.Tests.{cond_case}
 use Rattle.rules.specs.Lists.{Cue, Played}
 use Rattle.rules.specs.Readings.{Reading, cues, found, verdict}
@@ -24,7 +25,7 @@ use Rattle.runs.specs.Runs.{items_in, play_in, ran_in, Fit}
 unfoldable pub list_in : List ℕ → List Cue
 list_in file = found (read_file file)
 
-pub file_passed : (file : List ℕ) → verdict (read_file file) ≡ Passed → read_file file ≡ cues (list_in file)
+pub file_passed : (file : List ℕ) → verdict (read_file file) ≡ (Ok tt) → read_file file ≡ cues (list_in file)
 unfolding list_in
 file_passed file e = good_read (read_file file) e
 
@@ -49,7 +50,7 @@ module _ (file : List ℕ) (read : read_file file ≡ cues (list_in file)) where
 -- ---- the run
 
 module _ (file r a : List ℕ) where
-  pub run_refused : (why : Refusal) (place : ℕ) → verdict (read_file file) ≡ Refused why place → whole (refusal why place) r a ≡ run_call file r a
+  pub run_refused : (why : Refusal) (place : ℕ) → verdict (read_file file) ≡ refused_with why place → whole (refusal why place) r a ≡ run_call file r a
   unfolding refused
   run_refused why place e = sym (a_bad_file_is_refused file r a why place (bad_read (read_file file) why place e))
 

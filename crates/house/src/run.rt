@@ -3,7 +3,7 @@ ghost use Rattle.std.specs.Prelude.{◌≡◌};
 ghost use Rattle.rules.specs.Runs.{whole, run_call};
 ghost use Rattle.pairs.specs.Walls.{ran_of};
 
-use base::refusal::Check;
+use base::refusal::Refused;
 use cues::check::check_file;
 use pairs::call::WallRan;
 use rules::call::Ran;
@@ -30,7 +30,7 @@ pub fn run(file: &[u8], records: &mut [u8], answers: &mut [u8]) -> Ran
 {
     let checked = check_file(file);
     match checked {
-        Check::Refused { why, place } => alone(refused(why, place)),
-        Check::Passed => alone(run_checked(file, own_sensor(), records, answers)),
+        Err(Refused { why, place }) => alone(refused(why, place)),
+        Ok(()) => alone(run_checked(file, own_sensor(), records, answers)),
     }
 }

@@ -1,4 +1,5 @@
 -- Which values of a kind mean an input: each kind takes 0 and 1, and only scenes and forces take more; and which input.
+use Rattle.std.specs.Prelude.{Option, Some, None}
 use Prim.Native.Nat.{ℕ, ◌+◌, ◌/◌, ◌%◌, ◌≤◌, ◌<◌}
 use mathlib.Core.Bool.{Bool, true, false, cond, ◌&&◌}
 use mathlib.Core.List.{List}
@@ -9,8 +10,6 @@ use borrow.Author.Tests.{eqb-true, eqb-false, leb-true, leb-false, eq-eqb, ne_eq
 use Rattle.octets.specs.BigEndian.{octet}
 use Rattle.rules.specs.declared.input.Input.{Input}
 use Rattle.rules.specs.declared.input.Input.TheVariants.{NumberedSceneControl, SwitchOnOffForced}
-use Rattle.rules.specs.declared.input.Decoded.{Decoded}
-use Rattle.rules.specs.declared.input.Decoded.TheVariants.{Meant, Wrong}
 use Rattle.rules.specs.Inputs.{force_of, zero_or_one, scene_meant, force_meant, decoded, input_at}
 use Rattle.base.proofs.Tests.{cond_case, either_way, no}
 use Rattle.rules.proofs.Laws.Inputs.{no_other_kind}
@@ -40,7 +39,7 @@ force_is_meant value =
     (λ another. sym (lt-leb value 3 (omega (arith, leb-false value 1 more, eqb-false value 2 other, eqb-false value 3 another))))))
 
 -- the kinds in their order: this one, or one after it
-next_kind : (k j : ℕ) (x y : Decoded) → j ≤ k → is_meant x ≡ true → (j < k → is_meant y ≡ true) → is_meant (cond (eqb k j) x y) ≡ true
+next_kind : (k j : ℕ) (x y : Option Input) → j ≤ k → is_meant x ≡ true → (j < k → is_meant y ≡ true) → is_meant (cond (eqb k j) x y) ≡ true
 next_kind k j x y from this after = cond_case (λ d. is_meant d ≡ true) (eqb k j) x y (λ e. this) (λ e. after (omega (arith, eqb-false k j e)))
 
 pub takes_bit : (k value : ℕ) → 1 ≤ k → k ≤ 8 → value ≤ 1 → is_meant (decoded k value) ≡ true
@@ -57,7 +56,7 @@ takes_bit k value some few bit =
     (λ some. absurd (omega arith)))))))))
 
 -- one kind of many whose value is no bit
-either : (k j : ℕ) (x y : Decoded) → is_meant x ≡ false → is_meant y ≡ false → is_meant (cond (eqb k j) x y) ≡ false
+either : (k j : ℕ) (x y : Option Input) → is_meant x ≡ false → is_meant y ≡ false → is_meant (cond (eqb k j) x y) ≡ false
 either k j = either_way (λ d. is_meant d ≡ false) (eqb k j)
 
 pub takes_no_more : (k value : ℕ) → (k ≡ 3 → ⊥) → (k ≡ 4 → ⊥) → 1 < value → is_meant (decoded k value) ≡ false
@@ -81,8 +80,8 @@ unfolding decoded
 force_value k value e = rw e (force_is_meant value)
 
 -- it is this input, if it means one at all
-abbrev pub Known : Input → Decoded → Type 0
-Known i d = is_meant d ≡ true → d ≡ Meant i
+abbrev pub Known : Input → Option Input → Type 0
+Known i d = is_meant d ≡ true → d ≡ Some i
 
 -- one law for every kind of one bit
 pub known_bit : (f : Bool → Input) (value : ℕ) → Known (f (eqb value 1)) (zero_or_one value (f false) (f true))
@@ -118,9 +117,9 @@ last_kind k value late meant = eqb-true k 8 (go (eqb k 8) refl) where
   go true e = refl
   go false e = no (sym (ap is_meant (no_other_kind k value (λ some. omega (arith, late some, eqb-false k 8 e)))) ∙ meant)
 
-pub not_meant : (d : Decoded) → is_meant d ≡ false → Wrong ≡ d
-not_meant (Meant i) h = no (sym h)
-not_meant Wrong h = refl
+pub not_meant : (d : Option Input) → is_meant d ≡ false → None ≡ d
+not_meant (Some i) h = no (sym h)
+not_meant None h = refl
 
 -- where an input starts, it is what its kind and its value mean
 pub known_at : (octets : List ℕ) (at : ℕ) → is_meant (input_at octets at) ≡ true → input_at octets at ≡ decoded (octet octets (at + 4)) (octet octets (at + 5))

@@ -2,13 +2,12 @@
 #![tactic(auto)]
 
 ghost use Rattle.std.specs.Prelude.{◌≡◌, ◌+◌, ◌≤◌, true, length};
-ghost use Rattle.rules.specs.declared.input.Decoded.TheVariants.{Meant};
 ghost use Rattle.rules.specs.Layout.{input_size};
 ghost use Rattle.rules.specs.Inputs.{force_of, decoded, input_at};
 ghost use Rattle.inputs.specs.Meaning.{is_meant, event_of};
 
 use octets::group::ends_in_zeros;
-use rules::input::{Decoded, Event, Force, Input};
+use rules::input::{Event, Force, Input};
 
 pub mod value;
 
@@ -54,7 +53,7 @@ pub fn known_force(value: u8) -> Force
 // The input that a kind and a value mean, where they mean one: nothing is tested but the kind.
 pub fn known_input(kind: u8, value: u8) -> Input
     requires { is_meant (decoded kind value) ≡ true }
-    ensures { decoded kind value ≡ Meant result }
+    ensures { decoded kind value ≡ Some result }
 {
     let one = value == 1;
     match kind {
@@ -85,19 +84,19 @@ pub fn is_input_at(octets: &[u8], at: usize) -> bool
 // The input that starts at a place where one does.
 fn known_input_at(octets: &[u8], at: usize) -> Input
     requires { (at + input_size ≤ length octets.now) × (is_meant (input_at octets.now at) ≡ true) }
-    ensures { input_at octets.now at ≡ Meant result }
+    ensures { input_at octets.now at ≡ Some result }
 {
     known_input(octets[at + 4], octets[at + 5])
 }
 
 // What the input that starts at a place means.
-pub fn input_at(octets: &[u8], at: usize) -> Decoded
+pub fn input_at(octets: &[u8], at: usize) -> Option<Input>
     requires { at + input_size ≤ length octets.now }
     ensures { result ≡ input_at octets.now at }
 {
     if is_input_at(octets, at) {
-        Decoded::Meant(known_input_at(octets, at))
+        Some(known_input_at(octets, at))
     } else {
-        Decoded::Wrong
+        None
     }
 }

@@ -1,4 +1,5 @@
 -- What the code hands out is what the definitions of the pair say, by value.
+use Rattle.std.specs.Prelude.{Some, None}
 use Prim.Native.Nat.{ℕ, ◌≤◌}
 use mathlib.Core.Bool.{Bool, true}
 use mathlib.Core.List.{List}
@@ -16,7 +17,6 @@ use Rattle.rules.specs.Soundness.{sound}
 use Rattle.rules.proofs.Laws.Records.{a_move_writes_at_most_two, an_input_writes_at_most_three, used_places, two_of_three}
 use Rattle.sensor.specs.declared.signal.Signal.{Signal}
 use Rattle.sensor.specs.declared.state.Sensor.{Sensor}
-use Rattle.sensor.specs.declared.react.Telegram.TheVariants.{Silent, Switch}
 use Rattle.sensor.specs.declared.react.Reaction.{Reaction}
 use Rattle.sensor.specs.Reactions.{react}
 use Rattle.records.specs.declared.notes.Notes.{Notes}
@@ -41,7 +41,7 @@ unfolding acted notes
 acted_few s i t d e = rw e (an_input_writes_at_most_three s i t)
 
 pub plain_step : (s : State) (z : Sensor) (i : Input) (t : ℕ) (d : Acted) → d ≡ acted (step s i t) →
-    record { state = d.state; sensor = hears (take d.notes.count d.notes.records) z; answer = d.answer; notes = d.notes; telegram = Silent } ≡ joint_step (pair_step (pair_of s z) (Plain i) t)
+    record { state = d.state; sensor = hears (take d.notes.count d.notes.records) z; answer = d.answer; notes = d.notes; telegram = None } ≡ joint_step (pair_step (pair_of s z) (Plain i) t)
 unfolding acted joint_step pair_step
 plain_step s z i t d e = rw (e, used_notes (step s i t).records (an_input_writes_at_most_three s i t)) refl
 
@@ -49,7 +49,7 @@ plain_step s z i t d e = rw (e, used_notes (step s i t).records (an_input_writes
 
 pub switched_step : (s : State) (z : Sensor) (value : Bool) (d : Acting) → d ≡ acting (act (still s) (SwitchOnOff value)) →
     (timers : Notes) → timers.count ≤ 2 → (l : List Record) → timers ≡ notes l →
-    record { state = d.state; sensor = hears (listed d.note) z; answer = d.answer; notes = added timers d.note; telegram = Switch value } ≡ joint_step (switched_from s z l value)
+    record { state = d.state; sensor = hears (listed d.note) z; answer = d.answer; notes = added timers d.note; telegram = Some value } ≡ joint_step (switched_from s z l value)
 unfolding acting joint_step switched_from tell
 switched_step s z value d e timers room l f =
     let x : List Record = (act (still s) (SwitchOnOff value)).records in
@@ -66,12 +66,12 @@ module _ (s : State) (t : ℕ) (m : Clocked) (e : m ≡ clocked (clock_move s t)
     unfolding pair_move
     decided = f ∙ rw (g, moved_records s t m e) refl
 
-    pub silent_step : r.telegram ≡ Silent →
-        record { state = m.state; sensor = r.sensor; answer = 1; notes = m.notes; telegram = Silent } ≡ joint_step (pressed (pair_of s z) x t)
+    pub silent_step : r.telegram ≡ None →
+        record { state = m.state; sensor = r.sensor; answer = 1; notes = m.notes; telegram = None } ≡ joint_step (pressed (pair_of s z) x t)
     unfolding joint_step pressed told tell
     silent_step q = rw (← decided, q, moved_state s t m e, moved_notes s t m e) (unfold pair_move in refl)
 
-    pub telling_step : (value : Bool) → r.telegram ≡ Switch value → joint_step (switched_from m.state r.sensor (clock_move s t).records value) ≡ joint_step (pressed (pair_of s z) x t)
+    pub telling_step : (value : Bool) → r.telegram ≡ Some value → joint_step (switched_from m.state r.sensor (clock_move s t).records value) ≡ joint_step (pressed (pair_of s z) x t)
     unfolding switched_from pressed told tell
     telling_step value q = rw (← decided, q, moved_state s t m e) (unfold pair_move in refl)
 

@@ -1,20 +1,17 @@
 -- What the pair came to, as the code has it.
-use Rattle.std.specs.Prelude.{ℕ, Bool, List, [], ◌∷◌, get_or, take}
+use Rattle.pairs.specs.declared.item.Item.{Item}
+use Rattle.sensor.specs.declared.signal.Signal.{Signal}
+use Rattle.std.specs.Prelude.{ℕ, Bool, List, [], ◌∷◌, get_or, take, Option, Some, None}
 use Rattle.rules.specs.declared.record.Record.{Record}
 use Rattle.rules.specs.declared.state.State.{State}
 use Rattle.rules.specs.Calls.{blank}
 use Rattle.sensor.specs.declared.signal.Signal.TheVariants as signal
-use Rattle.sensor.specs.declared.signal.Signalled.{Signalled}
-use Rattle.sensor.specs.declared.signal.Signalled.TheVariants as signalled
 use Rattle.sensor.specs.declared.state.Sensor.{Sensor}
-use Rattle.sensor.specs.declared.react.Telegram.TheVariants.{Switch}
 use Rattle.sensor.specs.Reactions.{hear}
 use Rattle.sensor.specs.Calls.{telegram_octets}
 use Rattle.records.specs.Notes.{notes}
 use Rattle.timers.specs.declared.clock.Clocked.{Clocked}
 use Rattle.pairs.specs.declared.item.Item.TheVariants.{Button1, Button2}
-use Rattle.pairs.specs.declared.item.Read.{Read}
-use Rattle.pairs.specs.declared.item.Read.TheVariants.{Known, Unknown}
 use Rattle.pairs.specs.declared.call.Joint.{Joint}
 use Rattle.pairs.specs.declared.call.JointMove.{JointMove}
 use Rattle.pairs.specs.Pairs.{pair_of, shows, hears, PairStepped, tell}
@@ -25,11 +22,11 @@ unfoldable pub heard : Record → Sensor → Sensor
 heard r z = hear z r.stamp (shows r)
 
 -- what means nothing to the actuator
-abbrev pub edge_in : Signalled → Read
-edge_in (signalled.Meant (signal.Button1 edge)) = Known (Button1 edge)
-edge_in (signalled.Meant (signal.Button2 edge)) = Known (Button2 edge)
-edge_in (signalled.Meant (signal.Status value)) = Unknown
-edge_in signalled.Wrong = Unknown
+abbrev pub edge_in : Option Signal → Option Item
+edge_in (Some (signal.Button1 edge)) = Some (Button1 edge)
+edge_in (Some (signal.Button2 edge)) = Some (Button2 edge)
+edge_in (Some (signal.Status value)) = None
+edge_in None = None
 
 -- a whole step
 unfoldable pub joint_step : PairStepped → JointStep
@@ -37,7 +34,7 @@ joint_step d = record { state = d.pair.actuator; sensor = d.pair.sensor; answer 
 
 -- a telegram that is played where timers wrote these records before it
 unfoldable pub switched_from : State → Sensor → List Record → Bool → PairStepped
-switched_from s z written value = tell (Switch value) (record { pair = pair_of s z; records = written }) z
+switched_from s z written value = tell (Some value) (record { pair = pair_of s z; records = written }) z
 
 -- what the calls hand out, with a code
 unfoldable pub joint_by : ℕ → ℕ → JointStep → Joint

@@ -4,7 +4,7 @@ ghost use Rattle.pairs.specs.Pairs.{hears};
 ghost use Rattle.records.specs.Notes.{listed};
 ghost use Rattle.joined.specs.Joints.{heard};
 
-use records::notes::{Note, Notes};
+use records::notes::Notes;
 use rules::record::Record;
 use sensor::react::hear;
 use sensor::state::Sensor;
@@ -17,12 +17,12 @@ fn hear_record(z: Sensor, r: Record) -> Sensor
 }
 
 // What a telegram wrote.
-pub fn hear_note(z: Sensor, x: Note) -> Sensor
+pub fn hear_note(z: Sensor, x: Option<Record>) -> Sensor
     ensures { result ≡ hears (listed x) z }
 {
     match x {
-        Note::Silent => z,
-        Note::Wrote(r) => hear_record(z, r),
+        None => z,
+        Some(r) => hear_record(z, r),
     }
 }
 

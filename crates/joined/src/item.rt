@@ -5,32 +5,32 @@ ghost use Rattle.pairs.specs.Items.{item_at};
 ghost use Rattle.joined.specs.Joints.{edge_in};
 
 use inputs::input_at;
-use pairs::item::{Item, Read};
-use rules::input::Decoded;
-use sensor::signal::{Signal, Signalled, signal_at};
+use pairs::item::Item;
+use rules::input::Input;
+use sensor::signal::{Signal, signal_at};
 
 // Where the actuator takes nothing, it may be an edge; a status has no place here.
-fn edge_in(s: Signalled) -> Read
+fn edge_in(s: Option<Signal>) -> Option<Item>
     ensures { result ≡ edge_in s }
 {
     match s {
-        Signalled::Meant(signal) => match signal {
-            Signal::Button1(edge) => Read::Known(Item::Button1(edge)),
-            Signal::Button2(edge) => Read::Known(Item::Button2(edge)),
-            Signal::Status(_) => Read::Unknown,
+        Some(signal) => match signal {
+            Signal::Button1(edge) => Some(Item::Button1(edge)),
+            Signal::Button2(edge) => Some(Item::Button2(edge)),
+            Signal::Status(_) => None,
         },
-        Signalled::Wrong => Read::Unknown,
+        None => None,
     }
 }
 
 // What the item that starts at a place means.
-pub fn item_at(octets: &[u8], at: usize) -> Read
+pub fn item_at(octets: &[u8], at: usize) -> Option<Item>
     requires { at + group_size ≤ length octets.now }
     ensures { result ≡ item_at octets.now at }
 {
     let meant = input_at(octets, at);
     match meant {
-        Decoded::Meant(i) => Read::Known(Item::Plain(i)),
-        Decoded::Wrong => edge_in(signal_at(octets, at)),
+        Some(i) => Some(Item::Plain(i)),
+        None => edge_in(signal_at(octets, at)),
     }
 }

@@ -15,11 +15,10 @@ use base::moment::stamp_in_range;
 use base::refusal::{Refusal, number_of};
 use octets::group::stamp_at;
 use pairs::call::{Joint, JointMove};
-use pairs::item::{Item, Read};
+use pairs::item::Item;
 use records::notes;
 use rules::state::State;
 use sensor::call::telegram_octets;
-use sensor::react::Telegram;
 use sensor::state::Sensor;
 use states::sound::is_sound;
 use timers::clock::{Clocked, move_clock};
@@ -61,7 +60,7 @@ fn refused(s: State, z: Sensor, why: Refusal) -> Joint
         sensor: z,
         answer: 0,
         notes: notes::none(),
-        telegram: Telegram::Silent,
+        telegram: None,
     };
     result(number_of(why), 0, unplayed)
 }
@@ -86,8 +85,8 @@ pub fn joined_input(s: State, z: Sensor, octets: [u8; 8]) -> Joint
         let stamp = stamp_at(&octets, 0);
         let meant = item_at(&octets, 0);
         match meant {
-            Read::Known(i) => stamped(s, z, i, stamp),
-            Read::Unknown => refused(s, z, Refusal::BadInput),
+            Some(i) => stamped(s, z, i, stamp),
+            None => refused(s, z, Refusal::BadInput),
         }
     } else {
         refused(s, z, Refusal::UnsoundState)

@@ -16,7 +16,7 @@ use records::notes;
 use records::notes::Notes;
 use rules::input::Input;
 use rules::state::State;
-use sensor::react::{Telegram, react};
+use sensor::react::react;
 use sensor::signal::Signal;
 use sensor::state::Sensor;
 use timers::clock::move_clock;
@@ -28,7 +28,7 @@ pub struct JointStep {
     pub sensor: Sensor,
     pub answer: u8,
     pub notes: Notes,
-    pub telegram: Telegram,
+    pub telegram: Option<bool>,
 }
 
 // A telegram is played at once, after the timers that wrote these records, and then its own record is heard.
@@ -44,7 +44,7 @@ fn switched(s: State, z: Sensor, timers: Notes, value: bool) -> JointStep
         sensor: hear_note(z, note),
         answer: d.answer,
         notes: notes::add(timers, note),
-        telegram: Telegram::Switch(value),
+        telegram: Some(value),
     }
 }
 
@@ -61,14 +61,14 @@ fn press(s: State, z: Sensor, signal: Signal, t: u32) -> JointStep
     let sensor = r.sensor;
     let telegram = r.telegram;
     match telegram {
-        Telegram::Silent => JointStep {
+        None => JointStep {
             state: moved,
             sensor,
             answer: 1,
             notes: timers,
-            telegram: Telegram::Silent,
+            telegram: None,
         },
-        Telegram::Switch(value) => switched(moved, sensor, timers, value),
+        Some(value) => switched(moved, sensor, timers, value),
     }
 }
 
@@ -85,7 +85,7 @@ fn play(s: State, z: Sensor, i: Input, t: u32) -> JointStep
         sensor: hear_notes(z, written),
         answer: d.answer,
         notes: written,
-        telegram: Telegram::Silent,
+        telegram: None,
     }
 }
 

@@ -1,9 +1,9 @@
 -- What the code hands out is what the rules say, by value.
+use Rattle.std.specs.Prelude.{Ok}
 use Prim.Native.Nat.{ℕ}
 use mathlib.Core.List.{List}
 use mathlib.Core.Path.{◌≡◌, refl}
 use lib.ListN.{length}
-use Rattle.base.specs.declared.refusal.Check.TheVariants.{Passed}
 use Rattle.rules.specs.declared.form.Form.{Form}
 use Rattle.rules.specs.Layout.{parameters_size}
 use Rattle.rules.specs.Steps.{Moved, Stepped}
@@ -25,5 +25,5 @@ unfolding move_of clocked notes move_done
 clocked_is_done m = rw (two_of_three m.records)
 
 -- accepted parameters have the octets of their row
-pub passed_length : (f : Form) (octets : List ℕ) → check_parameters f octets ≡ Passed → length octets ≡ parameters_size f
-passed_length f octets h = ((lowest_bad_octet f octets Passed).0 h).whole
+pub passed_length : (f : Form) (octets : List ℕ) → check_parameters f octets ≡ (Ok tt) → length octets ≡ parameters_size f
+passed_length f octets h = ((lowest_bad_octet f octets (Ok tt)).0 h).whole

@@ -2,7 +2,7 @@
 ghost use Rattle.std.specs.Prelude.{◌≡◌};
 ghost use Rattle.rules.specs.Calls.{fresh_call};
 
-use base::refusal::{Check, number_of};
+use base::refusal::{Refused, number_of};
 use layout::form_alone;
 use parameters::read::{check_parameters, params_of, scenes_of};
 use rules::call::Fresh;
@@ -15,7 +15,7 @@ pub fn fresh_state(octets: &[u8]) -> Fresh
     let form = form_alone(octets);
     let check = check_parameters(octets, form);
     match check {
-        Check::Passed => {
+        Ok(()) => {
             let s = fresh_with(params_of(octets, form), scenes_of(octets, form));
             Fresh {
                 state: s,
@@ -23,7 +23,7 @@ pub fn fresh_state(octets: &[u8]) -> Fresh
                 place: 0,
             }
         }
-        Check::Refused { why, place } => {
+        Err(Refused { why, place }) => {
             let s = own_state();
             Fresh {
                 state: s,

@@ -13,7 +13,7 @@ use inputs::input_at;
 use octets::group::stamp_at;
 use records::notes;
 use rules::call::Single;
-use rules::input::{Decoded, Input};
+use rules::input::Input;
 use rules::state::State;
 use states::sound::is_sound;
 
@@ -25,8 +25,8 @@ pub fn single_input(s: State, octets: [u8; 8]) -> Single
         let stamp = stamp_at(&octets, 0);
         let meant = input_at(&octets, 0);
         match meant {
-            Decoded::Meant(i) => stamped(s, i, stamp),
-            Decoded::Wrong => refused(s, Refusal::BadInput),
+            Some(i) => stamped(s, i, stamp),
+            None => refused(s, Refusal::BadInput),
         }
     } else {
         refused(s, Refusal::UnsoundState)

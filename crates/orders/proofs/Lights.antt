@@ -1,11 +1,10 @@
 -- An order to the light changes the phase alone, and the scene table where it is a lesson: what it asks for is granted.
+use Rattle.std.specs.Prelude.{Option, Some, None, Bool}
 use mathlib.Core.Bool.{true, false}
 use mathlib.Core.List.{List}
 use mathlib.Core.Path.{◌≡◌, refl, sym}
 use Rattle.rules.specs.declared.parameters.Params.{Params}
 use Rattle.rules.specs.declared.parameters.Scene.{Scene}
-use Rattle.rules.specs.declared.parameters.Recalled.{Recalled}
-use Rattle.rules.specs.declared.parameters.Recalled.TheVariants.{Nothing, Output}
 use Rattle.rules.specs.declared.phase.Phase.{Phase}
 use Rattle.rules.specs.declared.phase.Phase.TheVariants.{Dark, Lit, Starting, Timed, Warning, Ending}
 use Rattle.rules.specs.declared.input.Input.{Input}
@@ -39,11 +38,11 @@ module _ (p : Params) (k : List Scene) (l : Lamp) where
   stop_is_granted (Warning d) = refl
   stop_is_granted (Ending d) = refl
 
-  recall_is_granted : (found : Recalled) → lamp_of (recall (state_of p k l) found) ≡ grants (recall_asks found)
+  recall_is_granted : (found : Option Bool) → lamp_of (recall (state_of p k l) found) ≡ grants (recall_asks found)
   unfolding recall switch granted held
-  recall_is_granted Nothing = refl
-  recall_is_granted (Output true) = refl
-  recall_is_granted (Output false) = refl
+  recall_is_granted None = refl
+  recall_is_granted (Some true) = refl
+  recall_is_granted (Some false) = refl
 
   pub light_is_granted : (i : Input) → is_light i ≡ true → lamp_of (order (state_of p k l) i) ≡ lamp_of (with_phase (alone l) (light_phase p k l i))
   unfolding light_phase asks order switch timed scene scene_asks granted held

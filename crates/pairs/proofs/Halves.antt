@@ -1,9 +1,9 @@
 -- The pair brings in no rule of its own: its actuator is the actuator over the cues and telegrams, its sensor the sensor over the records and
 -- edges.
+use Rattle.std.specs.Prelude.{Some, None, Option}
 use Prim.Native.Nat.{ℕ, ◌≤◌}
 use mathlib.Core.Bool.{Bool}
 use mathlib.Core.List.{List, [], ◌∷◌, ◌++◌}
-use mathlib.Core.Option.{Option, some, none}
 use mathlib.Core.Path.{◌≡◌, refl, sym, ap, ◌∙◌}
 use native.Mathlib.Omega.{arith}
 use Rattle.rules.specs.declared.parameters.Params.{Params}
@@ -19,8 +19,6 @@ use Rattle.rules.proofs.Laws.Lists.{acts_after_the_move, plays_to_next}
 use Rattle.sensor.specs.declared.signal.Signal.{Signal}
 use Rattle.sensor.specs.declared.signal.Signal.TheVariants as signal
 use Rattle.sensor.specs.declared.state.Sensor.{Sensor}
-use Rattle.sensor.specs.declared.react.Telegram.{Telegram}
-use Rattle.sensor.specs.declared.react.Telegram.TheVariants.{Silent, Switch}
 use Rattle.sensor.specs.declared.react.Reaction.{Reaction}
 use Rattle.sensor.specs.Reactions.{hear, react, Stamped, at, reacts}
 use Rattle.sensor.proofs.LastValue.{one_part_then_the_other}
@@ -72,8 +70,8 @@ moved_by m = record { state = m.state; answer = 1; records = m.records }
 
 -- an item gives the actuator nothing but the time, or a cue at its own stamp
 abbrev StepGiven : State → ℕ → Stepped → Option Cue → Type 0
-StepGiven s t d none = d ≡ moved_by (clock_move s t)
-StepGiven s t d (some (cue u i)) = (u ≡ t) × (d ≡ step s i t)
+StepGiven s t d None = d ≡ moved_by (clock_move s t)
+StepGiven s t d (Some (cue u i)) = (u ≡ t) × (d ≡ step s i t)
 
 -- the one step of what was played
 abbrev only_answer : List ℕ → ℕ
@@ -84,12 +82,12 @@ abbrev only_step : Played → Stepped
 only_step a = record { state = a.state; answer = only_answer a.answers; records = a.records }
 
 -- a telegram's step after the clock move is the step of its cue
-tell_given : (p : Pair) (t : ℕ) (z : Sensor) (sent : Telegram) →
+tell_given : (p : Pair) (t : ℕ) (z : Sensor) (sent : Option Bool) →
     let d : PairStepped = tell sent (pair_move p t) z in
     StepGiven p.actuator t (actuator_step d) (cue_of t (sent_as d.telegram))
 unfolding tell pair_move
-tell_given p t z Silent = refl
-tell_given p t z (Switch value) = (refl, unfold step in sym (ap only_step (acts_after_the_move (clock_move p.actuator t) (SwitchOnOff value))))
+tell_given p t z None = refl
+tell_given p t z (Some value) = (refl, unfold step in sym (ap only_step (acts_after_the_move (clock_move p.actuator t) (SwitchOnOff value))))
 
 pressed_given : (p : Pair) (t : ℕ) (s : Signal) → StepGiven p.actuator t (actuator_step (pressed p s t)) (cue_of t (sent_as (pressed p s t).telegram))
 unfolding pressed told
@@ -103,9 +101,9 @@ pressed_gives P p t s f g = by r.telegram
     r : Reaction
     r = react (pair_move p t).pair.sensor s t
 
-    by : (sent : Telegram) → P (actuator_step (tell sent (pair_move p t) r.sensor))
-    by Silent = unfold pair_move in f
-    by (Switch value) = rw (tell_given p t r.sensor (Switch value)).1 (g value)
+    by : (sent : Option Bool) → P (actuator_step (tell sent (pair_move p t) r.sensor))
+    by None = unfold pair_move in f
+    by (Some value) = rw (tell_given p t r.sensor (Some value)).1 (g value)
 
 -- the inputs that an item may give the actuator
 abbrev pub MayGive : Item → Input → Type 0
@@ -136,8 +134,8 @@ rises_earlier last t (cue u i ∷ later) end h r = (omega (arith, r.0), r.1)
 
 next_rises : (last t end : ℕ) (s : State) (d : Stepped) (x : Option Cue) (later : List (Option Cue)) → StepGiven s t d x → last ≤ t → Rises t (given later) end → Rises last (given (x ∷ later)) end
 unfolding given
-next_rises last t end s d none later g h r = rises_earlier last t (given later) end h r
-next_rises last t end s d (some (cue u i)) later g h r = rw g.0 (h, r)
+next_rises last t end s d None later g h r = rises_earlier last t (given later) end h r
+next_rises last t end s d (Some (cue u i)) later g h r = rw g.0 (h, r)
 
 -- what the actuator is given rises as the list does
 pub cues_rise : (last end : ℕ) (items : List Listed) (p : Pair) → ItemsRise last items end → Rises last (given (cues_for items p)) end
@@ -150,13 +148,13 @@ cues_rise last end (listed t i ∷ later) p r =
 next_half : (t end : ℕ) (p : Pair) (d : PairStepped) (x : Option Cue) (cues : List (Option Cue)) (b : PairPlayed) → StepGiven p.actuator t (actuator_step d) x → Rises t (given cues) end →
     ActuatorHalf cues b (plays_to end (given cues) d.pair.actuator) → ActuatorHalf (x ∷ cues) (pair_then (pair_stepped d) (λ _. b)) (plays_to end (given (x ∷ cues)) p.actuator)
 unfolding given answered
-next_half t end p d none cues b g r h =
+next_half t end p d None cues b g r h =
     let s : d.pair.actuator ≡ (clock_move p.actuator t).state = ap (λ (x : Stepped). x.state) g in
     let l : d.records ≡ (clock_move p.actuator t).records = ap (λ (x : Stepped). x.records) g in
     let a : d.answer ≡ 1 = ap (λ (x : Stepped). x.answer) g in
     let h = rw s at h in
     rw (← plays_by_way_of t end (given cues) p.actuator (next_is_later t (given cues) end r)) (record { state = h.state; records = rw (l, h.records) refl; answers = rw (a, h.answers) refl })
-next_half t end p d (some (cue u i)) cues b g r h =
+next_half t end p d (Some (cue u i)) cues b g r h =
     let s : d.pair.actuator ≡ (step p.actuator i t).state = ap (λ (x : Stepped). x.state) g.1 in
     let l : d.records ≡ (step p.actuator i t).records = ap (λ (x : Stepped). x.records) g.1 in
     let a : d.answer ≡ (step p.actuator i t).answer = ap (λ (x : Stepped). x.answer) g.1 in
@@ -182,11 +180,11 @@ the_run_is_the_actuators k scenes z items end r =
 
 -- ---- the sensor's half
 
-spoken_append : (a b : List Telegram) → spoken (a ++ b) ≡ spoken a ++ spoken b
+spoken_append : (a b : List (Option Bool)) → spoken (a ++ b) ≡ spoken a ++ spoken b
 unfolding spoken
 spoken_append [] b = refl
-spoken_append (Silent ∷ a) b = spoken_append a b
-spoken_append (Switch value ∷ a) b = rw (spoken_append a b) refl
+spoken_append (None ∷ a) b = spoken_append a b
+spoken_append (Some value ∷ a) b = rw (spoken_append a b) refl
 
 -- a record heard is a status taken, and nothing is sent
 pub records_are_statuses : (l : List Record) (z : Sensor) → ((reacts (statuses l) z).sensor ≡ hears l z) × (spoken (reacts (statuses l) z).telegrams ≡ [])
@@ -206,18 +204,18 @@ halves_join a b early late z h k =
     (record { sensor = k.sensor; sent = spoken_append a.telegrams b.telegrams ∙ rw (h.sent, k.sent) refl ∙ sym (spoken_append (reacts early z).telegrams _) })
 
 -- an edge, then the record of its telegram
-tell_heard : (sent : Telegram) (m : PairMoved) (y z : Sensor) (s : Signal) (t : ℕ) → react y s t ≡ record { sensor = z; telegram = sent } →
+tell_heard : (sent : Option Bool) (m : PairMoved) (y z : Sensor) (s : Signal) (t : ℕ) → react y s t ≡ record { sensor = z; telegram = sent } →
     SensorHalf (pair_stepped (tell sent m z)) (reacts (at t s ∷ statuses (recorded_by sent m)) y)
 unfolding tell reacts spoken
-tell_heard Silent m y z s t e = unfold statuses in rw e (record { sensor = refl; sent = refl })
-tell_heard (Switch value) m y z s t e =
+tell_heard None m y z s t e = unfold statuses in rw e (record { sensor = refl; sent = refl })
+tell_heard (Some value) m y z s t e =
     let h = records_are_statuses (act (still m.pair.actuator) (SwitchOnOff value)).records z in
     rw e (record { sensor = sym h.0; sent = rw h.1 refl })
 
-tell_sends : (sent : Telegram) (m : PairMoved) (z : Sensor) → (tell sent m z).telegram ≡ sent
+tell_sends : (sent : Option Bool) (m : PairMoved) (z : Sensor) → (tell sent m z).telegram ≡ sent
 unfolding tell
-tell_sends Silent m z = refl
-tell_sends (Switch value) m z = refl
+tell_sends None m z = refl
+tell_sends (Some value) m z = refl
 
 -- it sends what the sensor sends
 pub pressed_sends : (p : Pair) (s : Signal) (t : ℕ) → (pressed p s t).telegram ≡ (react (pair_move p t).pair.sensor s t).telegram

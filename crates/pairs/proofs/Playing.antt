@@ -1,4 +1,5 @@
 -- Laws of the pair: what it hears, an item after the clock move, lists in two parts, and a way by an earlier moment.
+use Rattle.std.specs.Prelude.{Option, Some, None, Bool}
 use Prim.Native.Nat.{ℕ, ◌≤◌}
 use mathlib.Core.List.{List, [], ◌∷◌, ◌++◌, append_assoc, append-nil}
 use mathlib.Core.Path.{◌≡◌, refl, sym, ap, ◌∙◌}
@@ -13,8 +14,6 @@ use Rattle.rules.proofs.Laws.Timers.{no_timer_due_no_move, moves_compose}
 use Rattle.rules.proofs.Laws.Lists.{acts_after_the_move}
 use Rattle.sensor.specs.declared.signal.Signal.TheVariants as signal
 use Rattle.sensor.specs.declared.state.Sensor.{Sensor}
-use Rattle.sensor.specs.declared.react.Telegram.{Telegram}
-use Rattle.sensor.specs.declared.react.Telegram.TheVariants.{Silent, Switch}
 use Rattle.sensor.specs.declared.react.Reaction.{Reaction}
 use Rattle.sensor.specs.Reactions.{hear, react}
 use Rattle.pairs.specs.declared.item.Item.{Item}
@@ -80,16 +79,16 @@ pair_plays_to_end end p = refl
 heard_after_the_move : (m : Moved) (i : Input) (z : Sensor) →
     pair_stepped (heard_step (act m i) z) ≡ pair_then (pair_moved (heard_move m z)) (λ x. pair_stepped (heard_step (act (still x.actuator) i) x.sensor))
 heard_after_the_move m i z =
-    let heard : Played → PairPlayed = λ a. record { pair = pair_of a.state (hears a.records z); answers = a.answers; records = a.records; telegrams = Silent ∷ [] } in
+    let heard : Played → PairPlayed = λ a. record { pair = pair_of a.state (hears a.records z); answers = a.answers; records = a.records; telegrams = None ∷ [] } in
     ap heard (acts_after_the_move m i) ∙ rw (hears_append m.records (act (still m.state) i).records z) refl
 
 told_after_the_move : (m : PairMoved) (r : Reaction) → pair_stepped (told m r) ≡ pair_then (pair_moved m) (λ x. pair_stepped (told (pair_still x) r))
 unfolding told
 told_after_the_move m r = by r.telegram
   where
-    by : (sent : Telegram) → pair_stepped (tell sent m r.sensor) ≡ pair_then (pair_moved m) (λ x. pair_stepped (tell sent (pair_still x) r.sensor))
-    by Silent = unfold tell in simp append-nil
-    by (Switch value) = unfold tell in refl
+    by : (sent : Option Bool) → pair_stepped (tell sent m r.sensor) ≡ pair_then (pair_moved m) (λ x. pair_stepped (tell sent (pair_still x) r.sensor))
+    by None = unfold tell in simp append-nil
+    by (Some value) = unfold tell in refl
 
 -- "the actuator's clock first moves": all that the item adds comes after the records of the move
 pub an_item_comes_after_the_timers : (p : Pair) (i : Item) (t : ℕ) → pair_stepped (pair_step p i t) ≡ pair_then (pair_moved (pair_move p t)) (λ x. pair_stepped (pair_act t x i))

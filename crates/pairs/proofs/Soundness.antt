@@ -1,4 +1,5 @@
 -- A sound pair stays sound: what is recorded is stamped in order, from the clock of the actuator on, and so the sensor's clock follows it.
+use Rattle.std.specs.Prelude.{Option, Some, None, Bool}
 use Prim.Native.Nat.{ℕ, ◌≤◌}
 use mathlib.Core.Bool.{true, ◌&&◌}
 use mathlib.Core.List.{List, [], ◌∷◌, ◌++◌}
@@ -32,8 +33,6 @@ use Rattle.rules.proofs.Promises.Stamps.{step_records}
 use Rattle.sensor.specs.declared.signal.Signal.{Signal}
 use Rattle.sensor.specs.declared.signal.Signal.TheVariants as signal
 use Rattle.sensor.specs.declared.state.Sensor.{Sensor}
-use Rattle.sensor.specs.declared.react.Telegram.{Telegram}
-use Rattle.sensor.specs.declared.react.Telegram.TheVariants.{Silent, Switch}
 use Rattle.sensor.specs.declared.react.Reaction.{Reaction}
 use Rattle.sensor.specs.Sensors.{sound_sensor}
 use Rattle.sensor.specs.Reactions.{hear, react}
@@ -154,9 +153,9 @@ module _ (p : Pair) (t : ℕ) (safe : SoundPair p) (later : p.actuator.clock ≤
       there : (pair_move p t).pair.actuator.clock ≡ t
       there = unfold pair_move in move_clock p.actuator t
 
-      by : (sent : Telegram) → InTime (tell sent (pair_move p t) r.sensor).pair.sensor
-      by Silent = unfold tell in (omega (arith, here, safe.behind, later), omega (arith, here))
-      by (Switch value) =
+      by : (sent : Option Bool) → InTime (tell sent (pair_move p t) r.sensor).pair.sensor
+      by None = unfold tell in (omega (arith, here, safe.behind, later), omega (arith, here))
+      by (Some value) =
           let h = heard_from t (act (still (pair_move p t).pair.actuator) (SwitchOnOff value)).records r.sensor t (omega (arith, here)) (rw there at (acted_in_order (pair_move p t).pair.actuator (SwitchOnOff value))) in
           unfold tell in (omega (arith, here, safe.behind, later, h.0), h.1)
 

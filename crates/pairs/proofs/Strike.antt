@@ -1,4 +1,5 @@
 -- "a silent edge (action 0) may be struck and nothing else changes": it leaves the pair at its stamp, and the sensor's clock alone can tell.
+use Rattle.std.specs.Prelude.{Option, Some, None}
 use Prim.Native.Nat.{ℕ}
 use mathlib.Core.Bool.{Bool}
 use mathlib.Core.List.{List, [], ◌∷◌, ◌++◌}
@@ -10,8 +11,6 @@ use Rattle.sensor.specs.declared.signal.Edge.TheVariants.{Falling, Rising}
 use Rattle.sensor.specs.declared.signal.Signal.{Signal}
 use Rattle.sensor.specs.declared.signal.Signal.TheVariants as signal
 use Rattle.sensor.specs.declared.state.Sensor.{Sensor}
-use Rattle.sensor.specs.declared.react.Telegram.{Telegram}
-use Rattle.sensor.specs.declared.react.Telegram.TheVariants.{Silent, Switch}
 use Rattle.sensor.specs.declared.react.Reaction.{Reaction}
 use Rattle.sensor.specs.Reactions.{hear, press, react}
 use Rattle.sensor.specs.Claims.{value_of, last_of}
@@ -68,10 +67,10 @@ equal_is_alike : (a b : PairPlayed) → a ≡ b → Alike a b
 equal_is_alike a b e = rw e (record { actuator = refl; sensor = record { same = refl }; answers = refl; records = refl; telegrams = refl })
 
 -- an edge is decided by what is heard, and so it is the same
-tell_asks_no_sensor : (sent : Telegram) (s : State) (x y z : Sensor) (l : List Record) → tell sent (record { pair = pair_of s x; records = l }) z ≡ tell sent (record { pair = pair_of s y; records = l }) z
+tell_asks_no_sensor : (sent : Option Bool) (s : State) (x y z : Sensor) (l : List Record) → tell sent (record { pair = pair_of s x; records = l }) z ≡ tell sent (record { pair = pair_of s y; records = l }) z
 unfolding tell
-tell_asks_no_sensor Silent s x y z l = refl
-tell_asks_no_sensor (Switch value) s x y z l = refl
+tell_asks_no_sensor None s x y z l = refl
+tell_asks_no_sensor (Some value) s x y z l = refl
 
 same_press : (s : State) (y z : Sensor) → SameButClock y z → (i : Signal) (t : ℕ) → pressed (pair_of s y) i t ≡ pressed (pair_of s z) i t
 unfolding pressed told pair_move
@@ -105,18 +104,18 @@ plays_alike end (listed t (Button2 edge) ∷ later) s y z alike =
 -- ---- a silent edge
 
 -- it leaves what the clock move leaves, but for the sensor's clock
-silence_told : (m : PairMoved) (r : Reaction) → r.telegram ≡ Silent → told m r ≡ record { pair = pair_of m.pair.actuator r.sensor; answer = 1; records = m.records; telegram = Silent }
+silence_told : (m : PairMoved) (r : Reaction) → r.telegram ≡ None → told m r ≡ record { pair = pair_of m.pair.actuator r.sensor; answer = 1; records = m.records; telegram = None }
 unfolding told tell
 silence_told m r silent = rw silent refl
 
 abbrev pub moved_only : PairMoved → ℕ → PairStepped
-moved_only m t = record { pair = pair_of m.pair.actuator (hear m.pair.sensor t m.pair.sensor.value); answer = 1; records = m.records; telegram = Silent }
+moved_only m t = record { pair = pair_of m.pair.actuator (hear m.pair.sensor t m.pair.sensor.value); answer = 1; records = m.records; telegram = None }
 
-silent_press : (p : Pair) (s : Signal) (t : ℕ) → value_of s Silent ≡ [] → (pressed p s t).telegram ≡ Silent → pressed p s t ≡ moved_only (pair_move p t) t
+silent_press : (p : Pair) (s : Signal) (t : ℕ) → value_of s None ≡ [] → (pressed p s t).telegram ≡ None → pressed p s t ≡ moved_only (pair_move p t) t
 unfolding pressed
 silent_press p s t edge silent =
     let z : Sensor = (pair_move p t).pair.sensor in
-    let e : (react z s t).telegram ≡ Silent = sym (pressed_sends p s t) ∙ silent in
+    let e : (react z s t).telegram ≡ None = sym (pressed_sends p s t) ∙ silent in
     let heard : (react z s t).sensor ≡ hear z t z.value = a_reaction_hears z s t ∙ rw e (rw edge (unfold last_of in refl)) in
     silence_told (pair_move p t) (react z s t) e ∙ rw heard refl
 

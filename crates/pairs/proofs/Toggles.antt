@@ -1,4 +1,5 @@
 -- A toggle sends the inverse of the last record heard, or of what was sent after it, though that was dropped.
+use Rattle.std.specs.Prelude.{Option, Some}
 use Prim.Native.Nat.{ℕ}
 use mathlib.Core.Bool.{Bool, true, not}
 use mathlib.Core.List.{List, [], ◌∷◌, ◌++◌}
@@ -13,8 +14,6 @@ use Rattle.sensor.specs.declared.signal.Edge.TheVariants.{Falling, Rising}
 use Rattle.sensor.specs.declared.signal.Signal.{Signal}
 use Rattle.sensor.specs.declared.signal.Signal.TheVariants as signal
 use Rattle.sensor.specs.declared.state.Sensor.{Sensor}
-use Rattle.sensor.specs.declared.react.Telegram.{Telegram}
-use Rattle.sensor.specs.declared.react.Telegram.TheVariants.{Switch}
 use Rattle.sensor.specs.declared.react.Reaction.{Reaction}
 use Rattle.sensor.specs.Reactions.{hear, press, react}
 use Rattle.sensor.specs.Claims.{value_of, last_of}
@@ -48,7 +47,7 @@ moved_toggles p t i e = hears_toggle _ p.sensor i e
 -- ---- a toggle
 
 -- a press of a toggle sends the inverse of what is known once the clock has moved
-pub a_toggle_inverts : (p : Pair) (i : Item) (t : ℕ) → Toggles p.sensor i → (pair_step p i t).telegram ≡ Switch (not (pair_move p t).pair.sensor.value)
+pub a_toggle_inverts : (p : Pair) (i : Item) (t : ℕ) → Toggles p.sensor i → (pair_step p i t).telegram ≡ Some (not (pair_move p t).pair.sensor.value)
 unfolding pair_step
 a_toggle_inverts p (Button1 edge) t e = pressed_sends p (signal.Button1 edge) t ∙ unfold react press in rw (moved_toggles p t (Button1 edge) e) refl
 a_toggle_inverts p (Button2 edge) t e = pressed_sends p (signal.Button2 edge) t ∙ unfold react press in rw (moved_toggles p t (Button2 edge) e) refl
@@ -59,16 +58,16 @@ last_heard earlier r z = ap (λ (x : Sensor). x.value) (hears_one_more earlier r
 
 -- where the timers have written anything, the last of it decides, also what they wrote at the very stamp of the press
 pub a_toggle_inverts_the_last_record : (p : Pair) (i : Item) (t : ℕ) (earlier : List Record) (r : Record) → Toggles p.sensor i → (pair_move p t).records ≡ earlier ++ (r ∷ []) →
-    (pair_step p i t).telegram ≡ Switch (not (shows r))
+    (pair_step p i t).telegram ≡ Some (not (shows r))
 a_toggle_inverts_the_last_record p i t earlier r e wrote =
-    a_toggle_inverts p i t e ∙ ap (λ (last : Bool). Switch (not last)) (ap (λ (x : Sensor). x.value) heard ∙ last_heard earlier r p.sensor)
+    a_toggle_inverts p i t e ∙ ap (λ (last : Bool). Some (not last)) (ap (λ (x : Sensor). x.value) heard ∙ last_heard earlier r p.sensor)
   where
     heard : (pair_move p t).pair.sensor ≡ hears (earlier ++ (r ∷ [])) p.sensor
     heard = unfold pair_move in ap (λ (l : List Record). hears l p.sensor) (unfold pair_move in wrote)
 
 -- so a press at the stamp at which a timer puts the light out sends On
 pub a_toggle_after_the_light_went_out_sends_on : (p : Pair) (i : Item) (t : ℕ) (earlier : List Record) (r : Record) → Toggles p.sensor i → (pair_move p t).records ≡ earlier ++ (r ∷ []) → r.value ≡ 0 →
-    (pair_step p i t).telegram ≡ Switch true
+    (pair_step p i t).telegram ≡ Some true
 a_toggle_after_the_light_went_out_sends_on p i t earlier r e wrote dark = a_toggle_inverts_the_last_record p i t earlier r e wrote ∙ rw dark refl
 
 -- ---- a telegram that is dropped
@@ -79,31 +78,31 @@ unfolding pair_move
 nothing_recorded_nothing_heard p t none = rw none (unfold hears in refl)
 
 -- a dropped telegram records nothing, so the sensor is as the send has left it
-dropped_records_nothing : (m : PairMoved) (z : Sensor) (value : Bool) (why : Why) → barrier m.pair.actuator (SwitchOnOff value) ≡ Stopped why → (tell (Switch value) m z).pair.sensor ≡ z
+dropped_records_nothing : (m : PairMoved) (z : Sensor) (value : Bool) (why : Why) → barrier m.pair.actuator (SwitchOnOff value) ≡ Stopped why → (tell (Some value) m z).pair.sensor ≡ z
 unfolding tell act meet hears
 dropped_records_nothing m z value why stops = rw stops refl
 
-dropped_is_not_heard : (p : Pair) (s : Signal) (t : ℕ) (value : Bool) (why : Why) → (pressed p s t).telegram ≡ Switch value → barrier (clock_move p.actuator t).state (SwitchOnOff value) ≡ Stopped why →
+dropped_is_not_heard : (p : Pair) (s : Signal) (t : ℕ) (value : Bool) (why : Why) → (pressed p s t).telegram ≡ Some value → barrier (clock_move p.actuator t).state (SwitchOnOff value) ≡ Stopped why →
     (pressed p s t).pair.sensor ≡ (react (pair_move p t).pair.sensor s t).sensor
 unfolding pressed told
 dropped_is_not_heard p s t value why sent stops =
     let r : Reaction = react (pair_move p t).pair.sensor s t in
-    let e : r.telegram ≡ Switch value = sym (pressed_sends p s t) ∙ sent in
+    let e : r.telegram ≡ Some value = sym (pressed_sends p s t) ∙ sent in
     let there : barrier (pair_move p t).pair.actuator (SwitchOnOff value) ≡ Stopped why = unfold pair_move in stops in
-    ap (λ (x : Telegram). (tell x (pair_move p t) r.sensor).pair.sensor) e ∙ dropped_records_nothing (pair_move p t) r.sensor value why there
+    ap (λ (x : Option Bool). (tell x (pair_move p t) r.sensor).pair.sensor) e ∙ dropped_records_nothing (pair_move p t) r.sensor value why there
 
 -- it was sent all the same
-sent_all_the_same : (p : Pair) (s : Signal) (t u : ℕ) (value : Bool) (why : Why) (j : Item) → value_of s (Switch value) ≡ value ∷ [] → Toggles p.sensor j →
-    (pressed p s t).telegram ≡ Switch value → barrier (clock_move p.actuator t).state (SwitchOnOff value) ≡ Stopped why →
-    (pair_move (pressed p s t).pair u).records ≡ [] → (pair_step (pressed p s t).pair j u).telegram ≡ Switch (not value)
+sent_all_the_same : (p : Pair) (s : Signal) (t u : ℕ) (value : Bool) (why : Why) (j : Item) → value_of s (Some value) ≡ value ∷ [] → Toggles p.sensor j →
+    (pressed p s t).telegram ≡ Some value → barrier (clock_move p.actuator t).state (SwitchOnOff value) ≡ Stopped why →
+    (pair_move (pressed p s t).pair u).records ≡ [] → (pair_step (pressed p s t).pair j u).telegram ≡ Some (not value)
 sent_all_the_same p s t u value why j edge toggles sent stops none =
     let z : Sensor = (pair_move p t).pair.sensor in
     let same = dropped_is_not_heard p s t value why sent stops in
-    let telegram : (react z s t).telegram ≡ Switch value = sym (pressed_sends p s t) ∙ sent in
+    let telegram : (react z s t).telegram ≡ Some value = sym (pressed_sends p s t) ∙ sent in
     let last : (react z s t).sensor.value ≡ value = reaction_keeps_the_last z s t ∙ rw telegram (rw edge (unfold last_of in refl)) in
     let still-toggles : Toggles (pressed p s t).pair.sensor j = rw (same, a_reaction_hears z s t) (heard_toggles z t _ j (moved_toggles p t j toggles)) in
     a_toggle_inverts (pressed p s t).pair j u still-toggles
-    ∙ ap (λ (last : Bool). Switch (not last)) (ap (λ (x : Sensor). x.value) (nothing_recorded_nothing_heard (pressed p s t).pair u none ∙ same) ∙ last)
+    ∙ ap (λ (last : Bool). Some (not last)) (ap (λ (x : Sensor). x.value) (nothing_recorded_nothing_heard (pressed p s t).pair u none ∙ same) ∙ last)
 
 pub dropped_still_toggles : (p : Pair) → DroppedStillToggles p
 dropped_still_toggles p (Button1 edge) j t u why first second value sent stops none =

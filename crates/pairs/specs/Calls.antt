@@ -1,16 +1,14 @@
 -- The public calls of the pair, by value: their whole results, for every input (02, [1]: "6, 7 and 9 as for the actuator").
-use Rattle.std.specs.Prelude.{ℕ, Bool, cond, ◌&&◌, List, [], length, leb}
+use Rattle.pairs.specs.declared.item.Item.{Item}
+use Rattle.std.specs.Prelude.{ℕ, Bool, cond, ◌&&◌, List, [], length, leb, Option, Some, None}
 use Rattle.octets.specs.Groups.{stamp_at}
 use Rattle.base.specs.declared.refusal.Refusal.{Refusal}
 use Rattle.base.specs.declared.refusal.Refusal.TheVariants.{BadInput, BadStamp, UnsoundState}
 use Rattle.base.specs.Refusals.{number, stamp_in_range}
 use Rattle.rules.specs.Calls.{places}
 use Rattle.rules.specs.Soundness.{sound}
-use Rattle.sensor.specs.declared.react.Telegram.TheVariants.{Silent}
 use Rattle.sensor.specs.Sensors.{sound_sensor}
 use Rattle.sensor.specs.Calls.{telegram_octets}
-use Rattle.pairs.specs.declared.item.Read.{Read}
-use Rattle.pairs.specs.declared.item.Read.TheVariants.{Known, Unknown}
 use Rattle.pairs.specs.declared.call.Joint.{Joint}
 use Rattle.pairs.specs.declared.call.JointMove.{JointMove}
 use Rattle.pairs.specs.Items.{item_at}
@@ -38,12 +36,12 @@ joint_done t d =
 -- a refused call hands back both states, and sends nothing
 unfoldable pub joint_refused : Pair → Refusal → Joint
 joint_refused p why =
-    record { state = p.actuator; sensor = p.sensor; code = number why; place = 0; answer = 0; count = 0; records = places 3 []; sent = telegram_octets 0 Silent }
+    record { state = p.actuator; sensor = p.sensor; code = number why; place = 0; answer = 0; count = 0; records = places 3 []; sent = telegram_octets 0 None }
 
 -- 6, then 7 by the actuator's clock, then played
-unfoldable pub joint_meant : Pair → ℕ → Read → Joint
-joint_meant p stamp Unknown = joint_refused p BadInput
-joint_meant p stamp (Known i) = cond (stamp_in_range p.actuator.clock stamp) (joint_done stamp (pair_step p i stamp)) (joint_refused p BadStamp)
+unfoldable pub joint_meant : Pair → ℕ → Option Item → Joint
+joint_meant p stamp None = joint_refused p BadInput
+joint_meant p stamp (Some i) = cond (stamp_in_range p.actuator.clock stamp) (joint_done stamp (pair_step p i stamp)) (joint_refused p BadStamp)
 
 -- "For a single input 9, 6, 7, place 0."
 unfoldable pub joint_call : Pair → List ℕ → Joint

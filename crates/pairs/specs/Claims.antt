@@ -1,6 +1,6 @@
 -- What else is claimed of the pair: timers before presses, ties in list order, dropped telegrams that still toggle, silent edges that may be
 -- struck. Proved in proofs/Ties.antt, Toggles.antt and Strike.antt.
-use Rattle.std.specs.Prelude.{ℕ, Bool, not, List, [], ◌∷◌, ◌++◌, ◌≡◌}
+use Rattle.std.specs.Prelude.{ℕ, Bool, not, List, [], ◌∷◌, ◌++◌, ◌≡◌, Option, Some, None}
 use Rattle.rules.specs.declared.barrier.Why.{Why}
 use Rattle.rules.specs.declared.barrier.Barrier.TheVariants.{Stopped}
 use Rattle.rules.specs.declared.input.Input.TheVariants.{SwitchOnOff}
@@ -10,8 +10,6 @@ use Rattle.rules.specs.Lists.{still}
 use Rattle.sensor.specs.declared.action.Action.TheVariants.{SendInverse}
 use Rattle.sensor.specs.declared.signal.Signal.TheVariants as signal
 use Rattle.sensor.specs.declared.state.Sensor.{Sensor}
-use Rattle.sensor.specs.declared.react.Telegram.{Telegram}
-use Rattle.sensor.specs.declared.react.Telegram.TheVariants.{Silent, Switch}
 use Rattle.sensor.specs.Reactions.{hear, action_of_edge1, action_of_edge2, react}
 use Rattle.pairs.specs.declared.item.Item.{Item}
 use Rattle.pairs.specs.declared.item.Item.TheVariants.{Plain, Button1, Button2}
@@ -56,16 +54,16 @@ Toggles z (Button2 edge) = action_of_edge2 z edge ≡ SendInverse
 abbrev pub DroppedStillToggles : Pair → Type 0
 DroppedStillToggles p =
     (i j : Item) (t u : ℕ) (why : Why) → Toggles p.sensor i → Toggles p.sensor j →
-    (value : Bool) → (pair_step p i t).telegram ≡ Switch value → barrier (clock_move p.actuator t).state (SwitchOnOff value) ≡ Stopped why →
-    (pair_move (pair_step p i t).pair u).records ≡ [] → (pair_step (pair_step p i t).pair j u).telegram ≡ Switch (not value)
+    (value : Bool) → (pair_step p i t).telegram ≡ Some value → barrier (clock_move p.actuator t).state (SwitchOnOff value) ≡ Stopped why →
+    (pair_move (pair_step p i t).pair u).records ≡ [] → (pair_step (pair_step p i t).pair j u).telegram ≡ Some (not value)
 
 -- ---- a silent edge
 
 -- an edge that sends nothing
 abbrev pub IsSilent : Pair → ℕ → Item → Type 0
 IsSilent p t (Plain i) = ⊥
-IsSilent p t (Button1 edge) = (pair_step p (Button1 edge) t).telegram ≡ Silent
-IsSilent p t (Button2 edge) = (pair_step p (Button2 edge) t).telegram ≡ Silent
+IsSilent p t (Button1 edge) = (pair_step p (Button1 edge) t).telegram ≡ None
+IsSilent p t (Button2 edge) = (pair_step p (Button2 edge) t).telegram ≡ None
 
 -- two sensors that differ in nothing but the clock, which shows when each last took something
 pub record SameButClock (y z : Sensor) : Type 0 where
@@ -79,8 +77,8 @@ pub record Struck (before whole struck : PairPlayed) : Type 0 where
   pub answers_later : List ℕ
   pub whole_answers : whole.answers ≡ before.answers ++ (1 ∷ answers_later)
   pub struck_answers : struck.answers ≡ before.answers ++ answers_later
-  pub telegrams_later : List Telegram
-  pub whole_telegrams : whole.telegrams ≡ before.telegrams ++ (Silent ∷ telegrams_later)
+  pub telegrams_later : List (Option Bool)
+  pub whole_telegrams : whole.telegrams ≡ before.telegrams ++ (None ∷ telegrams_later)
   pub struck_telegrams : struck.telegrams ≡ before.telegrams ++ telegrams_later
 
 -- a silent edge (action 0) may be struck, and nothing else changes but the sensor's clock

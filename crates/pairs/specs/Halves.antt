@@ -1,7 +1,6 @@
 -- "the demands read over the pair": the pair brings in no rule of its own. It is the actuator over the cues and telegrams, and the sensor over the
 -- records and edges. Proved in proofs/Halves.antt, for every list whose stamps never fall.
-use Rattle.std.specs.Prelude.{ℕ, ◌≤◌, Bool, List, [], ◌∷◌, ◌++◌, ◌≡◌}
-use Rattle.std.proofs.Math.Option.{Option, some, none}
+use Rattle.std.specs.Prelude.{ℕ, ◌≤◌, Bool, List, [], ◌∷◌, ◌++◌, ◌≡◌, Some, None, Option}
 use Rattle.rules.specs.declared.input.Input.{Input}
 use Rattle.rules.specs.declared.input.Input.TheVariants.{SwitchOnOff}
 use Rattle.rules.specs.declared.record.Record.{Record}
@@ -9,8 +8,6 @@ use Rattle.rules.specs.Steps.{act}
 use Rattle.rules.specs.Lists.{Cue, cue, Played, plays_to, still}
 use Rattle.sensor.specs.declared.signal.Signal.{Signal}
 use Rattle.sensor.specs.declared.signal.Signal.TheVariants as signal
-use Rattle.sensor.specs.declared.react.Telegram.{Telegram}
-use Rattle.sensor.specs.declared.react.Telegram.TheVariants.{Silent, Switch}
 use Rattle.sensor.specs.Reactions.{Stamped, at, Heard, reacts}
 use Rattle.pairs.specs.declared.item.Item.{Item}
 use Rattle.pairs.specs.declared.item.Item.TheVariants.{Plain, Button1, Button2}
@@ -25,22 +22,22 @@ ItemsRise last (listed t i ∷ later) end = (last ≤ t) × ItemsRise t later en
 -- ---- the actuator's half
 
 -- what a telegram is to the actuator
-abbrev pub sent_as : Telegram → Option Input
-sent_as Silent = none
-sent_as (Switch value) = some (SwitchOnOff value)
+abbrev pub sent_as : Option Bool → Option Input
+sent_as None = None
+sent_as (Some value) = Some (SwitchOnOff value)
 
 -- what the actuator is given of an item: an input of its own, the telegram of an edge, or nothing
-abbrev pub given_of : Item → Telegram → Option Input
-given_of (Plain i) sent = some i
+abbrev pub given_of : Item → Option Bool → Option Input
+given_of (Plain i) sent = Some i
 given_of (Button1 edge) sent = sent_as sent
 given_of (Button2 edge) sent = sent_as sent
 
 -- the same at the item's stamp
 abbrev pub cue_of : ℕ → Option Input → Option Cue
-cue_of t none = none
-cue_of t (some i) = some (cue t i)
+cue_of t None = None
+cue_of t (Some i) = Some (cue t i)
 
-abbrev pub given_at : ℕ → Item → Telegram → Option Cue
+abbrev pub given_at : ℕ → Item → Option Bool → Option Cue
 given_at t i sent = cue_of t (given_of i sent)
 
 -- item by item
@@ -51,15 +48,15 @@ cues_for (listed t i ∷ later) p = given_at t i (pair_step p i t).telegram ∷ 
 -- those that there are
 unfoldable pub given : List (Option Cue) → List Cue
 given [] = []
-given (none ∷ later) = given later
-given (some c ∷ later) = c ∷ given later
+given (None ∷ later) = given later
+given (Some c ∷ later) = c ∷ given later
 
 -- the actuator's answers, and 1 for each edge that sends nothing
 unfoldable pub answered : List (Option Cue) → List ℕ → List ℕ
 answered [] answers = []
-answered (none ∷ later) answers = 1 ∷ answered later answers
-answered (some c ∷ later) [] = []
-answered (some c ∷ later) (a ∷ answers) = a ∷ answered later answers
+answered (None ∷ later) answers = 1 ∷ answered later answers
+answered (Some c ∷ later) [] = []
+answered (Some c ∷ later) (a ∷ answers) = a ∷ answered later answers
 
 -- the half, by what was given item by item
 pub record ActuatorHalf (cues : List (Option Cue)) (pair : PairPlayed) (alone : Played) : Type 0 where
@@ -78,12 +75,12 @@ statuses [] = []
 statuses (r ∷ later) = at r.stamp (signal.Status (shows r)) ∷ statuses later
 
 -- what a telegram's own step records
-abbrev pub recorded_by : Telegram → PairMoved → List Record
-recorded_by Silent m = []
-recorded_by (Switch value) m = (act (still m.pair.actuator) (SwitchOnOff value)).records
+abbrev pub recorded_by : Option Bool → PairMoved → List Record
+recorded_by None m = []
+recorded_by (Some value) m = (act (still m.pair.actuator) (SwitchOnOff value)).records
 
 -- an edge: the records of the clock move, the edge itself, the record of its telegram
-abbrev pub around_edge : Signal → ℕ → PairMoved → Telegram → List Stamped
+abbrev pub around_edge : Signal → ℕ → PairMoved → Option Bool → List Stamped
 around_edge s t m sent = statuses m.records ++ (at t s ∷ statuses (recorded_by sent m))
 
 abbrev pub signals_of : Pair → ℕ → Item → List Stamped
@@ -98,10 +95,10 @@ signals_for end (listed t i ∷ later) p = signals_of p t i ++ signals_for end l
 
 -- The values that were sent, compared in the order in which they were sent. Where and when each was sent is the actuator's half, whose cues have
 -- the stamps.
-unfoldable pub spoken : List Telegram → List Bool
+unfoldable pub spoken : List (Option Bool) → List Bool
 spoken [] = []
-spoken (Silent ∷ later) = spoken later
-spoken (Switch value ∷ later) = value ∷ spoken later
+spoken (None ∷ later) = spoken later
+spoken (Some value ∷ later) = value ∷ spoken later
 
 pub record SensorHalf (pair : PairPlayed) (alone : Heard) : Type 0 where
   pub sensor : pair.pair.sensor ≡ alone.sensor

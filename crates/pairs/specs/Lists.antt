@@ -1,5 +1,5 @@
 -- A list of stamped items, played (02, [1]; 01, "Phases" and "Records and the printout").
-use Rattle.std.specs.Prelude.{ℕ, List, [], ◌∷◌, ◌++◌}
+use Rattle.std.specs.Prelude.{ℕ, List, [], ◌∷◌, ◌++◌, Option, Bool}
 use Rattle.rules.specs.declared.parameters.Params.{Params}
 use Rattle.rules.specs.declared.parameters.Scene.{Scene}
 use Rattle.rules.specs.declared.record.Record.{Record}
@@ -7,7 +7,6 @@ use Rattle.rules.specs.Status.{record_of, by_itself}
 use Rattle.rules.specs.Steps.{fresh}
 use Rattle.rules.specs.Lists.{Played}
 use Rattle.sensor.specs.declared.state.Sensor.{Sensor}
-use Rattle.sensor.specs.declared.react.Telegram.{Telegram}
 use Rattle.pairs.specs.declared.item.Item.{Item}
 use Rattle.pairs.specs.Pairs.{Pair, pair_of, hears, PairMoved, pair_move, PairStepped, pair_step}
 
@@ -20,7 +19,7 @@ pub record PairPlayed : Type 0 where
   pub pair : Pair
   pub answers : List ℕ
   pub records : List Record
-  pub telegrams : List Telegram
+  pub telegrams : List (Option Bool)
 
 -- what the actuator has of it all
 abbrev pub actuator_part : PairPlayed → Played

@@ -1,6 +1,6 @@
 -- The actuator and the sensor, joined. 02, [1]: "Joined, the actuator's clock first moves to an edge's stamp, and each record is a status at
 -- its stamp, heard before the next edge".
-use Rattle.std.specs.Prelude.{ℕ, Bool, List, [], ◌∷◌, ◌++◌, eqb}
+use Rattle.std.specs.Prelude.{ℕ, Bool, List, [], ◌∷◌, ◌++◌, eqb, Option, Some, None}
 use Rattle.rules.specs.declared.input.Input.TheVariants.{SwitchOnOff}
 use Rattle.rules.specs.declared.state.State.{State}
 use Rattle.rules.specs.declared.record.Record.{Record}
@@ -9,8 +9,6 @@ use Rattle.rules.specs.Lists.{still}
 use Rattle.sensor.specs.declared.signal.Signal.{Signal}
 use Rattle.sensor.specs.declared.signal.Signal.TheVariants as signal
 use Rattle.sensor.specs.declared.state.Sensor.{Sensor}
-use Rattle.sensor.specs.declared.react.Telegram.{Telegram}
-use Rattle.sensor.specs.declared.react.Telegram.TheVariants.{Silent, Switch}
 use Rattle.sensor.specs.declared.react.Reaction.{Reaction}
 use Rattle.sensor.specs.Reactions.{hear, react}
 use Rattle.pairs.specs.declared.item.Item.{Item}
@@ -49,19 +47,19 @@ pub record PairStepped : Type 0 where
   pub pair : Pair
   pub answer : ℕ
   pub records : List Record
-  pub telegram : Telegram
+  pub telegram : Option Bool
 
 -- an input of the actuator: its records are heard
 abbrev pub heard_step : Stepped → Sensor → PairStepped
-heard_step d z = record { pair = pair_of d.state (hears d.records z); answer = d.answer; records = d.records; telegram = Silent }
+heard_step d z = record { pair = pair_of d.state (hears d.records z); answer = d.answer; records = d.records; telegram = None }
 
 -- An edge that sends nothing changes nothing at the actuator but its clock, once the due timers have run, and so it is answered 1. A telegram is played right away, while the
 -- clock stands; it was sent, whatever becomes of it; then its record is heard, and its answer is the edge's.
-unfoldable pub tell : Telegram → PairMoved → Sensor → PairStepped
-tell Silent m z = record { pair = pair_of m.pair.actuator z; answer = 1; records = m.records; telegram = Silent }
-tell (Switch value) m z =
+unfoldable pub tell : Option Bool → PairMoved → Sensor → PairStepped
+tell None m z = record { pair = pair_of m.pair.actuator z; answer = 1; records = m.records; telegram = None }
+tell (Some value) m z =
     let d : Stepped = act (still m.pair.actuator) (SwitchOnOff value) in
-    record { pair = pair_of d.state (hears d.records z); answer = d.answer; records = m.records ++ d.records; telegram = Switch value }
+    record { pair = pair_of d.state (hears d.records z); answer = d.answer; records = m.records ++ d.records; telegram = Some value }
 
 unfoldable pub told : PairMoved → Reaction → PairStepped
 told m r = tell r.telegram m r.sensor

@@ -1,5 +1,5 @@
 -- "Given exactly when" (01, "Refusal numbers"), of the calls of the pair. Proved in proofs/Refusals/.
-use Rattle.std.specs.Prelude.{ℕ, ◌≤◌, true, List, ◌≡◌, length}
+use Rattle.std.specs.Prelude.{ℕ, ◌≤◌, true, List, ◌≡◌, length, Some}
 use Rattle.octets.specs.Groups.{stamp_at}
 use Rattle.base.specs.declared.refusal.Refusal.{Refusal}
 use Rattle.base.specs.declared.refusal.Refusal.TheVariants.{WrongLength, ShortBuffer}
@@ -9,7 +9,6 @@ use Rattle.rules.specs.Files.{input_count, end_time, inputs_in}
 use Rattle.rules.specs.Refusals.{StartWhen, GoodStart, InputsWhen, GoodInputs, RoomFor}
 use Rattle.sensor.specs.Refusals.{ActionsWhen, GoodActions}
 use Rattle.pairs.specs.declared.item.Item.{Item}
-use Rattle.pairs.specs.declared.item.Read.TheVariants.{Known}
 use Rattle.pairs.specs.Items.{item_at}
 use Rattle.pairs.specs.Pairs.{Pair}
 use Rattle.pairs.specs.Walls.{file_in, actions_in, item_in}
@@ -22,7 +21,7 @@ pub record SoundPair (p : Pair) : Type 0 where
 
 -- "9, 6, 7, place 0"
 abbrev pub JointCodes : Pair → List ℕ → ℕ → ℕ → Type 0
-JointCodes p octets = CallCodes (SoundPair p) ((i : Item) × (item_at octets 0 ≡ Known i)) (Timely p.actuator.clock (stamp_at octets 0))
+JointCodes p octets = CallCodes (SoundPair p) ((i : Item) × (item_at octets 0 ≡ Some i)) (Timely p.actuator.clock (stamp_at octets 0))
 
 -- "9, 7"
 abbrev pub JointMoveCodes : Pair → ℕ → ℕ → ℕ → Type 0

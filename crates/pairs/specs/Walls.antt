@@ -1,13 +1,11 @@
 -- The wall list: a cue file of 01 in which an input may also be an edge, followed by the four octets of the sensor's parameters; and the run over
 -- it, whole, for every octet string and every pair of lent buffers.
-use Rattle.std.specs.Prelude.{ℕ, ◌+◌, ◌-◌, cond, List, length, take, drop, leb}
-use Rattle.std.proofs.Math.Option.{Option, some, none}
+use Rattle.pairs.specs.declared.item.Item.{Item}
+use Rattle.std.specs.Prelude.{ℕ, ◌+◌, ◌-◌, cond, List, length, take, drop, leb, Some, None, Option}
 use Rattle.octets.specs.Groups.{stamp_at}
 use Rattle.base.specs.declared.refusal.Refusal.{Refusal}
 use Rattle.base.specs.declared.refusal.Refusal.TheVariants.{WrongLength}
-use Rattle.base.specs.declared.refusal.Check.{Check}
-use Rattle.base.specs.declared.refusal.Check.TheVariants.{Refused}
-use Rattle.base.specs.Refusals.{number, or_else}
+use Rattle.base.specs.Refusals.{number, or_else, Check, refused_with}
 use Rattle.rules.specs.declared.call.Ran.{Ran}
 use Rattle.rules.specs.Layout.{least_file, input_place}
 use Rattle.rules.specs.Calls.{own_state}
@@ -17,8 +15,6 @@ use Rattle.rules.specs.Runs.{records_octets, over, Whole, Answered, answered_by}
 use Rattle.sensor.specs.declared.state.Sensor.{Sensor}
 use Rattle.sensor.specs.Actions.{check_actions}
 use Rattle.sensor.specs.Sensors.{fresh_sensor, own_sensor}
-use Rattle.pairs.specs.declared.item.Read.{Read}
-use Rattle.pairs.specs.declared.item.Read.TheVariants.{Known, Unknown}
 use Rattle.pairs.specs.declared.call.WallRan.{WallRan}
 use Rattle.pairs.specs.Items.{item_at}
 use Rattle.pairs.specs.Lists.{Listed, listed, PairPlayed, play_items}
@@ -40,12 +36,12 @@ least_wall = least_file + actions_size
 
 -- "Order 1, 2, 3, 4, 5"; "11 .. where 5 stands for the sensor's parameters": after 5
 unfoldable pub check_wall : List ℕ → Check
-check_wall wall = cond (leb least_wall (length wall)) (or_else (check_start (file_in wall)) (check_actions (actions_in wall))) (Refused WrongLength 0)
+check_wall wall = cond (leb least_wall (length wall)) (or_else (check_start (file_in wall)) (check_actions (actions_in wall))) (refused_with WrongLength 0)
 
 -- what input i of a list says: an item with its stamp, or nothing
-abbrev pub stamped_item : ℕ → Read → Option Listed
-stamped_item stamp (Known i) = some (listed stamp i)
-stamped_item stamp Unknown = none
+abbrev pub stamped_item : ℕ → Option Item → Option Listed
+stamped_item stamp (Some i) = Some (listed stamp i)
+stamped_item stamp None = None
 
 unfoldable pub item_in : List ℕ → ℕ → Option Listed
 item_in inputs i = stamped_item (stamp_at inputs (input_place i)) (item_at inputs (input_place i))

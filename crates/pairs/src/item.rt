@@ -10,9 +10,3 @@ pub enum Item {
     Button2(Edge),
 }
 
-// What eight octets mean in a joined list.
-#[derive(Clone, Copy)]
-pub enum Read {
-    Known(Item),
-    Unknown,
-}

@@ -1,4 +1,6 @@
 -- The loops over the octets of the parameters, one turn at a time.
+use Rattle.base.specs.Refusals.{refused_with}
+use Rattle.std.specs.Prelude.{Ok}
 use Prim.Native.Nat.{ℕ, zero, suc, ◌+◌, ◌-◌, ◌*◌, ◌≤◌, ◌<◌}
 use mathlib.Core.Bool.{Bool, true, false, cond, not, ◌||◌}
 use mathlib.Core.List.{List}
@@ -16,7 +18,6 @@ use Rattle.rules.specs.declared.form.Form.{Form}
 use Rattle.rules.specs.Forms.{width}
 use Rattle.rules.specs.Layout.{time_place, modes_at, scene_place, flags_place}
 use Rattle.base.specs.declared.refusal.Refusal.TheVariants.{BadParameter}
-use Rattle.base.specs.declared.refusal.Check.TheVariants.{Passed, Refused}
 use Rattle.rules.specs.Parameters.{greatest, bad_time, number_above, bad_number, bad_flags, bad_octet, lowest_bad}
 use Rattle.parameters.specs.Seen.{noted, bad_after}
 use Rattle.rules.proofs.Laws.Forms.{few_octets}
@@ -97,7 +98,7 @@ abbrev pub from_time : Form → ℕ → ℕ
 from_time f n = width f.scale * (4 - n) + 24
 
 -- a time is bad at its first octet or not at all
-pub time_step : (f : Form) (octets : List ℕ) (n : ℕ) → n < 4 → lowest_bad f octets (from_time f n) (time_place f n) ≡ cond (bad_time f octets n) (Refused BadParameter (time_place f n)) (lowest_bad f octets (from_time f (n + 1)) (time_place f (n + 1)))
+pub time_step : (f : Form) (octets : List ℕ) (n : ℕ) → n < 4 → lowest_bad f octets (from_time f n) (time_place f n) ≡ cond (bad_time f octets n) (refused_with BadParameter (time_place f n)) (lowest_bad f octets (from_time f (n + 1)) (time_place f (n + 1)))
 unfolding lowest_bad
 time_step f octets n within =
     let some = few_octets f.scale in
@@ -118,7 +119,7 @@ time_step f octets n within =
         rw place (within_time f octets n (j + 1) within (omega arith) (omega arith))
 
 -- a mode against the table
-pub mode_step : (f : Form) (octets : List ℕ) (m : ℕ) → m < 8 → lowest_bad f octets (24 - m) (modes_at f + m) ≡ cond (ltb (get_or greatest m 0) (octet octets (modes_at f + m))) (Refused BadParameter (modes_at f + m)) (lowest_bad f octets (24 - (m + 1)) (modes_at f + (m + 1)))
+pub mode_step : (f : Form) (octets : List ℕ) (m : ℕ) → m < 8 → lowest_bad f octets (24 - m) (modes_at f + m) ≡ cond (ltb (get_or greatest m 0) (octet octets (modes_at f + m))) (refused_with BadParameter (modes_at f + m)) (lowest_bad f octets (24 - (m + 1)) (modes_at f + (m + 1)))
 unfolding lowest_bad
 mode_step f octets m within =
     let left : 24 - m ≡ suc (24 - (m + 1)) = omega arith in
@@ -126,7 +127,7 @@ mode_step f octets m within =
     rw (left, mode_octet f octets m within, next)
 
 -- a scene entry: its number, then its flags
-pub entry_step : (f : Form) (octets : List ℕ) (entry : ℕ) → entry < 8 → lowest_bad f octets (16 - 2 * entry) (scene_place f entry) ≡ cond (bad_number f octets entry) (Refused BadParameter (scene_place f entry)) (cond (bad_flags f octets entry) (Refused BadParameter (flags_place f entry)) (lowest_bad f octets (16 - 2 * (entry + 1)) (scene_place f (entry + 1))))
+pub entry_step : (f : Form) (octets : List ℕ) (entry : ℕ) → entry < 8 → lowest_bad f octets (16 - 2 * entry) (scene_place f entry) ≡ cond (bad_number f octets entry) (refused_with BadParameter (scene_place f entry)) (cond (bad_flags f octets entry) (refused_with BadParameter (flags_place f entry)) (lowest_bad f octets (16 - 2 * (entry + 1)) (scene_place f (entry + 1))))
 unfolding lowest_bad
 entry_step f octets entry within =
     let left : 16 - 2 * entry ≡ suc (suc (16 - 2 * (entry + 1))) = omega arith in
@@ -134,6 +135,6 @@ entry_step f octets entry within =
     let next : flags_place f entry + 1 ≡ scene_place f (entry + 1) = omega arith in
     rw (left, number_octet f octets entry, flags, flags_octet_lem f octets entry, next)
 
-pub entries_end : (f : Form) (octets : List ℕ) (entry : ℕ) → 8 ≤ entry → lowest_bad f octets (16 - 2 * entry) (scene_place f entry) ≡ Passed
+pub entries_end : (f : Form) (octets : List ℕ) (entry : ℕ) → 8 ≤ entry → lowest_bad f octets (16 - 2 * entry) (scene_place f entry) ≡ Ok tt
 unfolding lowest_bad
 entries_end f octets entry past = let left : 16 - 2 * entry ≡ 0 = omega arith in rw left

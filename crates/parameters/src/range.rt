@@ -1,7 +1,7 @@
 // Which octets of the parameters are out of range. Their length is tested before: every slice here is as long as the parameters.
+ghost use Rattle.base.specs.Refusals.{refused_with};
 ghost use Rattle.std.specs.Prelude.{◌≡◌, ◌≤◌, ◌<◌, false, cond, leb, length, get_or};
 ghost use Rattle.base.specs.declared.refusal.Refusal.TheVariants.{BadParameter};
-ghost use Rattle.base.specs.declared.refusal.Check.TheVariants.{Refused};
 ghost use Rattle.rules.specs.Layout.{parameters_size, modes_at, scenes_at};
 ghost use Rattle.rules.specs.Parameters.{greatest, bad_time, bad_number, bad_flags, lowest_bad};
 ghost use Rattle.parameters.specs.Seen.{noted, bad_after};
@@ -9,7 +9,7 @@ ghost use Rattle.parameters.specs.Seen.{noted, bad_after};
 use crate::read::delay_of;
 use base::logic::{both, either, negated};
 use base::moment::LONGEST_DELAY;
-use base::refusal::{Check, Refusal};
+use base::refusal::{Refusal, Refused};
 use layout::{flags_place, modes_at, scene_place, time_place};
 use rules::form::Form;
 
@@ -62,18 +62,18 @@ fn bad_flags(octets: &[u8], form: Form, entry: usize) -> bool
 }
 
 // The refusal of the octet at a place.
-fn bad_at(at: usize) -> Check
+fn bad_at(at: usize) -> Result<(), Refused>
     requires { at < 65536 }
-    ensures { result ≡ Refused BadParameter at }
+    ensures { result ≡ refused_with BadParameter at }
 {
-    Check::Refused {
+    Err(Refused {
         why: Refusal::BadParameter,
         place: at as u16,
-    }
+    })
 }
 
 // The eight scene entries, each its number and then its flags. An octet for each number tells whether an entry before has it.
-fn lowest_bad_from_scenes(octets: &[u8], form: Form) -> Check
+fn lowest_bad_from_scenes(octets: &[u8], form: Form) -> Result<(), Refused>
     requires { length octets.now ≡ parameters_size form }
     ensures { result ≡ lowest_bad form octets.now 16 (scenes_at form) }
 {
@@ -90,11 +90,11 @@ fn lowest_bad_from_scenes(octets: &[u8], form: Form) -> Check
         }
         entry += 1;
     }
-    Check::Passed
+    Ok(())
 }
 
 // The modes against the table, then the scenes.
-fn lowest_bad_from_modes(octets: &[u8], form: Form) -> Check
+fn lowest_bad_from_modes(octets: &[u8], form: Form) -> Result<(), Refused>
     requires { length octets.now ≡ parameters_size form }
     ensures { result ≡ lowest_bad form octets.now 24 (modes_at form) }
 {
@@ -122,7 +122,7 @@ fn bad_time(octets: &[u8], form: Form, n: usize) -> bool
 }
 
 // The lowest octet that is out of range. A time is bad at its first octet.
-pub(crate) fn lowest_bad(octets: &[u8], form: Form) -> Check
+pub(crate) fn lowest_bad(octets: &[u8], form: Form) -> Result<(), Refused>
     requires { length octets.now ≡ parameters_size form }
     ensures { result ≡ lowest_bad form octets.now (parameters_size form) 0 }
 {

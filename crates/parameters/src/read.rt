@@ -4,23 +4,23 @@ ghost use Rattle.rules.specs.Layout.{parameters_size, scene_place};
 ghost use Rattle.rules.specs.Parameters.{delay, params_of, scene_at, scenes_of, check_parameters};
 
 use crate::range::lowest_bad;
-use base::refusal::{Check, Refusal};
+use base::refusal::{Refusal, Refused};
 use layout::{flags_place, modes_at, parameters_size, scene_place, time_place};
 use octets::{read16, read32};
 use rules::form::{Form, Scale};
 use rules::parameters::{Params, Scene};
 
 // Whether octets are accepted as parameters of this row: first their length, then the lowest octet that is out of range.
-pub fn check_parameters(octets: &[u8], form: Form) -> Check
+pub fn check_parameters(octets: &[u8], form: Form) -> Result<(), Refused>
     ensures { result ≡ check_parameters form octets.now }
 {
     if octets.len() == parameters_size(form) {
         lowest_bad(octets, form)
     } else {
-        Check::Refused {
+        Err(Refused {
             why: Refusal::WrongLength,
             place: 0,
-        }
+        })
     }
 }
 

@@ -1,11 +1,11 @@
 -- Where the room for the code's sums comes from: a sound state has it, and a timer leaves it.
+use Rattle.std.specs.Prelude.{Some}
 use Prim.Native.Nat.{ℕ, ◌≤◌}
 use mathlib.Core.Bool.{true}
 use mathlib.Core.Path.{◌≡◌}
 use native.Mathlib.Omega.{arith}
 use Rattle.rules.specs.declared.parameters.Params.{Params}
 use Rattle.rules.specs.declared.phase.Phase.{Phase}
-use Rattle.rules.specs.declared.phase.Deadline.TheVariants.{At}
 use Rattle.rules.specs.declared.state.State.{State}
 use Rattle.base.specs.Time.{last_stamp}
 use Rattle.rules.specs.Phases.{deadline}
@@ -28,7 +28,7 @@ room_sooner p t d sooner r =
     }
 
 -- at a deadline that is due
-pub due_room : (p : Params) (phase : Phase) (t d : ℕ) → deadline phase ≡ At d → d ≤ t → Room p t → Room p (due phase)
+pub due_room : (p : Params) (phase : Phase) (t d : ℕ) → deadline phase ≡ Some d → d ≤ t → Room p t → Room p (due phase)
 due_room p phase t d at sooner r = rw (due_is phase d at) (room_sooner p t d sooner r)
 
 pub sound_room : (s : State) (t : ℕ) → sound s ≡ true → t ≤ last_stamp → Room s.params t

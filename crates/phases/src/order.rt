@@ -7,7 +7,7 @@ use crate::phase::{lit_at, output_of, own_end, set_on};
 use base::logic::{both, negated};
 use base::moment::{earlier_of, later};
 use rules::parameters::Params;
-use rules::phase::{Deadline, Phase};
+use rules::phase::Phase;
 
 // Light from Dark: the light at once, timed or to stay, or the wait for it, timed or steady.
 fn from_dark(p: Params, timed: bool, waittimed: bool, t: u32) -> Phase
@@ -51,12 +51,12 @@ pub fn order_timed_start(p: Params, t: u32, phase: Phase) -> Phase
 }
 
 // The earlier of two moments: that of an Off, and the one at which the light would end by itself, if it does.
-fn earliest_end(delayed: u32, own: Deadline) -> u32
+fn earliest_end(delayed: u32, own: Option<u32>) -> u32
     ensures { result ≡ earliest_end delayed own }
 {
     match own {
-        Deadline::Never => delayed,
-        Deadline::At(end) => earlier_of(delayed, end),
+        None => delayed,
+        Some(end) => earlier_of(delayed, end),
     }
 }
 

@@ -8,7 +8,7 @@ ghost use Rattle.phases.specs.Room.{Room};
 
 use base::{logic, moment};
 use rules::parameters::Params;
-use rules::phase::{Deadline, Phase};
+use rules::phase::Phase;
 
 // Whether the output is on.
 pub fn output_of(phase: Phase) -> bool
@@ -38,16 +38,16 @@ pub fn staircase_of(phase: Phase) -> bool
     }
 }
 
-pub fn deadline_of(phase: Phase) -> Deadline
+pub fn deadline_of(phase: Phase) -> Option<u32>
     ensures { result ≡ deadline phase }
 {
     match phase {
-        Phase::Dark => Deadline::Never,
-        Phase::Lit => Deadline::Never,
-        Phase::Starting(_, deadline) => Deadline::At(deadline),
-        Phase::Timed(d) => Deadline::At(d),
-        Phase::Warning(d) => Deadline::At(d),
-        Phase::Ending(d) => Deadline::At(d),
+        Phase::Dark => None,
+        Phase::Lit => None,
+        Phase::Starting(_, deadline) => Some(deadline),
+        Phase::Timed(d) => Some(d),
+        Phase::Warning(d) => Some(d),
+        Phase::Ending(d) => Some(d),
     }
 }
 
@@ -57,8 +57,8 @@ pub fn due_at(phase: Phase) -> u32
 {
     let deadline = deadline_of(phase);
     match deadline {
-        Deadline::Never => 0,
-        Deadline::At(d) => d,
+        None => 0,
+        Some(d) => d,
     }
 }
 
@@ -97,17 +97,17 @@ pub fn at_deadline(p: Params, night: bool, phase: Phase) -> Phase
 }
 
 // When a lit phase goes dark by itself, if it does.
-pub fn own_end(p: Params, phase: Phase) -> Deadline
+pub fn own_end(p: Params, phase: Phase) -> Option<u32>
     requires { (due phase ≤ last_stamp + longest_delay) × (p.prewarning ≤ longest_delay) }
     ensures { result ≡ own_end p phase }
 {
     match phase {
-        Phase::Dark => Deadline::Never,
-        Phase::Lit => Deadline::Never,
-        Phase::Starting(_, _) => Deadline::Never,
-        Phase::Timed(d) => Deadline::At(moment::later(d, p.prewarning)),
-        Phase::Warning(d) => Deadline::At(d),
-        Phase::Ending(d) => Deadline::At(d),
+        Phase::Dark => None,
+        Phase::Lit => None,
+        Phase::Starting(_, _) => None,
+        Phase::Timed(d) => Some(moment::later(d, p.prewarning)),
+        Phase::Warning(d) => Some(d),
+        Phase::Ending(d) => Some(d),
     }
 }
 

@@ -1,8 +1,8 @@
 -- The items of a checked list, one after the other: what is known after the first of them, and how the next one keeps it.
+use Rattle.std.specs.Prelude.{Option, Some, None, Err, Bool}
 use Prim.Native.Nat.{ℕ, suc, ◌+◌, ◌*◌, ◌-◌, ◌≤◌, ◌<◌}
 use mathlib.Core.Bool.{true}
 use mathlib.Core.List.{List, [], ◌∷◌, ◌++◌, append-nil}
-use mathlib.Core.Option.{some}
 use mathlib.Core.Path.{◌≡◌, refl, sym, ap, ◌∙◌}
 use native.Mathlib.Nat.{sub-zero}
 use native.Mathlib.Omega.{arith}
@@ -12,8 +12,6 @@ use Rattle.octets.specs.Splice.{splice}
 use Rattle.rules.specs.declared.parameters.Params.{Params}
 use Rattle.rules.specs.declared.parameters.Scene.{Scene}
 use Rattle.rules.specs.declared.input.Input.{Input}
-use Rattle.rules.specs.declared.input.Decoded.{Decoded}
-use Rattle.rules.specs.declared.input.Decoded.TheVariants.{Meant, Wrong}
 use Rattle.rules.specs.declared.state.State.{State}
 use Rattle.rules.specs.declared.record.Record.{Record}
 use Rattle.rules.specs.Inputs.{decoded}
@@ -26,9 +24,7 @@ use Rattle.base.specs.Time.{last_stamp}
 use Rattle.rules.specs.Runs.{records_octets}
 use Rattle.rules.proofs.Laws.Soundness.{move_keeps}
 use Rattle.sensor.specs.declared.state.Sensor.{Sensor}
-use Rattle.sensor.specs.declared.react.Telegram.{Telegram}
 use Rattle.pairs.specs.declared.item.Item.{Item}
-use Rattle.pairs.specs.declared.item.Read.TheVariants.{Known}
 use Rattle.pairs.specs.Items.{item_at}
 use Rattle.pairs.specs.Halves.{given_of}
 use Rattle.pairs.specs.Pairs.{Pair, pair_of, hears, pair_move, PairStepped, pair_step}
@@ -44,7 +40,6 @@ use Rattle.pairs.proofs.Refusals.Calls.{an_item_writes_at_most_three}
 use Rattle.lamps.specs.declared.lamp.Lamp.{Lamp}
 use Rattle.lamps.specs.Lamps.{state_of}
 use Rattle.actuator.specs.declared.step.Done.{Done}
-use Rattle.actuator.specs.declared.step.Fate.TheVariants.{Dropped}
 use Rattle.actuator.specs.Acts.{fate, done, dropped_by}
 use Rattle.records.specs.Notes as noted
 use Rattle.records.proofs.Written.{listed_first}
@@ -52,7 +47,6 @@ use Rattle.timers.proofs.Moves.{joined}
 use Rattle.actuator.proofs.Taken.{dropped_leaves, acting_keeps, later, later_joined}
 use Rattle.buffers.proofs.Splices.{records_none, records_more}
 use Rattle.buffers.proofs.Standing.{Standing, standing_first, standing_more}
-use Rattle.turns.specs.declared.turn.Asked.TheVariants.{Nothing, Order}
 use Rattle.turns.specs.declared.turn.Turn.{Turn}
 use Rattle.turns.specs.Turns.{listened, decides, Turned}
 use Rattle.turns.proofs.Hearing.{put_is_heard}
@@ -67,7 +61,7 @@ pub record Going (inputs : List ℕ) (n : ℕ) (start : Pair) (before : ℕ) (re
   pub upto : i ≤ n
   pub said : List ℕ
   pub wrote : List Record
-  pub sent : List Telegram
+  pub sent : List (Option Bool)
   pub later : List Listed
   pub played : pair_plays (items_from inputs n start.actuator.clock) start ≡ pair_then (record { pair = p; answers = said; records = wrote; telegrams = sent }) (pair_plays later)
   pub reads : read_inputs (item_in inputs) inputs (n - i) i p.actuator.clock last_stamp ≡ cues later
@@ -126,20 +120,20 @@ module _ (inputs : List ℕ) (n : ℕ) (start : Pair) (before : ℕ) (r₀ a₀ 
     pub going_last : n ≤ i → Filled before (pair_plays (items_from inputs n start.actuator.clock) start) r₀ a₀ p.actuator p.sensor k r a
     unfolding pair_plays read_inputs
     going_last h =
-        let none : n - i ≡ 0 = omega (arith, g.upto) in
-        let left : g.later ≡ [] = sym (ap found (rw none at g.reads)) in
+        let None : n - i ≡ 0 = omega (arith, g.upto) in
+        let left : g.later ≡ [] = sym (ap found (rw None at g.reads)) in
         let whole : pair_plays (items_from inputs n start.actuator.clock) start ≡ record { pair = p; answers = g.said; records = g.wrote; telegrams = g.sent } = g.played ∙ rw left (simp append-nil) in
         record { state = rw whole; sensor = rw whole; count = rw whole g.stands.count; records = rw whole g.stands.records; answers = rw whole g.stands.answers }
 
 -- ---- one item, as the code has it
 
 -- the input that the code builds is the one that is asked for
-abbrev input_in : Decoded → Input → Input
-input_in (Meant i) other = i
-input_in Wrong other = other
+abbrev input_in : Option Input → Input → Input
+input_in (Some i) other = i
+input_in None other = other
 
-same_input : (x y : Input) (d : Decoded) → d ≡ Meant x → d ≡ Meant y → y ≡ x
-same_input x y d e f = ap (λ (z : Decoded). input_in z x) (sym f ∙ e)
+same_input : (x y : Input) (d : Option Input) → d ≡ Some x → d ≡ Some y → y ≡ x
+same_input x y d e f = ap (λ (z : Option Input). input_in z x) (sym f ∙ e)
 
 -- the clock has moved and the item has had its turn: what the code has, part by part
 module _ (p : Params) (table : List Scene) (l : Lamp) (z : Sensor) (heard t before : ℕ) (r r₁ : List ℕ) (m : Moment) (moves : Advanced p l t before r m r₁)
@@ -164,7 +158,7 @@ module _ (p : Params) (table : List Scene) (l : Lamp) (z : Sensor) (heard t befo
   sensor_there = took.sensor ∙ ap (λ (y : Sensor). (decides y i t).sensor) heard_there
 
   -- nothing is asked
-  module _ (silent : u.asked ≡ Nothing) where
+  module _ (silent : u.asked ≡ None) where
     rests : Rests (pair_move met t) (decides (pair_move met t).pair.sensor i t).sensor gives
     rests = resting_step met t i (rw (silent, heard_there) at took.asks)
 
@@ -185,10 +179,10 @@ module _ (p : Params) (table : List Scene) (l : Lamp) (z : Sensor) (heard t befo
 
   -- an input is asked for
   module _ (kind value : ℕ) (orders : u.asked ≡ Order kind value) where
-    pub asked_for : (x : Input) × (given_of i (decides (pair_move met t).pair.sensor i t).telegram ≡ some x) × (decoded kind value ≡ Meant x)
+    pub asked_for : (x : Input) × (given_of i (decides (pair_move met t).pair.sensor i t).telegram ≡ Some x) × (decoded kind value ≡ Some x)
     asked_for = rw (orders, heard_there) at took.asks
 
-    module _ (x : Input) (means : decoded kind value ≡ Meant x) where
+    module _ (x : Input) (means : decoded kind value ≡ Some x) where
       acts : Performs (pair_move met t) (decides (pair_move met t).pair.sensor i t).sensor x gives
       acts = acting_step met t i x (rw (same_input asked_for.0 x (decoded kind value) asked_for.2 means) asked_for.1)
 
@@ -234,7 +228,7 @@ module _ (p : Params) (table : List Scene) (l : Lamp) (z : Sensor) (heard t befo
 module _ (inputs : List ℕ) (n : ℕ) (start : Pair) (before : ℕ) (r₀ a₀ : List ℕ) (ready : Ready inputs n start) (p : Params) (table : List Scene) (l : Lamp) (z : Sensor) (heard : ℕ) (r a : List ℕ) (k i : ℕ)
     (g : Going inputs n start before r₀ a₀ r a (pair_of (state_of p table l) (listened r k z heard)) k i) (behind : heard ≤ k) (h : i < n) (front : 8 * before ≤ length r₀) (enough : n ≤ length a₀) (room : 8 * k ≤ length r)
     (m : Moment) (r₁ : List ℕ) (moves : Advanced p l (stamp_at inputs (input_place i)) k r m r₁) (long : length r₁ ≡ length r) (room₁ : 8 * m.count ≤ length r₁)
-    (u : Turn) (took : (j : Item) → item_at inputs (input_place i) ≡ Known j → Turned j (stamp_at inputs (input_place i)) r₁ m.count z heard u) where
+    (u : Turn) (took : (j : Item) → item_at inputs (input_place i) ≡ Some j → Turned j (stamp_at inputs (input_place i)) r₁ m.count z heard u) where
   abbrev t : ℕ
   t = stamp_at inputs (input_place i)
 
@@ -245,7 +239,7 @@ module _ (inputs : List ℕ) (n : ℕ) (start : Pair) (before : ℕ) (r₀ a₀ 
   turned = took item (next_item inputs n start before r₀ a₀ ready r a (pair_of (state_of p table l) (listened r k z heard)) k i g h).meant
 
   -- an edge that sends nothing
-  pub going_rests : u.asked ≡ Nothing → Going inputs n start before r₀ a₀ r₁ (set a i 1) (pair_of (state_of p table m.lamp) (listened r₁ m.count u.sensor u.heard)) m.count (i + 1)
+  pub going_rests : u.asked ≡ None → Going inputs n start before r₀ a₀ r₁ (set a i 1) (pair_of (state_of p table m.lamp) (listened r₁ m.count u.sensor u.heard)) m.count (i + 1)
   going_rests silent =
       going_step inputs n start before r₀ a₀ ready r a _ k i g h front enough 1 (answer_rests p table l z heard t k r r₁ m moves behind room item u turned silent)
       _ (pair_rests p table l z heard t k r r₁ m moves behind room item u turned silent)
@@ -254,10 +248,10 @@ module _ (inputs : List ℕ) (n : ℕ) (start : Pair) (before : ℕ) (r₀ a₀ 
 
   module _ (kind value : ℕ) (orders : u.asked ≡ Order kind value) where
     -- what is asked for is an input
-    pub going_asks : (x : Input) × (decoded kind value ≡ Meant x)
+    pub going_asks : (x : Input) × (decoded kind value ≡ Some x)
     going_asks = let x = asked_for p table l z heard t k r r₁ m moves behind room item u turned kind value orders in (x.0, x.2)
 
-    module _ (x : Input) (means : decoded kind value ≡ Meant x) where
+    module _ (x : Input) (means : decoded kind value ≡ Some x) where
       pub going_acts : (d : Done) → d ≡ done (act (still (state_of p table m.lamp)) x) → (count : ℕ) → count ≡ m.count + length (noted.listed d.note)
           → (r₂ : List ℕ) → r₂ ≡ splice r₁ (8 * m.count) (records_octets (noted.listed d.note)) → length r₂ ≡ length r
           → (left : List Scene) → left ≡ (act (still (state_of p table m.lamp)) x).state.scenes
@@ -269,7 +263,7 @@ module _ (inputs : List ℕ) (n : ℕ) (start : Pair) (before : ℕ) (r₀ a₀ 
           r₂ (records_act p table l z heard t k r r₁ m moves behind room item u turned kind value orders x means d does count counts r₂ writes) same
 
       -- one that is dropped writes nothing
-      pub going_dropped : (answer : ℕ) → fate (barrier (state_of p table m.lamp) x) ≡ Dropped answer →
+      pub going_dropped : (answer : ℕ) → fate (barrier (state_of p table m.lamp) x) ≡ Err answer →
           Going inputs n start before r₀ a₀ r₁ (set a i answer) (pair_of (state_of p table m.lamp) (listened r₁ m.count u.sensor u.heard)) m.count (i + 1)
       unfolding dropped_by
       going_dropped answer drops =

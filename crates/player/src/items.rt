@@ -6,7 +6,7 @@ ghost use Rattle.pairs.specs.Pairs.{pair_of};
 ghost use Rattle.turns.specs.Turns.{listened};
 ghost use Rattle.player.specs.Playing.{Ready, ItemsPlayed, Advanced};
 
-use actuator::step::{Fate, fate_of, scenes_after, take};
+use actuator::step::{fate_of, scenes_after, take};
 use buffers::put::put_note;
 use inputs::known_input;
 use lamps::lamp::{Lamp, at_moment, lamp_of, state_of};
@@ -16,7 +16,7 @@ use rules::parameters::Params;
 use rules::state::State;
 use sensor::state::Sensor;
 use timers::clock::{is_due, run_timer};
-use turns::turn::{Asked, turn_at};
+use turns::turn::{Order, turn_at};
 
 // Where playing has come to: the state, the sensor, which has heard the first so many records, and how many records stand in the buffer.
 #[derive(Clone, Copy)]
@@ -85,7 +85,7 @@ pub fn play_items(
         let sensor = turn.sensor;
         let asked = turn.asked;
         match asked {
-            Asked::Nothing => {
+            None => {
                 count = m.count;
                 answers[i as usize] = 1;
                 z = sensor;
@@ -93,10 +93,10 @@ pub fn play_items(
                 l = moved;
                 i += 1;
             }
-            Asked::Order(kind, value) => {
+            Some(Order { kind, value }) => {
                 let f = fate_of(moved, kind);
                 match f {
-                    Fate::Counts(noted) => {
+                    Ok(noted) => {
                         let x = known_input(kind, value);
                         let d = take(p, k, moved, x, noted);
                         let note = d.note;
@@ -109,7 +109,7 @@ pub fn play_items(
                         l = d.lamp;
                         i += 1;
                     }
-                    Fate::Dropped(answer) => {
+                    Err(answer) => {
                         count = m.count;
                         answers[i as usize] = answer;
                         z = sensor;

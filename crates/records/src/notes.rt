@@ -13,13 +13,6 @@ pub struct Notes {
     pub records: [Record; 3],
 }
 
-// What a timer or an input wrote.
-#[derive(Clone, Copy)]
-pub enum Note {
-    Silent,
-    Wrote(Record),
-}
-
 pub fn none() -> Notes
     ensures { result ≡ no_notes }
 {
@@ -36,23 +29,23 @@ pub fn none() -> Notes
 }
 
 // The record of a change, where value or attributes changed.
-pub fn written(cause: u8, before: Lamp, after: Lamp) -> Note
+pub fn written(cause: u8, before: Lamp, after: Lamp) -> Option<Record>
     ensures { result ≡ note_of cause (alone before) (alone after) }
 {
     if same_status(before, after) {
-        Note::Silent
+        None
     } else {
-        Note::Wrote(record_of(cause, after))
+        Some(record_of(cause, after))
     }
 }
 
-pub fn add(n: Notes, x: Note) -> Notes
+pub fn add(n: Notes, x: Option<Record>) -> Notes
     requires { n.count ≤ 2 }
     ensures { result ≡ added n x }
 {
     match x {
-        Note::Silent => n,
-        Note::Wrote(r) => {
+        None => n,
+        Some(r) => {
             let mut k = n.records;
             let at = n.count as usize;
             k[at] = r;

@@ -1,11 +1,9 @@
 -- The answer octet (01, "Which input counts"; 02, [4]).
-use Rattle.std.specs.Prelude.{ℕ, Bool, true, false, cond, ◌&&◌, List, [], ◌∷◌, eqb}
+use Rattle.std.specs.Prelude.{ℕ, Bool, true, false, cond, ◌&&◌, List, [], ◌∷◌, eqb, Option, Some, None}
 use Rattle.std.specs.Bool.{beq}
 use Rattle.rules.specs.declared.parameters.Scene.{Scene}
 use Rattle.rules.specs.declared.phase.Phase.{Phase}
 use Rattle.rules.specs.declared.phase.Phase.TheVariants.{Dark, Lit, Starting, Timed, Warning, Ending}
-use Rattle.rules.specs.declared.phase.Deadline.{Deadline}
-use Rattle.rules.specs.declared.phase.Deadline.TheVariants.{Never, At}
 use Rattle.rules.specs.declared.state.Link.{Link}
 use Rattle.rules.specs.declared.state.Link.TheVariants.{Up, BusDown, PowerDown}
 use Rattle.rules.specs.declared.state.State.{State}
@@ -41,9 +39,9 @@ phase_number (Warning d) = 5
 phase_number (Ending d) = 6
 
 -- the deadline as a number; a phase without one has none to compare
-abbrev pub moment : Deadline → ℕ
-moment Never = 0
-moment (At d) = d
+abbrev pub moment : Option ℕ → ℕ
+moment None = 0
+moment (Some d) = d
 
 abbrev pub due : Phase → ℕ
 due phase = moment (deadline phase)

@@ -1,15 +1,12 @@
 -- The public calls by value: their whole results, for every input (01, "Records and the printout" and "Refusal numbers").
-use Rattle.std.specs.Prelude.{ℕ, zero, suc, false, cond, List, [], ◌∷◌, length}
+use Rattle.rules.specs.declared.input.Input.{Input}
+use Rattle.std.specs.Prelude.{ℕ, zero, suc, false, cond, List, [], ◌∷◌, length, Option, Some, None, Ok, Err}
 use Rattle.rules.specs.declared.parameters.Params.{Params}
 use Rattle.rules.specs.declared.parameters.Scene.{Scene}
-use Rattle.rules.specs.declared.input.Decoded.{Decoded}
-use Rattle.rules.specs.declared.input.Decoded.TheVariants.{Meant, Wrong}
 use Rattle.rules.specs.declared.state.State.{State}
 use Rattle.rules.specs.declared.record.Record.{Record}
 use Rattle.base.specs.declared.refusal.Refusal.{Refusal}
 use Rattle.base.specs.declared.refusal.Refusal.TheVariants.{BadInput, BadStamp, UnsoundState}
-use Rattle.base.specs.declared.refusal.Check.{Check}
-use Rattle.base.specs.declared.refusal.Check.TheVariants.{Passed, Refused}
 use Rattle.rules.specs.declared.call.Fresh.{Fresh}
 use Rattle.rules.specs.declared.call.Single.{Single}
 use Rattle.rules.specs.declared.call.Move.{Move}
@@ -20,7 +17,7 @@ use Rattle.rules.specs.Inputs.{input_at}
 use Rattle.octets.specs.Groups.{stamp_at}
 use Rattle.rules.specs.Steps.{Moved, Stepped, fresh, clock_move, step}
 use Rattle.rules.specs.Soundness.{sound}
-use Rattle.base.specs.Refusals.{number, code_of, place_of, stamp_in_range}
+use Rattle.base.specs.Refusals.{number, code_of, place_of, stamp_in_range, Check}
 
 -- ---- the fresh state from parameters alone
 
@@ -54,8 +51,8 @@ own_state = fresh least_params no_scenes
 
 -- "Parameters alone give the fresh state."
 abbrev pub fresh_state : List ℕ → Check → State
-fresh_state octets Passed = fresh (params_of (form_alone octets) octets) (scenes_of (form_alone octets) octets)
-fresh_state octets (Refused why place) = own_state
+fresh_state octets (Ok _) = fresh (params_of (form_alone octets) octets) (scenes_of (form_alone octets) octets)
+fresh_state octets (Err fault) = own_state
 
 unfoldable pub fresh_by : List ℕ → Check → Fresh
 fresh_by octets found = record { state = fresh_state octets found; code = code_of found; place = place_of found }
@@ -88,9 +85,9 @@ unfoldable pub single_refused : State → Refusal → Single
 single_refused s why = record { state = s; code = number why; place = 0; answer = 0; count = 0; records = places 3 [] }
 
 -- 6, then 7, then played
-unfoldable pub single_meant : State → ℕ → Decoded → Single
-single_meant s stamp Wrong = single_refused s BadInput
-single_meant s stamp (Meant i) = cond (stamp_in_range s.clock stamp) (single_done (step s i stamp)) (single_refused s BadStamp)
+unfoldable pub single_meant : State → ℕ → Option Input → Single
+single_meant s stamp None = single_refused s BadInput
+single_meant s stamp (Some i) = cond (stamp_in_range s.clock stamp) (single_done (step s i stamp)) (single_refused s BadStamp)
 
 -- "For a single input 9, 6, 7, place 0."; 02, [2]: "A state keeps its version .., and single inputs follow it" (proofs/Refusals/Calls.antt,
 -- `single_call_keeps_version`; the eight octets are the same in either)

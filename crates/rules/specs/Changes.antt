@@ -1,10 +1,8 @@
 -- A whole scene change in one call (02, [3]): its whole result, for every state, every octet string and every pair of lent buffers.
-use Rattle.std.specs.Prelude.{ℕ, zero, suc, ◌+◌, ◌/◌, ◌%◌, Bool, cond, ◌&&◌, List, [], ◌∷◌, length, take, drop, eqb, leb}
+use Rattle.std.specs.Prelude.{ℕ, zero, suc, ◌+◌, ◌/◌, ◌%◌, Bool, cond, ◌&&◌, List, [], ◌∷◌, length, take, drop, eqb, leb, Ok, Err}
 use Rattle.base.specs.declared.refusal.Refusal.{Refusal}
 use Rattle.base.specs.declared.refusal.Refusal.TheVariants.{ShortBuffer, UnsoundState, WrongGroups}
-use Rattle.base.specs.declared.refusal.Check.{Check}
-use Rattle.base.specs.declared.refusal.Check.TheVariants.{Passed, Refused}
-use Rattle.base.specs.Refusals.{number, if_not, or_else}
+use Rattle.base.specs.Refusals.{number, if_not, or_else, Check}
 use Rattle.rules.specs.declared.state.State.{State}
 use Rattle.rules.specs.declared.call.Single.{Single}
 use Rattle.rules.specs.declared.call.Ran.{Ran}
@@ -86,9 +84,9 @@ handed_back s why place = record { state = s; code = number why; place = place; 
 
 -- 9, 12 and 8 write nothing and hand back the state
 unfoldable pub change_by : Check → State → List ℕ → List ℕ → List ℕ → Whole
-change_by Passed s inputs records answers = changed (singles 0 (groups_in inputs) s) records answers
-change_by (Refused why place) s inputs records answers =
-    record { report = handed_back s why place; records = records; answers = answers }
+change_by (Ok _) s inputs records answers = changed (singles 0 (groups_in inputs) s) records answers
+change_by (Err fault) s inputs records answers =
+    record { report = handed_back s fault.why fault.place; records = records; answers = answers }
 
 unfoldable pub change_call : State → List ℕ → List ℕ → List ℕ → Whole
 change_call s inputs records answers = change_by (check_change s inputs records answers) s inputs records answers

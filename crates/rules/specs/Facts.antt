@@ -2,14 +2,12 @@
 -- range, a sound state, its image, the status octets, the inputs of the promises. That both say the same is proved (proofs/Laws/Forms.antt,
 -- Deadlines.antt, Scenes.antt, BadOctets.antt, Facts.antt, Images.antt, Status.antt, proofs/Promises/Inputs.antt), so that a slip in one of them does not
 -- pass.
-use Rattle.std.specs.Prelude.{ℕ, ◌+◌, ◌*◌, ◌/◌, ◌%◌, ◌≤◌, ◌<◌, Bool, true, false, ◌≡◌, ◌↔◌, ◌⊎◌, List, length, get_or}
+use Rattle.std.specs.Prelude.{ℕ, ◌+◌, ◌*◌, ◌/◌, ◌%◌, ◌≤◌, ◌<◌, Bool, true, false, ◌≡◌, ◌↔◌, ◌⊎◌, List, length, get_or, Some, None}
 use Rattle.octets.specs.BigEndian.{octet, be32}
 use Rattle.rules.specs.declared.form.Form.{Form}
 use Rattle.rules.specs.declared.parameters.Params.{Params}
 use Rattle.rules.specs.declared.parameters.Scene.{Scene}
-use Rattle.rules.specs.declared.parameters.Recalled.TheVariants.{Nothing, Output}
 use Rattle.rules.specs.declared.phase.Phase.TheVariants.{Dark, Lit, Starting, Timed, Warning, Ending}
-use Rattle.rules.specs.declared.phase.Deadline.TheVariants.{Never, At}
 use Rattle.rules.specs.declared.input.Force.TheVariants.{Free, Off, On}
 use Rattle.rules.specs.declared.input.Event.TheVariants.{Failure, Return}
 use Rattle.rules.specs.declared.input.Input.{Input}
@@ -94,9 +92,9 @@ pub record ScenesFit (k : List Scene) : Type 0 where
 
 -- "Scene recall: a used, taught entry acts as On or Off by its value; any other number does nothing."
 pub record Recalls (k : List Scene) (number : ℕ) : Type 0 where
-  pub taught : (n : ℕ) → (entry k n).number ≡ number → (entry k n).taught ≡ true → recalled k number ≡ Output (entry k n).value
-  pub untaught : (n : ℕ) → (entry k n).number ≡ number → (entry k n).taught ≡ false → recalled k number ≡ Nothing
-  pub other : ((n : ℕ) → (entry k n).number ≡ number → ⊥) → recalled k number ≡ Nothing
+  pub taught : (n : ℕ) → (entry k n).number ≡ number → (entry k n).taught ≡ true → recalled k number ≡ Some (entry k n).value
+  pub untaught : (n : ℕ) → (entry k n).number ≡ number → (entry k n).taught ≡ false → recalled k number ≡ None
+  pub other : ((n : ℕ) → (entry k n).number ≡ number → ⊥) → recalled k number ≡ None
 
 -- "Learn, if enabled and the number is in the table: the entry's value becomes the present output and it is taught."
 pub record Learns (k : List Scene) (number : ℕ) (present : Bool) : Type 0 where
@@ -158,7 +156,7 @@ pub record SoundState (s : State) : Type 0 where
   pub params : ParamsFit s.params
   pub scenes : ScenesFit s.scenes
   pub clock : s.clock ≤ 864_000
-  pub soon : (d : ℕ) → deadline s.phase ≡ At d → (s.clock + 1 ≤ d) × (d ≤ s.clock + 655_350)
+  pub soon : (d : ℕ) → deadline s.phase ≡ Some d → (s.clock + 1 ≤ d) × (d ≤ s.clock + 655_350)
   pub steady : Held s.lock s.force → (s.phase ≡ Dark) ⊎ (s.phase ≡ Lit)
   pub decided : s.lock ≡ false → (s.force ≡ Off → s.phase ≡ Dark) × (s.force ≡ On → s.phase ≡ Lit)
   pub ends : s.night ≡ true → s.phase ≡ Lit → Held s.lock s.force
@@ -205,8 +203,8 @@ pub record ImageInNumbers (s : State) : Type 0 where
   pub warning : (d : ℕ) → s.phase ≡ Warning d → octet (image s) 47 ≡ 5
   pub ending : (d : ℕ) → s.phase ≡ Ending d → octet (image s) 47 ≡ 6
   pub clock : be32 (image s) 48 ≡ s.clock
-  pub ends : (d : ℕ) → deadline s.phase ≡ At d → be32 (image s) 52 ≡ d
-  pub lasts : deadline s.phase ≡ Never → be32 (image s) 52 ≡ 0
+  pub ends : (d : ℕ) → deadline s.phase ≡ Some d → be32 (image s) 52 ≡ d
+  pub lasts : deadline s.phase ≡ None → be32 (image s) 52 ≡ 0
 
 -- octets as many as an image has, none of which says what no state holds
 pub record OnlyMeant (octets : List ℕ) : Type 0 where
@@ -243,7 +241,7 @@ pub record StatusShows (s : State) : Type 0 where
 pub record RecallsTo (s : State) (value : Bool) (i : Input) : Type 0 where
   pub number : ℕ
   pub recall : i ≡ NumberedSceneControl false number
-  pub found : recalled s.scenes number ≡ Output value
+  pub found : recalled s.scenes number ≡ Some value
 
 -- "On, timed start or scene-on"
 abbrev pub Lights : State → Input → Type 0

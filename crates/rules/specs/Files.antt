@@ -1,14 +1,11 @@
 -- The cue file (01, "Time and the cue file"; 02, [2]), and what it is refused for (01, "Refusal numbers").
-use Rattle.std.specs.Prelude.{ℕ, Bool, cond, ◌&&◌, List, length, take, drop, eqb, leb}
-use Rattle.std.proofs.Math.Option.{Option, some, none}
+use Rattle.rules.specs.declared.input.Input.{Input}
+use Rattle.base.specs.Refusals.{Check, refused_with}
+use Rattle.std.specs.Prelude.{ℕ, Bool, cond, ◌&&◌, List, length, take, drop, eqb, leb, Some, None, Option}
 use Rattle.octets.specs.BigEndian.{be16, be32}
 use Rattle.rules.specs.declared.parameters.Params.{Params}
 use Rattle.rules.specs.declared.parameters.Scene.{Scene}
-use Rattle.rules.specs.declared.input.Decoded.{Decoded}
-use Rattle.rules.specs.declared.input.Decoded.TheVariants.{Meant, Wrong}
 use Rattle.base.specs.declared.refusal.Refusal.TheVariants.{WrongLength, WrongVersion, WrongActuators, WrongLayout}
-use Rattle.base.specs.declared.refusal.Check.{Check}
-use Rattle.base.specs.declared.refusal.Check.TheVariants.{Refused}
 use Rattle.base.specs.Time.{last_stamp}
 use Rattle.rules.specs.Forms.{is_version, version, form_in}
 use Rattle.rules.specs.Layout.{parameters_at, parameters_size, least_file, inputs_at, most_inputs, input_place, file_size, records_room}
@@ -67,22 +64,22 @@ check_rest file =
     cond (leb (inputs_at (form_in file)) (length file))
     (cond (eqb (actuators file) 1)
     (cond (layout_right file) (check_parameters (form_in file) (parameters_in file))
-    (Refused WrongLayout 0))
-    (Refused WrongActuators 0))
-    (Refused WrongLength 0)
+    (refused_with WrongLayout 0))
+    (refused_with WrongActuators 0))
+    (refused_with WrongLength 0)
 
 -- 1 to 5, what stands before the inputs: "version is tested on files of at least 52 octets" (02, [2])
 unfoldable pub check_start : List ℕ → Check
 check_start file =
     cond (leb least_file (length file))
     (cond (is_version (version file)) (check_rest file)
-    (Refused WrongVersion 0))
-    (Refused WrongLength 0)
+    (refused_with WrongVersion 0))
+    (refused_with WrongLength 0)
 
 -- what input i of a list says: an input with its stamp, or nothing
-abbrev pub stamped : ℕ → Decoded → Option Cue
-stamped stamp (Meant x) = some (cue stamp x)
-stamped stamp Wrong = none
+abbrev pub stamped : ℕ → Option Input → Option Cue
+stamped stamp (Some x) = Some (cue stamp x)
+stamped stamp None = None
 
 unfoldable pub cue_at : List ℕ → ℕ → Option Cue
 cue_at inputs i = stamped (stamp_at inputs (input_place i)) (input_at inputs (input_place i))

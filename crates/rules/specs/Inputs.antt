@@ -1,5 +1,5 @@
 -- The eight kinds of input, each with its own value (01, "Time and the cue file").
-use Rattle.std.specs.Prelude.{ℕ, ◌+◌, ◌/◌, ◌%◌, true, false, cond, List, eqb, leb}
+use Rattle.std.specs.Prelude.{ℕ, ◌+◌, ◌/◌, ◌%◌, true, false, cond, List, eqb, leb, Option, Some, None}
 use Rattle.octets.specs.Groups.{kind_at, value_at, ends_in_zeros}
 use Rattle.rules.specs.declared.input.Force.{Force}
 use Rattle.rules.specs.declared.input.Force.TheVariants.{Free, Off, On}
@@ -7,8 +7,6 @@ use Rattle.rules.specs.declared.input.Event.{Event}
 use Rattle.rules.specs.declared.input.Event.TheVariants.{Failure, Return}
 use Rattle.rules.specs.declared.input.Input.{Input}
 use Rattle.rules.specs.declared.input.Input.TheVariants.{SwitchOnOff, TimedStartStop, NumberedSceneControl, SwitchOnOffForced, LockDevice, NightMode, Bus, Power}
-use Rattle.rules.specs.declared.input.Decoded.{Decoded}
-use Rattle.rules.specs.declared.input.Decoded.TheVariants.{Meant, Wrong}
 
 -- "1 SwitchOnOff, 2 TimedStartStop, 5 LockDevice (1 locks), 6 NightMode: 0 or 1. 3 scene: .. 4 forced: .. 7 bus and 8 power:
 -- 0 failure, 1 return."
@@ -61,22 +59,22 @@ input_value (Bus event) = event_number event
 input_value (Power event) = event_number event
 
 -- "0 or 1"
-unfoldable pub zero_or_one : ℕ → Input → Input → Decoded
-zero_or_one value zero one = cond (eqb value 0) (Meant zero) (cond (eqb value 1) (Meant one) Wrong)
+unfoldable pub zero_or_one : ℕ → Input → Input → Option Input
+zero_or_one value zero one = cond (eqb value 0) (Some zero) (cond (eqb value 1) (Some one) None)
 
 -- "3 scene: bit 7 set is learn, bit 6 zero, low six bits the number." (DPT 18.001)
-unfoldable pub scene_meant : ℕ → Decoded
-scene_meant value = cond (eqb (value / 64 % 2) 0) (Meant (NumberedSceneControl (eqb (value / 128) 1) (value % 64))) Wrong
+unfoldable pub scene_meant : ℕ → Option Input
+scene_meant value = cond (eqb (value / 64 % 2) 0) (Some (NumberedSceneControl (eqb (value / 128) 1) (value % 64))) None
 
 -- "4 forced: 0 and 1 no control, 2 Off, 3 On." (DPT 2.001)
-unfoldable pub force_meant : ℕ → Decoded
+unfoldable pub force_meant : ℕ → Option Input
 force_meant value =
-    cond (leb value 1) (Meant (SwitchOnOffForced Free))
-    (cond (eqb value 2) (Meant (SwitchOnOffForced Off))
-    (cond (eqb value 3) (Meant (SwitchOnOffForced On)) Wrong))
+    cond (leb value 1) (Some (SwitchOnOffForced Free))
+    (cond (eqb value 2) (Some (SwitchOnOffForced Off))
+    (cond (eqb value 3) (Some (SwitchOnOffForced On)) None))
 
 -- what a kind and a value mean; DPT 1.001 for kind 1, 1.010 for kind 2, 1.003 for kinds 5 and 6; kinds 7 and 8 are ours
-unfoldable pub decoded : ℕ → ℕ → Decoded
+unfoldable pub decoded : ℕ → ℕ → Option Input
 decoded kind value =
     cond (eqb kind 1) (zero_or_one value (SwitchOnOff false) (SwitchOnOff true))
     (cond (eqb kind 2) (zero_or_one value (TimedStartStop false) (TimedStartStop true))
@@ -86,8 +84,8 @@ decoded kind value =
     (cond (eqb kind 6) (zero_or_one value (NightMode false) (NightMode true))
     (cond (eqb kind 7) (zero_or_one value (Bus Failure) (Bus Return))
     (cond (eqb kind 8) (zero_or_one value (Power Failure) (Power Return))
-    Wrong)))))))
+    None)))))))
 
 -- "Input, 8 octets: 0-3 stamp; 4 kind; 5 value; 6-7 zero." (where they stand: octets, specs/Groups.antt)
-unfoldable pub input_at : List ℕ → ℕ → Decoded
-input_at octets at = cond (ends_in_zeros octets at) (decoded (kind_at octets at) (value_at octets at)) Wrong
+unfoldable pub input_at : List ℕ → ℕ → Option Input
+input_at octets at = cond (ends_in_zeros octets at) (decoded (kind_at octets at) (value_at octets at)) None

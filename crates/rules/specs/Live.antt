@@ -1,11 +1,9 @@
 -- The live calls from C: a state goes in and comes out as its image. "All answer the packed number .. and write nothing on refusal
 -- (`house_change`: nothing from the refused input on)."
-use Rattle.std.specs.Prelude.{ℕ, List, length, take, eqb, leb}
+use Rattle.std.specs.Prelude.{ℕ, List, length, take, eqb, leb, Ok, Err}
 use Rattle.base.specs.declared.refusal.Refusal.{Refusal}
 use Rattle.base.specs.declared.refusal.Refusal.TheVariants.{BadStamp, ShortBuffer, UnsoundState}
-use Rattle.base.specs.declared.refusal.Check.{Check}
-use Rattle.base.specs.declared.refusal.Check.TheVariants.{Passed, Refused}
-use Rattle.base.specs.Refusals.{number, if_not, or_else, stamp_in_range}
+use Rattle.base.specs.Refusals.{number, if_not, or_else, stamp_in_range, Check}
 use Rattle.rules.specs.declared.call.Move.{Move}
 use Rattle.rules.specs.Layout.{record_place}
 use Rattle.rules.specs.Parameters.{check_alone}
@@ -39,8 +37,8 @@ unfoldable pub check_fresh : List ℕ → List ℕ → Check
 check_fresh parameters state = or_else (check_alone parameters) (check_image_room state)
 
 unfoldable pub fresh_imaged : Check → List ℕ → List ℕ → Imaged
-fresh_imaged Passed parameters state = record { number = packing 0 0 0; state = image (fresh_call parameters).state }
-fresh_imaged (Refused why place) parameters state = record { number = refused_number why place; state = state }
+fresh_imaged (Ok _) parameters state = record { number = packing 0 0 0; state = image (fresh_call parameters).state }
+fresh_imaged (Err fault) parameters state = record { number = refused_number fault.why fault.place; state = state }
 
 unfoldable pub house_fresh : List ℕ → List ℕ → Imaged
 house_fresh parameters state = fresh_imaged (check_fresh parameters state) parameters state
@@ -69,8 +67,8 @@ move_imaged r records =
     record { number = packing r.code r.place r.count; state = image r.state; records = over (records_octets (take r.count r.records)) records }
 
 unfoldable pub move_by : Check → List ℕ → ℕ → List ℕ → ImagedMove
-move_by Passed state stamp records = move_imaged (move_call (state_in state) stamp) records
-move_by (Refused why place) state stamp records = record { number = refused_number why place; state = state; records = records }
+move_by (Ok _) state stamp records = move_imaged (move_call (state_in state) stamp) records
+move_by (Err fault) state stamp records = record { number = refused_number fault.why fault.place; state = state; records = records }
 
 unfoldable pub house_move : List ℕ → ℕ → List ℕ → ImagedMove
 house_move state stamp records = move_by (check_move state stamp records) state stamp records
@@ -92,8 +90,8 @@ unfoldable pub imaged : Whole → ImagedRun
 imaged w = record { number = packed w.report; state = image w.report.state; records = w.records; answers = w.answers }
 
 unfoldable pub change_imaged : Check → List ℕ → List ℕ → List ℕ → List ℕ → ImagedRun
-change_imaged Passed state inputs records answers = imaged (change_call (state_in state) inputs records answers)
-change_imaged (Refused why place) state inputs records answers = untouched why place state records answers
+change_imaged (Ok _) state inputs records answers = imaged (change_call (state_in state) inputs records answers)
+change_imaged (Err fault) state inputs records answers = untouched fault.why fault.place state records answers
 
 unfoldable pub house_change : List ℕ → List ℕ → List ℕ → List ℕ → ImagedRun
 house_change state inputs records answers = change_imaged (check_image state) state inputs records answers
@@ -103,8 +101,8 @@ unfoldable pub check_run_to : List ℕ → List ℕ → List ℕ → List ℕ �
 check_run_to file state records answers = or_else (verdict (read_call file records answers)) (check_image_room state)
 
 unfoldable pub run_imaged : Check → List ℕ → List ℕ → List ℕ → List ℕ → ImagedRun
-run_imaged Passed file state records answers = imaged (run_call file records answers)
-run_imaged (Refused why place) file state records answers = untouched why place state records answers
+run_imaged (Ok _) file state records answers = imaged (run_call file records answers)
+run_imaged (Err fault) file state records answers = untouched fault.why fault.place state records answers
 
 unfoldable pub house_run_to : List ℕ → List ℕ → List ℕ → List ℕ → ImagedRun
 house_run_to file state records answers = run_imaged (check_run_to file state records answers) file state records answers

@@ -1,11 +1,9 @@
 -- "take this as a list of what the other two got wrong": the customer's three mistakes, ties, delays and rank, each as what holds
 -- instead, of any list of cues that is played to an end time. It is proved of every list that rises in proofs/Mistakes/, and of every
 -- accepted cue file in the crate demands (ThreeMistakes).
-use Rattle.std.specs.Prelude.{ℕ, ◌+◌, ◌≤◌, Bool, true, false, ◌||◌, ◌≡◌, List, [], ◌∷◌, ◌++◌}
+use Rattle.std.specs.Prelude.{ℕ, ◌+◌, ◌≤◌, Bool, true, false, ◌||◌, ◌≡◌, List, [], ◌∷◌, ◌++◌, Option, Some, None}
 use Rattle.rules.specs.declared.parameters.Params.{Params}
 use Rattle.rules.specs.declared.parameters.Scene.{Scene}
-use Rattle.rules.specs.declared.parameters.Recalled.{Recalled}
-use Rattle.rules.specs.declared.parameters.Recalled.TheVariants.{Nothing, Output}
 use Rattle.rules.specs.declared.phase.Phase.TheVariants.{Starting}
 use Rattle.rules.specs.declared.input.Event.{Event}
 use Rattle.rules.specs.declared.input.Event.TheVariants.{Failure, Return}
@@ -62,16 +60,16 @@ pub record MayBeStruck (p : Params) (scenes : List Scene) (before : List Cue) (t
 -- ---- delays
 
 -- the output that an On, Off, scene-on or scene-off asks for, by the scene table that the input meets; no other input asks so
-abbrev pub asks_for : State → Input → Recalled
-asks_for s (SwitchOnOff value) = Output value
-asks_for s (TimedStartStop value) = Nothing
-asks_for s (NumberedSceneControl true number) = Nothing
+abbrev pub asks_for : State → Input → Option Bool
+asks_for s (SwitchOnOff value) = Some value
+asks_for s (TimedStartStop value) = None
+asks_for s (NumberedSceneControl true number) = None
 asks_for s (NumberedSceneControl false number) = recalled s.scenes number
-asks_for s (SwitchOnOffForced force) = Nothing
-asks_for s (LockDevice value) = Nothing
-asks_for s (NightMode value) = Nothing
-asks_for s (Bus event) = Nothing
-asks_for s (Power event) = Nothing
+asks_for s (SwitchOnOffForced force) = None
+asks_for s (LockDevice value) = None
+asks_for s (NightMode value) = None
+asks_for s (Bus event) = None
+asks_for s (Power event) = None
 
 -- ---- Off
 
@@ -102,7 +100,7 @@ abbrev pub OffIsHeard : Params → List Scene → List Cue → Type 0
 OffIsHeard p scenes list =
     (before : List Cue) (t : ℕ) (i : Input) (later : List Cue) → before ++ (cue t i ∷ later) ≡ list →
     let first : Turn = turn_after p scenes before t i in
-    Taken first → asks_for first.met i ≡ Output false →
+    Taken first → asks_for first.met i ≡ Some false →
     (u : ℕ) → t + p.offdelay ≤ u → Each (λ x. x.stamp ≤ u → stirs x.met x.input ≡ false) (turns later first.left) →
     output (state_at u list (fresh p scenes)).phase ≡ false
 
@@ -113,8 +111,8 @@ AskingAgainIsIdle p scenes list end =
     let first : Turn = turn_after p scenes before t i in
     let asked : List Cue = before ++ (cue t i ∷ between) in
     asked ++ (cue u j ∷ later) ≡ list →
-    Taken first → asks_for first.met i ≡ Output false → Each (λ x. stirs x.met x.input ≡ false) (turns between first.left) →
-    asks_for (turn_after p scenes asked u j).met j ≡ Output false →
+    Taken first → asks_for first.met i ≡ Some false → Each (λ x. stirs x.met x.input ≡ false) (turns between first.left) →
+    asks_for (turn_after p scenes asked u j).met j ≡ Some false →
     MayBeStruck p scenes asked u j later end
 
 -- ---- On
@@ -125,7 +123,7 @@ abbrev pub OnIsIdleWhileItWaits : Params → List Scene → List Cue → ℕ →
 OnIsIdleWhileItWaits p scenes list end =
     (before : List Cue) (t : ℕ) (i : Input) (later : List Cue) (d : ℕ) → before ++ (cue t i ∷ later) ≡ list →
     let x : Turn = turn_after p scenes before t i in
-    x.met.phase ≡ Starting false d → asks_for x.met i ≡ Output true → MayBeStruck p scenes before t i later end
+    x.met.phase ≡ Starting false d → asks_for x.met i ≡ Some true → MayBeStruck p scenes before t i later end
 
 -- And no On, timed start or scene-on makes the light later, whatever it meets and whatever follows: where one is taken at t, and the
 -- output is on at u without it, there with it the house shows light at some moment from t to u. (Only for a timed start, no timed stop

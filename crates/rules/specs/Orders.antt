@@ -1,11 +1,9 @@
 -- What each order does, at t (01, "What each order does, at t"). First what the orders make of a phase, then what they make of
 -- the state. An order is asked only of a state whose clock has moved to t, and only where nothing stops it (Barriers.antt). Last, what a
 -- value changes that is only noted.
-use Rattle.std.specs.Prelude.{ℕ, ◌+◌, Bool, true, false, cond, not, ◌&&◌, ◌||◌, List, eqb}
+use Rattle.std.specs.Prelude.{ℕ, ◌+◌, Bool, true, false, cond, not, ◌&&◌, ◌||◌, List, eqb, Option, Some, None}
 use Rattle.rules.specs.declared.parameters.Params.{Params}
 use Rattle.rules.specs.declared.parameters.Scene.{Scene}
-use Rattle.rules.specs.declared.parameters.Recalled.{Recalled}
-use Rattle.rules.specs.declared.parameters.Recalled.TheVariants.{Nothing, Output}
 use Rattle.rules.specs.declared.phase.Phase.{Phase}
 use Rattle.rules.specs.declared.phase.Phase.TheVariants.{Dark, Lit, Starting, Timed, Warning, Ending}
 use Rattle.rules.specs.declared.input.Force.{Force}
@@ -19,8 +17,6 @@ use Rattle.rules.specs.declared.state.Link.TheVariants.{Up, BusDown, PowerDown}
 use Rattle.rules.specs.declared.state.State.{State}
 use Rattle.base.specs.Time.{earlier}
 use Rattle.rules.specs.Scenes.{recalled, learnt}
-use Rattle.rules.specs.declared.phase.Deadline.{Deadline}
-use Rattle.rules.specs.declared.phase.Deadline.TheVariants.{Never, At}
 use Rattle.rules.specs.Phases.{output, own_end, lit_at, set_on, set_off}
 
 -- ---- orders to the phase
@@ -50,9 +46,9 @@ timed_start p t (Warning d) = Timed (t + p.timedon)
 timed_start p t (Ending d) = Timed (t + p.timedon)
 
 -- 02, [5]: "one choice of the earlier of two moments, read from one place": t+OffDelay, and the phase's own end where it has one
-unfoldable pub earliest_end : ℕ → Deadline → ℕ
-earliest_end delayed Never = delayed
-earliest_end delayed (At own) = earlier delayed own
+unfoldable pub earliest_end : ℕ → Option ℕ → ℕ
+earliest_end delayed None = delayed
+earliest_end delayed (Some own) = earlier delayed own
 
 -- "Off: Dark stays; Starting becomes Dark." Every lit phase: Ending until the earliest end. "With OffDelay 0 the result is Dark."
 -- (Phase by phase, in 01's words: Said.antt, `OffOrders`.)
@@ -141,9 +137,9 @@ timed s true = with_phase s (timed_start s.params s.clock s.phase)
 timed s false = with_phase s (timed_stop s.params s.clock s.phase)
 
 -- "Scene recall: a used, taught entry acts as On or Off by its value; any other number does nothing."
-unfoldable pub recall : State → Recalled → State
-recall s Nothing = s
-recall s (Output value) = switch s value
+unfoldable pub recall : State → Option Bool → State
+recall s None = s
+recall s (Some value) = switch s value
 
 -- "Learn, if enabled and the number is in the table: the entry's value becomes the present output and it is taught."
 unfoldable pub learn : State → ℕ → State

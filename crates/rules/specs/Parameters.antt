@@ -1,5 +1,6 @@
 -- The parameters (01, "Time and the cue file"; 02, [2]): what their octets say, which of them are in range, and what they are refused for.
-use Rattle.std.specs.Prelude.{ℕ, zero, suc, ◌+◌, ◌-◌, ◌/◌, ◌%◌, Bool, false, cond, not, ◌&&◌, ◌||◌, List, [], ◌∷◌, length, get_or, eqb, leb, ltb}
+use Rattle.base.specs.Refusals.{Check, refused_with}
+use Rattle.std.specs.Prelude.{ℕ, zero, suc, ◌+◌, ◌-◌, ◌/◌, ◌%◌, Bool, false, cond, not, ◌&&◌, ◌||◌, List, [], ◌∷◌, length, get_or, eqb, leb, ltb, Ok}
 use Rattle.octets.specs.BigEndian.{octet, be16, be32}
 use Rattle.rules.specs.declared.form.Scale.{Scale}
 use Rattle.rules.specs.declared.form.Scale.TheVariants.{Seconds, Tenths}
@@ -7,8 +8,6 @@ use Rattle.rules.specs.declared.form.Form.{Form}
 use Rattle.rules.specs.declared.parameters.Params.{Params}
 use Rattle.rules.specs.declared.parameters.Scene.{Scene}
 use Rattle.base.specs.declared.refusal.Refusal.TheVariants.{WrongLength, BadParameter}
-use Rattle.base.specs.declared.refusal.Check.{Check}
-use Rattle.base.specs.declared.refusal.Check.TheVariants.{Passed, Refused}
 use Rattle.base.specs.Time.{tenths, longest_delay}
 use Rattle.rules.specs.Forms.{width, unit, form_of, is_version}
 use Rattle.rules.specs.Layout.{time_place, parameters_size, modes_at, scenes_at, scene_place, flags_place, form_alone}
@@ -105,12 +104,12 @@ bad_octet f octets at =
 
 -- "lowest bad octet": of this many octets, from this place on
 unfoldable pub lowest_bad : Form → List ℕ → ℕ → ℕ → Check
-lowest_bad f octets zero at = Passed
-lowest_bad f octets (suc left) at = cond (bad_octet f octets at) (Refused BadParameter at) (lowest_bad f octets left (at + 1))
+lowest_bad f octets zero at = (Ok tt)
+lowest_bad f octets (suc left) at = cond (bad_octet f octets at) (refused_with BadParameter at) (lowest_bad f octets left (at + 1))
 
 -- "5 | parameter out of range | lowest bad octet in 0-31"; 02, [2]: "1, 4 and 5 use the version's sizes and places"
 unfoldable pub check_parameters : Form → List ℕ → Check
-check_parameters f octets = cond (eqb (length octets) (parameters_size f)) (lowest_bad f octets (parameters_size f) 0) (Refused WrongLength 0)
+check_parameters f octets = cond (eqb (length octets) (parameters_size f)) (lowest_bad f octets (parameters_size f) 0) (refused_with WrongLength 0)
 
 -- "1 | .. parameters offered alone not 32 | 0"; 02, [2]: "parameters alone are told by 32 or 40 octets"
 unfoldable pub check_alone : List ℕ → Check

@@ -2,11 +2,9 @@
 -- reader of the records sees of them. They are proved in proofs/Promises/, and for every accepted cue file and as the records show
 -- them in the crate demands (EveryFile, Shown). 02, [2]: "Timers and demand 3 are proved once, in tenths, over both": times are tenths here, whatever
 -- the version.
-use Rattle.std.specs.Prelude.{ℕ, ◌+◌, ◌-◌, ◌≤◌, ◌<◌, Bool, true, false, cond, not, ◌≡◌, ◌⊎◌, List, [], ◌∷◌, ◌++◌, eqb, leb}
+use Rattle.std.specs.Prelude.{ℕ, ◌+◌, ◌-◌, ◌≤◌, ◌<◌, Bool, true, false, cond, not, ◌≡◌, ◌⊎◌, List, [], ◌∷◌, ◌++◌, eqb, leb, Option, Some, None}
 use Rattle.rules.specs.declared.parameters.Params.{Params}
 use Rattle.rules.specs.declared.parameters.Scene.{Scene}
-use Rattle.rules.specs.declared.parameters.Recalled.{Recalled}
-use Rattle.rules.specs.declared.parameters.Recalled.TheVariants.{Nothing, Output}
 use Rattle.rules.specs.declared.input.Force.TheVariants.{Free}
 use Rattle.rules.specs.declared.input.Event.{Event}
 use Rattle.rules.specs.declared.input.Event.TheVariants.{Failure, Return}
@@ -73,13 +71,13 @@ Noted x = barrier x.met x.input ≡ Notes
 abbrev pub Dropped : Turn → Type 0
 Dropped x = (why : Why) × (barrier x.met x.input ≡ Stopped why)
 
-abbrev pub recalls_on : Recalled → Bool
-recalls_on Nothing = false
-recalls_on (Output value) = value
+abbrev pub recalls_on : Option Bool → Bool
+recalls_on None = false
+recalls_on (Some value) = value
 
-abbrev pub recalls_off : Recalled → Bool
-recalls_off Nothing = false
-recalls_off (Output value) = not value
+abbrev pub recalls_off : Option Bool → Bool
+recalls_off None = false
+recalls_off (Some value) = not value
 
 -- "On, timed start or scene-on", by the scene table that the input meets
 abbrev pub lights : State → Input → Bool

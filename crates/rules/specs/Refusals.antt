@@ -1,17 +1,13 @@
 -- "Given exactly when" (01, "Refusal numbers"): the table as statements, of parameters, of files and of each public call (of the live
 -- calls from C: demands/specs/Live.antt). That the calls keep to them is proved in proofs/Laws/Parameters.antt and proofs/Refusals/.
-use Rattle.std.specs.Prelude.{ℕ, zero, suc, ◌+◌, ◌*◌, ◌/◌, ◌%◌, ◌^◌, ◌≤◌, ◌<◌, true, false, List, ◌⊎◌, ◌≡◌, length}
-use Rattle.std.proofs.Math.Option.{Option, some, none}
+use Rattle.std.specs.Prelude.{ℕ, zero, suc, ◌+◌, ◌*◌, ◌/◌, ◌%◌, ◌^◌, ◌≤◌, ◌<◌, true, false, List, ◌⊎◌, ◌≡◌, length, Some, Ok, Option, None, Err}
 use Rattle.rules.specs.declared.form.Form.{Form}
 use Rattle.rules.specs.declared.input.Input.{Input}
-use Rattle.rules.specs.declared.input.Decoded.TheVariants.{Meant}
 use Rattle.rules.specs.declared.state.State.{State}
 use Rattle.rules.specs.declared.call.Ran.{Ran}
 use Rattle.base.specs.declared.refusal.Refusal.{Refusal}
 use Rattle.base.specs.declared.refusal.Refusal.TheVariants.{WrongLength, WrongVersion, WrongActuators, WrongLayout, BadParameter, BadInput, BadStamp, ShortBuffer, UnsoundState, BadAction, WrongGroups}
-use Rattle.base.specs.declared.refusal.Check.{Check}
-use Rattle.base.specs.declared.refusal.Check.TheVariants.{Passed, Refused}
-use Rattle.base.specs.Refusals.{Only, Then, Codes, Timely, CallCodes}
+use Rattle.base.specs.Refusals.{Only, Then, Codes, Timely, CallCodes, Check, refused_with}
 use Rattle.rules.specs.Forms.{version, form_in, HasVersion}
 use Rattle.rules.specs.Layout.{parameters_size, form_alone, inputs_at, input_place}
 use Rattle.rules.specs.Parameters.{bad_octet, check_parameters}
@@ -34,20 +30,24 @@ pub record FirstBad (f : Form) (octets : List ℕ) (at : ℕ) : Type 0 where
   pub bad : bad_octet f octets at ≡ true
   pub good : (j : ℕ) → j < at → bad_octet f octets j ≡ false
 
--- what the check of parameters finds, and when: two of the refusals, and the others never
+-- the rows of the check of parameters: two of the refusals, and the others never
+abbrev pub FoundBy : Form → List ℕ → Refusal → ℕ → Type 0
+FoundBy f octets WrongLength place = (place ≡ 0) × (length octets ≡ parameters_size f → ⊥)
+FoundBy f octets WrongVersion place = ⊥
+FoundBy f octets WrongActuators place = ⊥
+FoundBy f octets WrongLayout place = ⊥
+FoundBy f octets BadParameter place = FirstBad f octets place
+FoundBy f octets BadInput place = ⊥
+FoundBy f octets BadStamp place = ⊥
+FoundBy f octets ShortBuffer place = ⊥
+FoundBy f octets UnsoundState place = ⊥
+FoundBy f octets BadAction place = ⊥
+FoundBy f octets WrongGroups place = ⊥
+
+-- what the check of parameters finds, and when
 abbrev pub FoundWhen : Form → List ℕ → Check → Type 0
-FoundWhen f octets Passed = GoodParameters f octets
-FoundWhen f octets (Refused WrongLength place) = (place ≡ 0) × (length octets ≡ parameters_size f → ⊥)
-FoundWhen f octets (Refused WrongVersion place) = ⊥
-FoundWhen f octets (Refused WrongActuators place) = ⊥
-FoundWhen f octets (Refused WrongLayout place) = ⊥
-FoundWhen f octets (Refused BadParameter place) = FirstBad f octets place
-FoundWhen f octets (Refused BadInput place) = ⊥
-FoundWhen f octets (Refused BadStamp place) = ⊥
-FoundWhen f octets (Refused ShortBuffer place) = ⊥
-FoundWhen f octets (Refused UnsoundState place) = ⊥
-FoundWhen f octets (Refused BadAction place) = ⊥
-FoundWhen f octets (Refused WrongGroups place) = ⊥
+FoundWhen f octets (Ok _) = GoodParameters f octets
+FoundWhen f octets (Err fault) = FoundBy f octets fault.why fault.place
 
 -- ---- a file
 
@@ -75,7 +75,7 @@ pub record GoodHeader (file : List ℕ) : Type 0 where
 -- nor does row 5
 pub record GoodStart (file : List ℕ) : Type 0 where
   pub header : GoodHeader file
-  pub passed : check_parameters (form_in file) (parameters_in file) ≡ Passed
+  pub passed : check_parameters (form_in file) (parameters_in file) ≡ Ok tt
 
 -- when a file is refused for what stands before its inputs
 abbrev pub StartWhen : List ℕ → Refusal → ℕ → Type 0
@@ -102,7 +102,7 @@ stamp_before inputs from (suc j) = stamp_at inputs (input_place j)
 -- an input that neither row 6 nor row 7 holds for
 pub record GoodInput {A : Type 0} (at : ℕ → Option A) (inputs : List ℕ) (from to j : ℕ) : Type 0 where
   pub input : A
-  pub means : at j ≡ some input
+  pub means : at j ≡ Some input
   pub risen : stamp_before inputs from j ≤ stamp_at inputs (input_place j)
   pub timely : stamp_at inputs (input_place j) ≤ to
 
@@ -112,14 +112,14 @@ GoodInputs at inputs n from to = (j : ℕ) → j < n → GoodInput at inputs fro
 -- row 6 holds for this input, and no row for any before it
 pub record FirstWrong {A : Type 0} (at : ℕ → Option A) (inputs : List ℕ) (n from to place : ℕ) : Type 0 where
   pub within : place < n
-  pub wrong : at place ≡ none
+  pub wrong : at place ≡ None
   pub good : (j : ℕ) → j < place → GoodInput at inputs from to j
 
 -- row 7 holds for this input but not row 6, and no row for any before it
 pub record FirstUntimely {A : Type 0} (at : ℕ → Option A) (inputs : List ℕ) (n from to place : ℕ) : Type 0 where
   pub within : place < n
   pub input : A
-  pub means : at place ≡ some input
+  pub means : at place ≡ Some input
   pub untimely : (stamp_at inputs (input_place place) < stamp_before inputs from place) ⊎ (to < stamp_at inputs (input_place place))
   pub good : (j : ℕ) → j < place → GoodInput at inputs from to j
 
@@ -152,11 +152,11 @@ pub record GoodFile (file : List ℕ) : Type 0 where
 
 -- 02, [2]: "parameters alone are told by 32 or 40 octets"
 abbrev pub FreshCodes : List ℕ → ℕ → ℕ → Type 0
-FreshCodes octets = Codes (λ why p. FoundWhen (form_alone octets) octets (Refused why p)) (GoodParameters (form_alone octets) octets)
+FreshCodes octets = Codes (λ why p. FoundWhen (form_alone octets) octets (refused_with why p)) (GoodParameters (form_alone octets) octets)
 
 -- "For a single input 9, 6, 7, place 0."
 abbrev pub SingleCodes : State → List ℕ → ℕ → ℕ → Type 0
-SingleCodes s octets = CallCodes (sound s ≡ true) ((i : Input) × (input_at octets 0 ≡ Meant i)) (Timely s.clock (stamp_at octets 0))
+SingleCodes s octets = CallCodes (sound s ≡ true) ((i : Input) × (input_at octets 0 ≡ Some i)) (Timely s.clock (stamp_at octets 0))
 
 -- "A clock move: 9, 7." (nothing that it asks for could be unknown)
 abbrev pub MoveCodes : State → ℕ → ℕ → ℕ → Type 0

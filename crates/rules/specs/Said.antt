@@ -1,12 +1,11 @@
 -- Orders said a second time, from another side: what each leaves of every field, where an input is noted and what that changes, what each mode
 -- sets, when the light of a phase ends by itself, and what On, timed orders, Off and nightfall make of a phase, where Orders.antt goes order by
 -- order. That both sides say the same is proved (proofs/Laws/Orders.antt, Said.antt, Ends.antt), so that a slip in one of them does not pass.
-use Rattle.std.specs.Prelude.{ℕ, ◌+◌, ◌≤◌, Bool, true, false, cond, ◌≡◌, ◌⊎◌, List, [], ◌∷◌, get_or}
+use Rattle.std.specs.Prelude.{ℕ, ◌+◌, ◌≤◌, Bool, true, false, cond, ◌≡◌, ◌⊎◌, List, [], ◌∷◌, get_or, Some}
 use Rattle.rules.specs.declared.parameters.Params.{Params}
 use Rattle.rules.specs.declared.parameters.Scene.{Scene}
 use Rattle.rules.specs.declared.phase.Phase.{Phase}
 use Rattle.rules.specs.declared.phase.Phase.TheVariants.{Dark, Lit, Starting, Timed, Warning, Ending}
-use Rattle.rules.specs.declared.phase.Deadline.TheVariants.{At}
 use Rattle.rules.specs.declared.input.Force.{Force}
 use Rattle.rules.specs.declared.input.Force.TheVariants.{Free}
 use Rattle.rules.specs.declared.input.Event.{Event}
@@ -165,7 +164,7 @@ pub record EndsAtEarlier (a b : ℕ) (phase : Phase) : Type 0 where
 -- when a lit phase goes dark by itself (02, [5]), as the timers run: it is lit until then and dark from then on, or lit for good
 pub record EndsByItself (s : State) : Type 0 where
   pub until : (t : ℕ) → output s.phase ≡ true → Quiet t (own_end s.params s.phase) → output (clock_move s t).state.phase ≡ true
-  pub after : (t d : ℕ) → own_end s.params s.phase ≡ At d → d ≤ t → (clock_move s t).state.phase ≡ Dark
+  pub after : (t d : ℕ) → own_end s.params s.phase ≡ Some d → d ≤ t → (clock_move s t).state.phase ≡ Dark
 
 -- "Off: Dark stays; Starting becomes Dark. Lit: Ending until t+OffDelay. Timed with deadline d: Ending until the earlier of t+OffDelay and
 -- d+Prewarning. Warning or Ending: Ending until the earlier of t+OffDelay and d. With OffDelay 0 the result is Dark."
@@ -195,9 +194,9 @@ pub record OnOrders (p : Params) (night held : Bool) (t : ℕ) : Type 0 where
   pub after_delay : (p.ondelay ≡ 0 → ⊥) → on p night held t Dark ≡ Starting false (t + p.ondelay)
   pub waiting : (timed : Bool) (d : ℕ) → on p night held t (Starting timed d) ≡ Starting false d
   pub lit : on p night held t Lit ≡ Lit
-  pub ends_in_night : (phase : Phase) (d : ℕ) → own_end p phase ≡ At d → night ≡ true → held ≡ false → on p night held t phase ≡ Timed (t + p.timedon)
-  pub stays_by_day : (phase : Phase) (d : ℕ) → own_end p phase ≡ At d → night ≡ false → on p night held t phase ≡ Lit
-  pub stays_held : (phase : Phase) (d : ℕ) → own_end p phase ≡ At d → held ≡ true → on p night held t phase ≡ Lit
+  pub ends_in_night : (phase : Phase) (d : ℕ) → own_end p phase ≡ Some d → night ≡ true → held ≡ false → on p night held t phase ≡ Timed (t + p.timedon)
+  pub stays_by_day : (phase : Phase) (d : ℕ) → own_end p phase ≡ Some d → night ≡ false → on p night held t phase ≡ Lit
+  pub stays_held : (phase : Phase) (d : ℕ) → own_end p phase ≡ Some d → held ≡ true → on p night held t phase ≡ Lit
 
 -- "Timed start: the same from Dark and Starting but timed; every lit phase becomes Timed until t+TimedOn."; "Timed stop: as Off in Timed,
 -- Warning and timed Starting; otherwise nothing."

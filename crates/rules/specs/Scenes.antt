@@ -1,14 +1,12 @@
 -- The scene table: eight entries, each with a scene number, an output, and whether it was taught in.
-use Rattle.std.specs.Prelude.{ℕ, Bool, true, cond, not, ◌&&◌, ◌||◌, List, [], ◌∷◌, eqb, leb}
+use Rattle.std.specs.Prelude.{ℕ, Bool, true, cond, not, ◌&&◌, ◌||◌, List, [], ◌∷◌, eqb, leb, Option, Some, None}
 use Rattle.rules.specs.declared.parameters.Scene.{Scene}
-use Rattle.rules.specs.declared.parameters.Recalled.{Recalled}
-use Rattle.rules.specs.declared.parameters.Recalled.TheVariants.{Nothing, Output}
 
 -- 01, "What each order does": "Scene recall: a used, taught entry acts as On or Off by its value; any other number does nothing."
 -- (An input's number is at most 63, proofs/Laws/Inputs.antt `input_number`, so an entry that has it is used.)
-unfoldable pub recalled : List Scene → ℕ → Recalled
-recalled [] number = Nothing
-recalled (e ∷ rest) number = cond (eqb e.number number) (cond e.taught (Output e.value) Nothing) (recalled rest number)
+unfoldable pub recalled : List Scene → ℕ → Option Bool
+recalled [] number = None
+recalled (e ∷ rest) number = cond (eqb e.number number) (cond e.taught (Some e.value) None) (recalled rest number)
 
 -- "Learn, if enabled and the number is in the table: the entry's value becomes the present output and it is taught."
 unfoldable pub learnt : List Scene → ℕ → Bool → List Scene

@@ -1,9 +1,7 @@
 -- A sound state (01, "Refusal numbers": "A state is sound when ..").
-use Rattle.std.specs.Prelude.{ℕ, ◌-◌, Bool, true, false, cond, not, ◌&&◌, ◌||◌, leb, ltb}
+use Rattle.std.specs.Prelude.{ℕ, ◌-◌, Bool, true, false, cond, not, ◌&&◌, ◌||◌, leb, ltb, Option, Some, None}
 use Rattle.rules.specs.declared.phase.Phase.{Phase}
 use Rattle.rules.specs.declared.phase.Phase.TheVariants.{Dark, Lit, Starting, Timed, Warning, Ending}
-use Rattle.rules.specs.declared.phase.Deadline.{Deadline}
-use Rattle.rules.specs.declared.phase.Deadline.TheVariants.{Never, At}
 use Rattle.rules.specs.declared.input.Force.{Force}
 use Rattle.rules.specs.declared.input.Force.TheVariants.{Free, Off, On}
 use Rattle.rules.specs.declared.state.Link.{Link}
@@ -16,9 +14,9 @@ use Rattle.rules.specs.Orders.{standing}
 use Rattle.rules.specs.Barriers.{power_down}
 
 -- "a deadline lies 1 to 655,350 after the clock"
-unfoldable pub soon : ℕ → Deadline → Bool
-soon clock Never = true
-soon clock (At d) = cond (ltb clock d) (leb (d - clock) longest_delay) false
+unfoldable pub soon : ℕ → Option ℕ → Bool
+soon clock None = true
+soon clock (Some d) = cond (ltb clock d) (leb (d - clock) longest_delay) false
 
 abbrev pub is_dark : Phase → Bool
 is_dark Dark = true

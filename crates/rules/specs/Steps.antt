@@ -1,11 +1,9 @@
 -- The clock move and the step of one input (01, "Phases" and "Which input counts"; 02, [4]).
-use Rattle.std.specs.Prelude.{ℕ, ◌≤◌, ◌<◌, true, false, cond, List, [], ◌++◌, ◌≡◌, leb}
+use Rattle.std.specs.Prelude.{ℕ, ◌≤◌, ◌<◌, true, false, cond, List, [], ◌++◌, ◌≡◌, leb, Option, Some, None}
 use Rattle.rules.specs.declared.parameters.Params.{Params}
 use Rattle.rules.specs.declared.parameters.Scene.{Scene}
 use Rattle.rules.specs.declared.phase.Phase.{Phase}
 use Rattle.rules.specs.declared.phase.Phase.TheVariants.{Dark}
-use Rattle.rules.specs.declared.phase.Deadline.{Deadline}
-use Rattle.rules.specs.declared.phase.Deadline.TheVariants.{Never, At}
 use Rattle.rules.specs.declared.input.Force.TheVariants.{Free}
 use Rattle.rules.specs.declared.input.Input.{Input}
 use Rattle.rules.specs.declared.state.Link.TheVariants.{Up}
@@ -46,9 +44,9 @@ abbrev pub fired : State → ℕ → State
 fired s d = at_moment s d (at_deadline s.params s.night s.phase)
 
 -- "every deadline at or before t is run, each at its own moment": one of them, where there is one
-unfoldable pub tick_at : State → ℕ → Deadline → State
-tick_at s t Never = s
-tick_at s t (At d) = cond (leb d t) (fired s d) s
+unfoldable pub tick_at : State → ℕ → Option ℕ → State
+tick_at s t None = s
+tick_at s t (Some d) = cond (leb d t) (fired s d) s
 
 unfoldable pub tick : State → ℕ → State
 tick s t = tick_at s t (deadline s.phase)
@@ -72,14 +70,14 @@ clock_move s t = ticked s (tick s t) (tick (tick s t) t) (tick (tick (tick s t) 
 -- the same as a chain of timers, however many (proofs/Laws/Timers.antt, `clock_moves`)
 
 -- it has not come by t: no timer is due
-abbrev pub Quiet : ℕ → Deadline → Type 0
-Quiet t Never = Unit {0}
-Quiet t (At d) = t < d
+abbrev pub Quiet : ℕ → Option ℕ → Type 0
+Quiet t None = Unit {0}
+Quiet t (Some d) = t < d
 
 -- the timers due from s up to t, one after the other, and their records; then the clock stands at t
 pub data Moves (t : ℕ) : State → State → List Record → Type 0 where
   rest : {s : State} → Quiet t (deadline s.phase) → Moves t s (at_moment s t s.phase) []
-  fire : {s u : State} {l : List Record} (d : ℕ) → deadline s.phase ≡ At d → d ≤ t → Moves t (fired s d) u l → Moves t s u (written by_itself s (fired s d) ++ l)
+  fire : {s u : State} {l : List Record} (d : ℕ) → deadline s.phase ≡ Some d → d ≤ t → Moves t (fired s d) u l → Moves t s u (written by_itself s (fired s d) ++ l)
 
 -- what an input gives
 pub record Stepped : Type 0 where

@@ -28,9 +28,3 @@ pub enum Input {
     Power(Event),
 }
 
-// What a kind octet and a value octet mean.
-#[derive(Clone, Copy)]
-pub enum Decoded {
-    Meant(Input),
-    Wrong,
-}

@@ -24,9 +24,3 @@ pub struct Scene {
     pub taught: bool,
 }
 
-// What recalling a scene number asks for.
-#[derive(Clone, Copy)]
-pub enum Recalled {
-    Nothing,
-    Output(bool),
-}

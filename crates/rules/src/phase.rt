@@ -10,8 +10,3 @@ pub enum Phase {
     Ending(u32),
 }
 
-#[derive(Clone, Copy)]
-pub enum Deadline {
-    Never,
-    At(u32),
-}

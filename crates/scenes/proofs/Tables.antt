@@ -1,4 +1,5 @@
 -- The scene table, one entry at a time: what the loops over it need.
+use Rattle.std.specs.Prelude.{Some, None}
 use Prim.Native.Nat.{ℕ, suc, ◌+◌, ◌<◌}
 use mathlib.Core.Bool.{Bool, true, false, not, ◌&&◌, ◌||◌, cond}
 use mathlib.Core.List.{List, [], ◌∷◌, ◌++◌, append_assoc}
@@ -11,14 +12,13 @@ use native.Mathlib.Omega.{arith}
 use Rattle.rules.specs.declared.parameters.Scene.{Scene}
 use Rattle.rules.specs.Scenes.{entry_in_range, absent, scenes_in_range, recalled, learnt}
 use Rattle.rules.specs.Answers.{same_scene, same_scenes}
-use Rattle.rules.specs.declared.parameters.Recalled.TheVariants.{Nothing, Output}
 
 -- what an array of scenes is read with past its end
 abbrev pub past : Scene
 past = record { number = 0; value = false; taught = false }
 
 module _ (k : List Scene) (n i : ℕ) (within : i < length k) where
-  pub recalled_step : recalled (drop i k) n ≡ cond (eqb (get_or k i past).number n) (cond (get_or k i past).taught (Output (get_or k i past).value) Nothing) (recalled (drop (suc i) k) n)
+  pub recalled_step : recalled (drop i k) n ≡ cond (eqb (get_or k i past).number n) (cond (get_or k i past).taught (Some (get_or k i past).value) None) (recalled (drop (suc i) k) n)
   unfolding recalled
   recalled_step = rw (drop-cons k i past within)
 
@@ -35,7 +35,7 @@ module _ (k : List Scene) (n i : ℕ) (within : i < length k) where
   learnt_later on miss = rw (learnt_step on, miss, take-suc k i past within) (sym (append_assoc (take i k) (get_or k i past ∷ []) (learnt (drop (suc i) k) n on)))
 
 -- past the last entry
-pub recalled_none : (k : List Scene) (n : ℕ) → length k ≡ 0 → recalled k n ≡ Nothing
+pub recalled_none : (k : List Scene) (n : ℕ) → length k ≡ 0 → recalled k n ≡ None
 unfolding recalled
 recalled_none [] n none = refl
 recalled_none (e ∷ k) n none = absurd (omega arith)

@@ -2,10 +2,10 @@
 ghost use Rattle.std.specs.Prelude.{◌≡◌};
 ghost use Rattle.rules.specs.Scenes.{recalled, learnt};
 
-use rules::parameters::{Recalled, Scene};
+use rules::parameters::Scene;
 
 // What recalling a number asks for: the first entry of that number tells, where it was taught.
-pub fn recalls(k: [Scene; 8], number: u8) -> Recalled
+pub fn recalls(k: [Scene; 8], number: u8) -> Option<bool>
     ensures { result ≡ recalled k number }
 {
     let mut i: usize = 0;
@@ -13,14 +13,14 @@ pub fn recalls(k: [Scene; 8], number: u8) -> Recalled
         let e = k[i];
         if e.number == number {
             return if e.taught {
-                Recalled::Output(e.value)
+                Some(e.value)
             } else {
-                Recalled::Nothing
+                None
             };
         }
         i += 1;
     }
-    Recalled::Nothing
+    None
 }
 
 // The table after the entry of a number has learnt an output; a number that is not in the table changes nothing.

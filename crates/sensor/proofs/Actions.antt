@@ -1,4 +1,5 @@
 -- The four actions: their numbers, and what their check finds.
+use Rattle.std.specs.Prelude.{Ok, Err}
 use Prim.Native.Nat.{ℕ, zero, suc, ◌≤◌, ◌<◌}
 use mathlib.Core.Bool.{Bool, true, false}
 use mathlib.Core.List.{List}
@@ -11,9 +12,7 @@ use borrow.Author.Tests.{eqb-true, eqb-false, ne_eqb, eq-eqb, leb-true, leb-fals
 use Rattle.octets.specs.BigEndian.{octet}
 use Rattle.base.specs.declared.refusal.Refusal.{Refusal}
 use Rattle.base.specs.declared.refusal.Refusal.TheVariants.{WrongLength, BadAction}
-use Rattle.base.specs.declared.refusal.Check.{Check}
-use Rattle.base.specs.declared.refusal.Check.TheVariants.{Passed, Refused}
-use Rattle.base.specs.Refusals.{Decides}
+use Rattle.base.specs.Refusals.{Decides, Check, refused_with}
 use Rattle.base.proofs.Tests.{cond_case}
 use Rattle.base.proofs.Codes.{codes_of_a_check}
 use Rattle.sensor.specs.declared.action.Action.{Action}
@@ -45,8 +44,8 @@ number_of_its_action n few =
 module _ (octets : List ℕ) where
   -- what a check says, by the row that it names
   abbrev Says : Check → Type 0
-  Says Passed = GoodActions octets
-  Says (Refused why p) = ActionsWhen octets why p
+  Says (Ok _) = GoodActions octets
+  Says (Err fault) = ActionsWhen octets fault.why fault.place
 
   -- the octets before a place are at most 3
   abbrev GoodTo : ℕ → Type 0
@@ -66,15 +65,15 @@ module _ (octets : List ℕ) where
   says : Says (check_actions octets)
   unfolding check_actions bad_action
   says =
-      cond_case Says (eqb (length octets) 4) _ (Refused WrongLength 0)
+      cond_case Says (eqb (length octets) 4) _ (refused_with WrongLength 0)
       (λ four. let whole = eqb-true _ _ four in let start : GoodTo 0 = λ j h. absurd (omega arith) in
-      cond_case Says (leb (octet octets 0) 3) _ (Refused BadAction 0)
+      cond_case Says (leb (octet octets 0) 3) _ (refused_with BadAction 0)
       (λ a. let to1 = one_more 0 (leb-true _ _ a) start in
-      cond_case Says (leb (octet octets 1) 3) _ (Refused BadAction 1)
+      cond_case Says (leb (octet octets 1) 3) _ (refused_with BadAction 1)
       (λ b. let to2 = one_more 1 (leb-true _ _ b) to1 in
-      cond_case Says (leb (octet octets 2) 3) _ (Refused BadAction 2)
+      cond_case Says (leb (octet octets 2) 3) _ (refused_with BadAction 2)
       (λ c. let to3 = one_more 2 (leb-true _ _ c) to2 in
-      cond_case Says (leb (octet octets 3) 3) Passed (Refused BadAction 3)
+      cond_case Says (leb (octet octets 3) 3) (Ok tt) (refused_with BadAction 3)
       (λ d. record { whole = whole; good = one_more 3 (leb-true _ _ d) to3 })
       (λ d. inr (refl, first_bad 3 whole (omega arith) to3 d)))
       (λ c. inr (refl, first_bad 2 whole (omega arith) to2 c)))
@@ -83,12 +82,12 @@ module _ (octets : List ℕ) where
       (λ other. inl (refl, refl, eqb-false _ _ other))
 
   -- and the other way round: the row that holds is found
-  pub good_is_passed : GoodActions octets → check_actions octets ≡ Passed
+  pub good_is_passed : GoodActions octets → check_actions octets ≡ Ok tt
   unfolding check_actions
   good_is_passed g =
       rw (eq-eqb _ _ g.whole, le-leb _ _ (g.good 0 (omega arith)), le-leb _ _ (g.good 1 (omega arith)), le-leb _ _ (g.good 2 (omega arith)), le-leb _ _ (g.good 3 (omega arith)))
 
-  bad_is_found : (at : ℕ) → FirstBadAction octets at → check_actions octets ≡ Refused BadAction at
+  bad_is_found : (at : ℕ) → FirstBadAction octets at → check_actions octets ≡ refused_with BadAction at
   unfolding check_actions bad_action
   bad_is_found zero f = rw (eq-eqb _ _ f.whole, lt-leb _ _ f.bad)
   bad_is_found (suc zero) f = rw (eq-eqb _ _ f.whole, le-leb _ _ (f.good 0 (omega arith)), lt-leb _ _ f.bad)
@@ -96,14 +95,14 @@ module _ (octets : List ℕ) where
   bad_is_found (suc (suc (suc zero))) f = rw (eq-eqb _ _ f.whole, le-leb _ _ (f.good 0 (omega arith)), le-leb _ _ (f.good 1 (omega arith)), le-leb _ _ (f.good 2 (omega arith)), lt-leb _ _ f.bad)
   bad_is_found (suc (suc (suc (suc n)))) f = absurd (omega (arith, f.within))
 
-  found : (why : Refusal) (p : ℕ) → ActionsWhen octets why p → check_actions octets ≡ Refused why p
+  found : (why : Refusal) (p : ℕ) → ActionsWhen octets why p → check_actions octets ≡ refused_with why p
   found why p g =
       elim g [
         | inl (row, place, other) ↦ unfold check_actions in rw (ne_eqb _ _ other, row, place)
         | inr (row, bad) ↦ rw row (bad_is_found p bad)
       ]
 
-  pub passed_has_four : check_actions octets ≡ Passed → length octets ≡ 4
+  pub passed_has_four : check_actions octets ≡ (Ok tt) → length octets ≡ 4
   passed_has_four e = (rw e at says).whole
 
   pub actions_decide : Decides (ActionsWhen octets) (GoodActions octets) (check_actions octets)

@@ -1,4 +1,5 @@
 -- One input to a sensor: it is refused exactly when the table says, a refusal changes nothing, and a sound sensor stays sound.
+use Rattle.std.specs.Prelude.{Option, Some, None, Ok, Err}
 use Prim.Native.Nat.{ℕ, ◌≤◌}
 use mathlib.Core.Bool.{Bool, true, false, cond}
 use mathlib.Core.List.{List}
@@ -8,14 +9,10 @@ use native.Mathlib.Omega.{arith}
 use borrow.Author.Tests.{leb-true, le-leb}
 use Rattle.octets.specs.Groups.{stamp_at}
 use Rattle.base.specs.declared.refusal.Refusal.TheVariants.{BadInput, BadStamp, UnsoundState}
-use Rattle.base.specs.declared.refusal.Check.{Check}
-use Rattle.base.specs.declared.refusal.Check.TheVariants.{Passed, Refused}
-use Rattle.base.specs.Refusals.{code_of, place_of, stamp_in_range, check_call, Timely}
+use Rattle.base.specs.Refusals.{code_of, place_of, stamp_in_range, check_call, Timely, Check}
 use Rattle.base.proofs.Tests.{no}
 use Rattle.base.proofs.Codes.{timely_exactly_when, call_codes}
 use Rattle.sensor.specs.declared.signal.Signal.{Signal}
-use Rattle.sensor.specs.declared.signal.Signalled.{Signalled}
-use Rattle.sensor.specs.declared.signal.Signalled.TheVariants.{Meant, Wrong}
 use Rattle.sensor.specs.declared.state.Sensor.{Sensor}
 use Rattle.sensor.specs.declared.call.Sensed.{Sensed}
 use Rattle.sensor.specs.Signals.{signal_at}
@@ -35,9 +32,9 @@ sound_exactly_when z = (leb-true _ _, le-leb _ _)
 -- What one input finds: the first of the table's rows 9, 6, 7 that fits, or a signal that is taken.
 pub data SensorFinds (z : Sensor) (octets : List ℕ) : Sensed → Type 0 where
   not_sound : sound_sensor z ≡ false → SensorFinds z octets (sensor_refused z UnsoundState)
-  wrong : sound_sensor z ≡ true → signal_at octets 0 ≡ Wrong → SensorFinds z octets (sensor_refused z BadInput)
-  untimely : (s : Signal) → sound_sensor z ≡ true → signal_at octets 0 ≡ Meant s → stamp_in_range z.clock (stamp_at octets 0) ≡ false → SensorFinds z octets (sensor_refused z BadStamp)
-  takes : (s : Signal) → sound_sensor z ≡ true → signal_at octets 0 ≡ Meant s → stamp_in_range z.clock (stamp_at octets 0) ≡ true → SensorFinds z octets (sensed (stamp_at octets 0) (react z s (stamp_at octets 0)))
+  wrong : sound_sensor z ≡ true → signal_at octets 0 ≡ None → SensorFinds z octets (sensor_refused z BadInput)
+  untimely : (s : Signal) → sound_sensor z ≡ true → signal_at octets 0 ≡ Some s → stamp_in_range z.clock (stamp_at octets 0) ≡ false → SensorFinds z octets (sensor_refused z BadStamp)
+  takes : (s : Signal) → sound_sensor z ≡ true → signal_at octets 0 ≡ Some s → stamp_in_range z.clock (stamp_at octets 0) ≡ true → SensorFinds z octets (sensed (stamp_at octets 0) (react z s (stamp_at octets 0)))
 
 module _ (z : Sensor) (octets : List ℕ) where
   -- each test of the call decides one row
@@ -45,31 +42,31 @@ module _ (z : Sensor) (octets : List ℕ) where
   unfolding sensor_call
   sensor_finds = by (sound_sensor z) refl
     where
-      timely : (s : Signal) (b : Bool) → sound_sensor z ≡ true → signal_at octets 0 ≡ Meant s → stamp_in_range z.clock (stamp_at octets 0) ≡ b
+      timely : (s : Signal) (b : Bool) → sound_sensor z ≡ true → signal_at octets 0 ≡ Some s → stamp_in_range z.clock (stamp_at octets 0) ≡ b
           → SensorFinds z octets (cond b (sensed (stamp_at octets 0) (react z s (stamp_at octets 0))) (sensor_refused z BadStamp))
       timely s true h m e = takes s h m e
       timely s false h m e = untimely s h m e
 
-      meant : (d : Signalled) → sound_sensor z ≡ true → signal_at octets 0 ≡ d → SensorFinds z octets (sensor_meant z (stamp_at octets 0) d)
-      meant Wrong h m = unfold sensor_meant in wrong h m
-      meant (Meant s) h m = unfold sensor_meant in timely s (stamp_in_range z.clock (stamp_at octets 0)) h m refl
+      meant : (d : Option Signal) → sound_sensor z ≡ true → signal_at octets 0 ≡ d → SensorFinds z octets (sensor_meant z (stamp_at octets 0) d)
+      meant None h m = unfold sensor_meant in wrong h m
+      meant (Some s) h m = unfold sensor_meant in timely s (stamp_in_range z.clock (stamp_at octets 0)) h m refl
 
       by : (b : Bool) → sound_sensor z ≡ b → SensorFinds z octets (cond b (sensor_meant z (stamp_at octets 0) (signal_at octets 0)) (sensor_refused z UnsoundState))
       by true h = meant (signal_at octets 0) h refl
       by false h = not_sound h
 
   -- and the other way round: where no row fits, the signal is taken
-  pub good_is_taken : (s : Signal) → sound_sensor z ≡ true → signal_at octets 0 ≡ Meant s → stamp_in_range z.clock (stamp_at octets 0) ≡ true → sensor_call z octets ≡ sensed (stamp_at octets 0) (react z s (stamp_at octets 0))
+  pub good_is_taken : (s : Signal) → sound_sensor z ≡ true → signal_at octets 0 ≡ Some s → stamp_in_range z.clock (stamp_at octets 0) ≡ true → sensor_call z octets ≡ sensed (stamp_at octets 0) (react z s (stamp_at octets 0))
   unfolding sensor_call sensor_meant
   good_is_taken s h m e = rw (h, m, e)
 
-  abbrev is_meant : Signalled → Bool
-  is_meant (Meant s) = true
-  is_meant Wrong = false
+  abbrev is_meant : Option Signal → Bool
+  is_meant (Some s) = true
+  is_meant None = false
 
-  meant_exactly : (d : Signalled) → (is_meant d ≡ true) ↔ ((s : Signal) × (d ≡ Meant s))
-  meant_exactly (Meant s) = (λ e. (s, refl), λ g. refl)
-  meant_exactly Wrong = (λ e. no e, λ g. not_meant g.1)
+  meant_exactly : (d : Option Signal) → (is_meant d ≡ true) ↔ ((s : Signal) × (d ≡ Some s))
+  meant_exactly (Some s) = (λ e. (s, refl), λ g. refl)
+  meant_exactly None = (λ e. no e, λ g. not_meant g.1)
 
   check : Check
   check = check_call (sound_sensor z) (is_meant (signal_at octets 0)) (stamp_in_range z.clock (stamp_at octets 0))
@@ -88,7 +85,7 @@ module _ (z : Sensor) (octets : List ℕ) where
   unfolding check
   sensor_refused_exactly_when =
       rw (code_is_found.0, code_is_found.1)
-      (call_codes (z.clock ≤ 864_000) ((s : Signal) × (signal_at octets 0 ≡ Meant s)) (Timely z.clock (stamp_at octets 0)) _ _ _ (sound_exactly_when z) (meant_exactly (signal_at octets 0)) (timely_exactly_when z.clock (stamp_at octets 0)))
+      (call_codes (z.clock ≤ 864_000) ((s : Signal) × (signal_at octets 0 ≡ Some s)) (Timely z.clock (stamp_at octets 0)) _ _ _ (sound_exactly_when z) (meant_exactly (signal_at octets 0)) (timely_exactly_when z.clock (stamp_at octets 0)))
 
   -- "A refused call .. hands back the state it was given", place 0; it sends nothing
   pub sensor_refusal_changes_nothing : ((sensor_call z octets).code ≡ 0 → ⊥) → sensor_call z octets ≡ record { sensor = z; code = (sensor_call z octets).code; place = 0; sent = silence }
@@ -127,5 +124,5 @@ unfolding fresh_sensor_call fresh_sensor_by
 fresh_sensor_is_sound octets = by (check_actions octets)
   where
     by : (c : Check) → sound_sensor (sensor_by octets c) ≡ true
-    by Passed = unfold sound_sensor fresh_sensor in refl
-    by (Refused why place) = unfold sound_sensor own_sensor in refl
+    by (Ok _) = unfold sound_sensor fresh_sensor in refl
+    by (Err fault) = unfold sound_sensor own_sensor in refl

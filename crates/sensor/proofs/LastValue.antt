@@ -1,4 +1,5 @@
 -- A toggle sends the inverse of the last value sent or received, whichever is later, over any list.
+use Rattle.std.specs.Prelude.{Some}
 use Prim.Native.Nat.{ℕ}
 use mathlib.Core.Bool.{Bool, true, not}
 use mathlib.Core.List.{List, [], ◌∷◌, ◌++◌}
@@ -7,7 +8,6 @@ use Rattle.sensor.specs.declared.action.Action.{Action}
 use Rattle.sensor.specs.declared.action.Action.TheVariants.{SendInverse}
 use Rattle.sensor.specs.declared.signal.Signal.{Signal}
 use Rattle.sensor.specs.declared.state.Sensor.{Sensor}
-use Rattle.sensor.specs.declared.react.Telegram.TheVariants.{Switch}
 use Rattle.sensor.specs.Sensors.{fresh_sensor}
 use Rattle.sensor.specs.Reactions.{hear, react, Stamped, at, Heard, reacts}
 use Rattle.sensor.specs.Claims.{EdgeWith, first_rises, first_falls, second_rises, second_falls, value_of, values, last_of}
@@ -50,13 +50,13 @@ an_edge_keeps_its_action [] z a s e = e
 an_edge_keeps_its_action (at t r ∷ later) z a s e = an_edge_keeps_its_action later (react z r t).sensor a s (rw (a_reaction_hears z r t) (heard_edge z t _ a s e))
 
 pub a_toggle_sends_the_inverse_of_the_last : (list : List Stamped) (z : Sensor) (s : Signal) (t : ℕ) → EdgeWith z SendInverse s →
-    (react (reacts list z).sensor s t).telegram ≡ Switch (not (last_of z.value (values list z)))
+    (react (reacts list z).sensor s t).telegram ≡ Some (not (last_of z.value (values list z)))
 a_toggle_sends_the_inverse_of_the_last list z s t e =
     an_edge_sends_by_its_action (reacts list z).sensor SendInverse s t (an_edge_keeps_its_action list z SendInverse s e)
-    ∙ ap (λ (last : Bool). Switch (not last)) (the_value_is_the_last_sent_or_received list z)
+    ∙ ap (λ (last : Bool). Some (not last)) (the_value_is_the_last_sent_or_received list z)
 
 -- "the value before any is off": where nothing was sent or received, a toggle of a fresh sensor sends On
 pub a_first_toggle_sends_on : (octets : List ℕ) (list : List Stamped) (s : Signal) (t : ℕ) → EdgeWith (fresh_sensor octets) SendInverse s → values list (fresh_sensor octets) ≡ [] →
-    (react (reacts list (fresh_sensor octets)).sensor s t).telegram ≡ Switch true
+    (react (reacts list (fresh_sensor octets)).sensor s t).telegram ≡ Some true
 a_first_toggle_sends_on octets list s t e none =
     a_toggle_sends_the_inverse_of_the_last list (fresh_sensor octets) s t e ∙ rw none (unfold last_of fresh_sensor in refl)

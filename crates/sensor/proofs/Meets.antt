@@ -1,4 +1,5 @@
 -- The calls meet all that is asked of a sensor, and no others do.
+use Rattle.std.specs.Prelude.{Some, Ok, Err}
 use Prim.Native.Nat.{ℕ, ◌≤◌}
 use mathlib.Core.Bool.{Bool, true, false, not}
 use mathlib.Core.List.{List, [], ◌∷◌}
@@ -7,16 +8,13 @@ use native.Mathlib.Omega.{arith}
 use Rattle.octets.specs.Groups.{stamp_at}
 use Rattle.base.specs.declared.refusal.Refusal.{Refusal}
 use Rattle.base.specs.declared.refusal.Refusal.TheVariants.{BadInput, BadStamp, UnsoundState}
-use Rattle.base.specs.declared.refusal.Check.{Check}
-use Rattle.base.specs.declared.refusal.Check.TheVariants.{Passed, Refused}
-use Rattle.base.specs.Refusals.{code_of, Timely, CallWhen}
+use Rattle.base.specs.Refusals.{code_of, Timely, CallWhen, Check}
 use Rattle.base.proofs.Codes.{some_number, timely_exactly_when}
 use Rattle.sensor.specs.declared.action.Action.{Action}
 use Rattle.sensor.specs.declared.action.Action.TheVariants.{Nothing, SendOff, SendOn, SendInverse}
 use Rattle.sensor.specs.declared.signal.Edge.TheVariants.{Falling, Rising}
 use Rattle.sensor.specs.declared.signal.Signal.{Signal}
 use Rattle.sensor.specs.declared.signal.Signal.TheVariants.{Button1, Button2, Status}
-use Rattle.sensor.specs.declared.signal.Signalled.TheVariants.{Meant}
 use Rattle.sensor.specs.declared.state.Sensor.{Sensor}
 use Rattle.sensor.specs.declared.call.FreshSensor.{FreshSensor}
 use Rattle.sensor.specs.declared.call.Sensed.{Sensed}
@@ -57,8 +55,8 @@ unfolding fresh_sensor_call fresh_sensor_by
 our_fresh_sensor_refuses_idle octets = by (check_actions octets)
   where
     by : (c : Check) → (code_of c ≡ 0 → ⊥) → FreshWith (0 ∷ 0 ∷ 0 ∷ 0 ∷ []) (sensor_by octets c)
-    by Passed refused = absurd (refused refl)
-    by (Refused why place) refused = unfold own_sensor in record { rising1 = refl; falling1 = refl; rising2 = refl; falling2 = refl; clock = refl; value = refl }
+    by (Ok _) refused = absurd (refused refl)
+    by (Err fault) refused = unfold own_sensor in record { rising1 = refl; falling1 = refl; rising2 = refl; falling2 = refl; clock = refl; value = refl }
 
 -- ---- one input
 
@@ -156,13 +154,13 @@ unfolding fresh_sensor_call fresh_sensor_by
 no_other_fresh_sensor_meets_what_is_asked m f octets = by (check_actions octets) refl
   where
     by : (c : Check) → check_actions octets ≡ c → m octets ≡ fresh_sensor_by octets c
-    by Passed e =
+    by (Ok _) e =
         let good = (actions_decide octets).passed.0 e in
         let table = ((f.judges octets).accepted 0).1 (refl, good) in
         same_fresh (m octets) _ (fresh_is_told octets _ (f.starts_fresh octets good)) table.0 table.1
-    by (Refused why place) e =
-        let table = ((f.judges octets).refused why place).1 (((actions_decide octets).refused why place).0 e) in
-        let idle = f.refuses_idle octets (λ zero. omega (arith, table.0, zero, some_number why)) in
+    by (Err fault) e =
+        let table = ((f.judges octets).refused fault.why fault.place).1 (((actions_decide octets).refused fault.why fault.place).0 e) in
+        let idle = f.refuses_idle octets (λ zero. omega (arith, table.0, zero, some_number fault.why)) in
         same_fresh (m octets) _ (fresh_is_told _ _ idle ∙ own_is_idle) table.0 table.1
 
 -- the table gives code and place; a refused call leaves the rest as it was; an edge's action, or the status, says what is sent and kept
@@ -172,7 +170,7 @@ no_other_sensor_meets_what_is_asked m f z octets = by (sensor_finds z octets) (s
     t : ℕ
     t = stamp_at octets 0
 
-    refused : (why : Refusal) → CallWhen (z.clock ≤ 864_000) ((s : Signal) × (signal_at octets 0 ≡ Meant s)) (Timely z.clock t) why 0 → m z octets ≡ sensor_refused z why
+    refused : (why : Refusal) → CallWhen (z.clock ≤ 864_000) ((s : Signal) × (signal_at octets 0 ≡ Some s)) (Timely z.clock t) why 0 → m z octets ≡ sensor_refused z why
     refused why given =
         let table = ((f.judges z octets).refused why 0).1 given in
         let h = f.refuses_cleanly z octets (λ zero. omega (arith, table.0, zero, some_number why)) in

@@ -1,4 +1,5 @@
 -- What an edge sends: exactly by its action, one or none; and what the sensor keeps of it.
+use Rattle.std.specs.Prelude.{Option, Some, None}
 use Prim.Native.Nat.{ℕ}
 use mathlib.Core.Bool.{Bool}
 use mathlib.Core.List.{List, [], ◌∷◌}
@@ -11,8 +12,6 @@ use Rattle.sensor.specs.declared.signal.Edge.TheVariants.{Falling, Rising}
 use Rattle.sensor.specs.declared.signal.Signal.{Signal}
 use Rattle.sensor.specs.declared.signal.Signal.TheVariants.{Button1, Button2, Status}
 use Rattle.sensor.specs.declared.state.Sensor.{Sensor}
-use Rattle.sensor.specs.declared.react.Telegram.{Telegram}
-use Rattle.sensor.specs.declared.react.Telegram.TheVariants.{Silent, Switch}
 use Rattle.sensor.specs.Actions.{action_number}
 use Rattle.sensor.specs.Reactions.{sends, hear, last_after, press, action_of_edge1, action_of_edge2, react, Stamped, at, reacts}
 use Rattle.sensor.specs.Claims.{EdgeWith, first_rises, first_falls, second_rises, second_falls, SendsBy, asks_for, due, all_due, one_or_none, how_many, value_sent, value_of, last_of}
@@ -32,7 +31,7 @@ an_edge_sends_by_its_action z a s t first_falls = sends_by z.falling1 z.value
 an_edge_sends_by_its_action z a s t second_rises = sends_by z.rising2 z.value
 an_edge_sends_by_its_action z a s t second_falls = sends_by z.falling2 z.value
 
-pub a_status_sends_nothing : (z : Sensor) (value : Bool) (t : ℕ) → (react z (Status value) t).telegram ≡ Silent
+pub a_status_sends_nothing : (z : Sensor) (value : Bool) (t : ℕ) → (react z (Status value) t).telegram ≡ None
 unfolding react
 a_status_sends_nothing z value t = refl
 
@@ -46,32 +45,32 @@ an_edge_is_a_press z a s t second_falls = refl
 
 -- ---- exactly one, or none
 
-silent_is_no_switch : {A : Type 0} {value : Bool} → Silent ≡ Switch value → A
+silent_is_no_switch : {A : Type 0} {value : Bool} → None ≡ Some value → A
 silent_is_no_switch e = absurd (let z : ◌≡◌ {A = ℕ} 0 1 = ap one_or_none e in omega arith)
 
 -- an edge is silent exactly when its action is 0
-by_number : (a : Action) (last : Bool) (sent : Telegram) → SendsBy a last sent → (sent ≡ Silent) ↔ (action_number a ≡ 0)
+by_number : (a : Action) (last : Bool) (sent : Option Bool) → SendsBy a last sent → (sent ≡ None) ↔ (action_number a ≡ 0)
 by_number Nothing last sent e = (λ f. refl, λ f. e)
 by_number SendOff last sent e = (λ f. silent_is_no_switch (sym f ∙ e), λ f. absurd (omega (arith, f)))
 by_number SendOn last sent e = (λ f. silent_is_no_switch (sym f ∙ e), λ f. absurd (omega (arith, f)))
 by_number SendInverse last sent e = (λ f. silent_is_no_switch (sym f ∙ e), λ f. absurd (omega (arith, f)))
 
-pub an_edge_is_silent_exactly_when : (z : Sensor) (a : Action) (s : Signal) (t : ℕ) → EdgeWith z a s → ((react z s t).telegram ≡ Silent) ↔ (action_number a ≡ 0)
+pub an_edge_is_silent_exactly_when : (z : Sensor) (a : Action) (s : Signal) (t : ℕ) → EdgeWith z a s → ((react z s t).telegram ≡ None) ↔ (action_number a ≡ 0)
 an_edge_is_silent_exactly_when z a s t e = by_number a z.value _ (an_edge_sends_by_its_action z a s t e)
 
-not_silent : (sent : Telegram) → (sent ≡ Silent → ⊥) → (value : Bool) × (sent ≡ Switch value)
-not_silent Silent f = absurd (f refl)
-not_silent (Switch value) f = (value, refl)
+not_silent : (sent : Option Bool) → (sent ≡ None → ⊥) → (value : Bool) × (sent ≡ Some value)
+not_silent None f = absurd (f refl)
+not_silent (Some value) f = (value, refl)
 
-pub an_acting_edge_sends_one : (z : Sensor) (a : Action) (s : Signal) (t : ℕ) → EdgeWith z a s → (action_number a ≡ 0 → ⊥) → (value : Bool) × ((react z s t).telegram ≡ Switch value)
+pub an_acting_edge_sends_one : (z : Sensor) (a : Action) (s : Signal) (t : ℕ) → EdgeWith z a s → (action_number a ≡ 0 → ⊥) → (value : Bool) × ((react z s t).telegram ≡ Some value)
 an_acting_edge_sends_one z a s t e acting = not_silent _ (λ silent. acting ((an_edge_is_silent_exactly_when z a s t e).0 silent))
 
 -- ---- what the sensor keeps: all but the clock and the value
 
-last_after_lem : (sent : Telegram) (last : Bool) → last_after sent last ≡ last_of last (value_sent sent)
+last_after_lem : (sent : Option Bool) (last : Bool) → last_after sent last ≡ last_of last (value_sent sent)
 unfolding last_of
-last_after_lem Silent last = refl
-last_after_lem (Switch value) last = refl
+last_after_lem None last = refl
+last_after_lem (Some value) last = refl
 
 -- whatever the signal, the sensor hears the value that is sent or received, if any is
 pub a_reaction_hears : (z : Sensor) (s : Signal) (t : ℕ) → (react z s t).sensor ≡ hear z t (last_of z.value (value_of s (react z s t).telegram))

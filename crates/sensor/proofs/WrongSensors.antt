@@ -1,4 +1,5 @@
 -- Sensors that are shut out, and what each of them breaks.
+use Rattle.std.specs.Prelude.{Some}
 use Prim.Native.Nat.{ℕ, zero, suc, ◌≤◌, ◌<◌}
 use mathlib.Core.Bool.{Bool, true, false, true≢false}
 use mathlib.Core.List.{List, [], ◌∷◌}
@@ -11,7 +12,6 @@ use Rattle.base.specs.declared.refusal.Refusal.TheVariants.{BadAction}
 use Rattle.sensor.specs.declared.action.Action.TheVariants.{Nothing, SendInverse}
 use Rattle.sensor.specs.declared.signal.Edge.TheVariants.{Rising}
 use Rattle.sensor.specs.declared.signal.Signal.TheVariants.{Button1, Status}
-use Rattle.sensor.specs.declared.signal.Signalled.TheVariants.{Meant}
 use Rattle.sensor.specs.declared.state.Sensor.{Sensor}
 use Rattle.sensor.specs.Signals.{zero_or_one, signalled, signal_at}
 use Rattle.sensor.specs.Calls.{telegram_octets}
@@ -98,7 +98,7 @@ the_sensor_that_never_sends_off_breaks_the_toggle m only sends =
     only (toggling true) pressed (stamp_at pressed 0) (rw (sends (toggling true) pressed (Button1 Rising) (pressed_is_accepted true) SendInverse first_rises) (what_is_sent (stamp_at pressed 0) false))
 
 -- one that keeps its value whatever status it hears
-pub the_sensor_that_ignores_statuses_breaks_the_last_value : (m : Taker) → ((z : Sensor) (octets : List ℕ) (value : Bool) → signal_at octets 0 ≡ Meant (Status value) → (m z octets).sensor.value ≡ z.value) →
+pub the_sensor_that_ignores_statuses_breaks_the_last_value : (m : Taker) → ((z : Sensor) (octets : List ℕ) (value : Bool) → signal_at octets 0 ≡ Some (Status value) → (m z octets).sensor.value ≡ z.value) →
     KeepsReceived m → ⊥
 the_sensor_that_ignores_statuses_breaks_the_last_value m ignores keeps =
     let a = reported_is_accepted false in

@@ -1,9 +1,8 @@
 -- The actions of the four edges (02, [1]; 003, Light Switching Sensor Basic, PID 121 to 124).
-use Rattle.std.specs.Prelude.{ℕ, cond, List, length, eqb, leb}
+use Rattle.base.specs.Refusals.{Check, refused_with}
+use Rattle.std.specs.Prelude.{ℕ, cond, List, length, eqb, leb, Ok}
 use Rattle.octets.specs.BigEndian.{octet}
 use Rattle.base.specs.declared.refusal.Refusal.TheVariants.{WrongLength, BadAction}
-use Rattle.base.specs.declared.refusal.Check.{Check}
-use Rattle.base.specs.declared.refusal.Check.TheVariants.{Passed, Refused}
 use Rattle.sensor.specs.declared.action.Action.{Action}
 use Rattle.sensor.specs.declared.action.Action.TheVariants.{Nothing, SendOff, SendOn, SendInverse}
 
@@ -19,7 +18,7 @@ unfoldable pub action_of : ℕ → Action
 action_of n = cond (eqb n 0) Nothing (cond (eqb n 1) SendOff (cond (eqb n 2) SendOn SendInverse))
 
 unfoldable pub bad_action : ℕ → Check
-bad_action place = Refused BadAction place
+bad_action place = refused_with BadAction place
 
 -- "11, an action above 3, where 5 stands for the sensor's parameters": the lowest bad octet; 1, as for the actuator's, where there are not
 -- as many octets as edges ("two buttons, four edges")
@@ -29,9 +28,9 @@ check_actions octets =
     (cond (leb (octet octets 0) 3)
     (cond (leb (octet octets 1) 3)
     (cond (leb (octet octets 2) 3)
-    (cond (leb (octet octets 3) 3) Passed
+    (cond (leb (octet octets 3) 3) (Ok tt)
     (bad_action 3))
     (bad_action 2))
     (bad_action 1))
     (bad_action 0))
-    (Refused WrongLength 0)
+    (refused_with WrongLength 0)

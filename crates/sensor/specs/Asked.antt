@@ -1,13 +1,12 @@
 -- What is asked of any sensor, of the call with four octets and of the call with one input. Ours meets it and no
 -- other does (proofs/Meets.antt); wrong ones break it (proofs/WrongSensors.antt).
-use Rattle.std.specs.Prelude.{ℕ, ◌≤◌, Bool, false, List, [], ◌∷◌, ◌≡◌}
+use Rattle.std.specs.Prelude.{ℕ, ◌≤◌, Bool, false, List, [], ◌∷◌, ◌≡◌, Some}
 use Rattle.octets.specs.BigEndian.{octet}
 use Rattle.octets.specs.Groups.{stamp_at}
 use Rattle.base.specs.Refusals.{Timely}
 use Rattle.sensor.specs.declared.action.Action.{Action}
 use Rattle.sensor.specs.declared.signal.Signal.{Signal}
 use Rattle.sensor.specs.declared.signal.Signal.TheVariants.{Status}
-use Rattle.sensor.specs.declared.signal.Signalled.TheVariants.{Meant}
 use Rattle.sensor.specs.declared.state.Sensor.{Sensor}
 use Rattle.sensor.specs.declared.call.FreshSensor.{FreshSensor}
 use Rattle.sensor.specs.declared.call.Sensed.{Sensed}
@@ -61,7 +60,7 @@ JudgesInputs m = (z : Sensor) (octets : List ℕ) → SensorCodes z octets (m z 
 -- an input that no row of the table refuses
 pub record Accepted (z : Sensor) (octets : List ℕ) (s : Signal) : Type 0 where
   pub sound : z.clock ≤ 864_000
-  pub meant : signal_at octets 0 ≡ Meant s
+  pub meant : signal_at octets 0 ≡ Some s
   pub timely : Timely z.clock (stamp_at octets 0)
 
 abbrev pub OfEveryAccepted : (Sensor → List ℕ → Signal → Type 0) → Type 0

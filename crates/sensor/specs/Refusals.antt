@@ -1,12 +1,11 @@
 -- "Given exactly when" (01, "Refusal numbers"), of the sensor's calls. Proved in proofs/Actions.antt, Signals.antt and Calls.antt.
-use Rattle.std.specs.Prelude.{ℕ, ◌+◌, ◌≤◌, ◌<◌, List, ◌⊎◌, ◌≡◌, length}
+use Rattle.std.specs.Prelude.{ℕ, ◌+◌, ◌≤◌, ◌<◌, List, ◌⊎◌, ◌≡◌, length, Some}
 use Rattle.octets.specs.BigEndian.{octet}
 use Rattle.octets.specs.Groups.{stamp_at, kind_at, value_at}
 use Rattle.base.specs.declared.refusal.Refusal.{Refusal}
 use Rattle.base.specs.declared.refusal.Refusal.TheVariants.{WrongLength, BadAction}
 use Rattle.base.specs.Refusals.{Only, Codes, Timely, CallCodes}
 use Rattle.sensor.specs.declared.signal.Signal.{Signal}
-use Rattle.sensor.specs.declared.signal.Signalled.TheVariants.{Meant}
 use Rattle.sensor.specs.declared.state.Sensor.{Sensor}
 use Rattle.sensor.specs.Signals.{signal_kind, signal_value, signal_at}
 
@@ -37,4 +36,4 @@ pub record SignalStands (octets : List ℕ) (at : ℕ) (s : Signal) : Type 0 whe
 
 -- "9, 6, 7, place 0"
 abbrev pub SensorCodes : Sensor → List ℕ → ℕ → ℕ → Type 0
-SensorCodes z octets = CallCodes (z.clock ≤ 864_000) ((s : Signal) × (signal_at octets 0 ≡ Meant s)) (Timely z.clock (stamp_at octets 0))
+SensorCodes z octets = CallCodes (z.clock ≤ 864_000) ((s : Signal) × (signal_at octets 0 ≡ Some s)) (Timely z.clock (stamp_at octets 0))

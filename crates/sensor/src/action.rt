@@ -2,7 +2,7 @@
 ghost use Rattle.std.specs.Prelude.{◌≡◌};
 ghost use Rattle.sensor.specs.Actions.{action_of, bad_action, check_actions};
 
-use base::refusal::{Check, Refusal};
+use base::refusal::{Refusal, Refused};
 
 // What an edge does (DPT_PBAction).
 #[derive(Clone, Copy)]
@@ -25,24 +25,24 @@ pub fn action_of(n: u8) -> Action
     }
 }
 
-fn bad_action(place: u16) -> Check
+fn bad_action(place: u16) -> Result<(), Refused>
     ensures { result ≡ bad_action place }
 {
-    Check::Refused {
+    Err(Refused {
         why: Refusal::BadAction,
         place,
-    }
+    })
 }
 
 // Four octets, none above 3; else the lowest that is.
-pub fn check_actions(octets: &[u8]) -> Check
+pub fn check_actions(octets: &[u8]) -> Result<(), Refused>
     ensures { result ≡ check_actions octets.now }
 {
     if octets.len() != 4 {
-        return Check::Refused {
+        return Err(Refused {
             why: Refusal::WrongLength,
             place: 0,
-        };
+        });
     }
     if octets[0] > 3 {
         return bad_action(0);
@@ -56,5 +56,5 @@ pub fn check_actions(octets: &[u8]) -> Check
     if octets[3] > 3 {
         return bad_action(3);
     }
-    Check::Passed
+    Ok(())
 }

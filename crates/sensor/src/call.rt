@@ -4,11 +4,11 @@ ghost use Rattle.base.specs.declared.refusal.Refusal.{Refusal};
 ghost use Rattle.sensor.specs.Calls.{fresh_sensor_call, telegram_octets, sensed, sensor_refused, sensor_call};
 
 use crate::action::check_actions;
-use crate::react::{Reaction, Telegram, react};
-use crate::signal::{Signalled, signal_at};
+use crate::react::{Reaction, react};
+use crate::signal::{Signal, signal_at};
 use crate::state::{Sensor, fresh_with, is_sound, own_sensor};
 use base::moment::stamp_in_range;
-use base::refusal::{Check, Refusal, number_of};
+use base::refusal::{Refusal, Refused, number_of};
 use octets::group::stamp_at;
 
 // What four octets of actions give.
@@ -34,12 +34,12 @@ pub fn fresh_sensor(octets: &[u8]) -> FreshSensor
 {
     let check = check_actions(octets);
     match check {
-        Check::Passed => FreshSensor {
+        Ok(()) => FreshSensor {
             sensor: fresh_with(octets),
             code: 0,
             place: 0,
         },
-        Check::Refused { why, place } => FreshSensor {
+        Err(Refused { why, place }) => FreshSensor {
             sensor: own_sensor(),
             code: number_of(why),
             place,
@@ -48,12 +48,12 @@ pub fn fresh_sensor(octets: &[u8]) -> FreshSensor
 }
 
 // A telegram at t, as a switch input.
-pub fn telegram_octets(t: u32, telegram: Telegram) -> [u8; 8]
+pub fn telegram_octets(t: u32, telegram: Option<bool>) -> [u8; 8]
     ensures { result ≡ telegram_octets t telegram }
 {
     match telegram {
-        Telegram::Silent => [0, 0, 0, 0, 0, 0, 0, 0],
-        Telegram::Switch(on) => [
+        None => [0, 0, 0, 0, 0, 0, 0, 0],
+        Some(on) => [
             (t / 16777216) as u8,
             (t / 65536 % 256) as u8,
             (t / 256 % 256) as u8,
@@ -98,14 +98,14 @@ pub fn sensor_input(z: Sensor, octets: [u8; 8]) -> Sensed
         let t = stamp_at(&octets, 0);
         let meant = signal_at(&octets, 0);
         match meant {
-            Signalled::Meant(s) => {
+            Some(s) => {
                 if stamp_in_range(z.clock, t) {
                     accepted(t, react(z, s, t))
                 } else {
                     refused(z, Refusal::BadStamp)
                 }
             }
-            Signalled::Wrong => refused(z, Refusal::BadInput),
+            None => refused(z, Refusal::BadInput),
         }
     } else {
         refused(z, Refusal::UnsoundState)

@@ -7,28 +7,21 @@ use crate::signal::{Edge, Signal};
 use crate::state::Sensor;
 use base::logic::negated;
 
-// What is sent, if anything.
-#[derive(Clone, Copy)]
-pub enum Telegram {
-    Silent,
-    Switch(bool),
-}
-
 #[derive(Clone, Copy)]
 pub struct Reaction {
     pub sensor: Sensor,
-    pub telegram: Telegram,
+    pub telegram: Option<bool>,
 }
 
 // What an action sends, where this value was the last one sent or received.
-fn sent_by(action: Action, last: bool) -> Telegram
+fn sent_by(action: Action, last: bool) -> Option<bool>
     ensures { result ≡ sends action last }
 {
     match action {
-        Action::Nothing => Telegram::Silent,
-        Action::SendOff => Telegram::Switch(false),
-        Action::SendOn => Telegram::Switch(true),
-        Action::SendInverse => Telegram::Switch(negated(last)),
+        Action::Nothing => None,
+        Action::SendOff => Some(false),
+        Action::SendOn => Some(true),
+        Action::SendInverse => Some(negated(last)),
     }
 }
 
@@ -56,13 +49,13 @@ fn press(z: Sensor, action: Action, t: u32) -> Reaction
 {
     let telegram = sent_by(action, z.value);
     match telegram {
-        Telegram::Silent => Reaction {
+        None => Reaction {
             sensor: hear(z, t, z.value),
-            telegram: Telegram::Silent,
+            telegram: None,
         },
-        Telegram::Switch(value) => Reaction {
+        Some(value) => Reaction {
             sensor: hear(z, t, value),
-            telegram: Telegram::Switch(value),
+            telegram: Some(value),
         },
     }
 }
@@ -94,7 +87,7 @@ pub fn react(z: Sensor, s: Signal, t: u32) -> Reaction
         },
         Signal::Status(value) => Reaction {
             sensor: hear(z, t, value),
-            telegram: Telegram::Silent,
+            telegram: None,
         },
     }
 }

@@ -18,13 +18,6 @@ pub enum Signal {
     Status(bool),
 }
 
-// What eight octets mean.
-#[derive(Clone, Copy)]
-pub enum Signalled {
-    Meant(Signal),
-    Wrong,
-}
-
 fn edge_of(rising: bool) -> Edge
     ensures { result ≡ edge_of rising }
 {
@@ -32,29 +25,29 @@ fn edge_of(rising: bool) -> Edge
 }
 
 // What a kind and a value mean: every kind takes 0 and 1.
-fn signal_of(kind: u8, value: u8) -> Signalled
+fn signal_of(kind: u8, value: u8) -> Option<Signal>
     ensures { result ≡ signalled kind value }
 {
     if value > 1 {
-        return Signalled::Wrong;
+        return None;
     }
     let one = value == 1;
     match kind {
-        11 => Signalled::Meant(Signal::Button1(edge_of(one))),
-        12 => Signalled::Meant(Signal::Button2(edge_of(one))),
-        13 => Signalled::Meant(Signal::Status(one)),
-        _ => Signalled::Wrong,
+        11 => Some(Signal::Button1(edge_of(one))),
+        12 => Some(Signal::Button2(edge_of(one))),
+        13 => Some(Signal::Status(one)),
+        _ => None,
     }
 }
 
 // What the input that starts at a place means.
-pub fn signal_at(octets: &[u8], at: usize) -> Signalled
+pub fn signal_at(octets: &[u8], at: usize) -> Option<Signal>
     requires { at + group_size ≤ length octets.now }
     ensures { result ≡ signal_at octets.now at }
 {
     if ends_in_zeros(octets, at) {
         signal_of(octets[at + 4], octets[at + 5])
     } else {
-        Signalled::Wrong
+        None
     }
 }

@@ -1,9 +1,7 @@
 -- What an input asks of the light, as the code has it: one of four wishes (01, "What each order does, at t").
-use Rattle.std.specs.Prelude.{ℕ, Bool, true, false, cond, List}
+use Rattle.std.specs.Prelude.{ℕ, Bool, true, false, cond, List, Option, Some, None}
 use Rattle.rules.specs.declared.parameters.Params.{Params}
 use Rattle.rules.specs.declared.parameters.Scene.{Scene}
-use Rattle.rules.specs.declared.parameters.Recalled.{Recalled}
-use Rattle.rules.specs.declared.parameters.Recalled.TheVariants.{Nothing, Output}
 use Rattle.rules.specs.declared.phase.Phase.{Phase}
 use Rattle.rules.specs.declared.phase.Phase.TheVariants.{Dark, Lit, Starting, Timed, Warning, Ending}
 use Rattle.rules.specs.Scenes.{recalled}
@@ -29,9 +27,9 @@ timed_asks phase true = wish.TimedStart
 timed_asks phase false = stop_asks phase
 
 -- "Scene recall: a used, taught entry acts as On or Off by its value; any other number does nothing."
-abbrev pub recall_asks : Recalled → Wish
-recall_asks Nothing = wish.Nothing
-recall_asks (Output value) = switch_asks value
+abbrev pub recall_asks : Option Bool → Wish
+recall_asks None = wish.Nothing
+recall_asks (Some value) = switch_asks value
 
 unfoldable pub scene_asks : List Scene → Bool → ℕ → Wish
 scene_asks k true number = wish.Nothing

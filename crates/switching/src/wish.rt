@@ -2,7 +2,7 @@
 ghost use Rattle.std.specs.Prelude.{◌≡◌};
 ghost use Rattle.switching.specs.Wishes.{switch_asks, stop_asks, timed_asks, recall_asks, scene_asks};
 
-use rules::parameters::{Recalled, Scene};
+use rules::parameters::Scene;
 use rules::phase::Phase;
 use scenes::table::recalls;
 
@@ -44,12 +44,12 @@ pub fn timed_asks(phase: Phase, start: bool) -> Wish
     }
 }
 
-fn recall_asks(found: Recalled) -> Wish
+fn recall_asks(found: Option<bool>) -> Wish
     ensures { result ≡ recall_asks found }
 {
     match found {
-        Recalled::Nothing => Wish::Nothing,
-        Recalled::Output(value) => switch_asks(value),
+        None => Wish::Nothing,
+        Some(value) => switch_asks(value),
     }
 }
 

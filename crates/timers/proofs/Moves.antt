@@ -1,4 +1,5 @@
 -- Timers and clock moves, of the lamp alone: parameters and scenes stay, so a lamp can be handed on in their place.
+use Rattle.std.specs.Prelude.{Option, Some, None}
 use Prim.Native.Nat.{ℕ, ◌+◌, ◌≤◌, ◌<◌}
 use mathlib.Core.Bool.{true, false}
 use mathlib.Core.List.{List, [], ◌++◌, append-nil, append_assoc}
@@ -9,8 +10,6 @@ use native.Mathlib.Omega.{arith}
 use Rattle.rules.specs.declared.parameters.Params.{Params}
 use Rattle.rules.specs.declared.parameters.Scene.{Scene}
 use Rattle.rules.specs.declared.phase.Phase.{Phase}
-use Rattle.rules.specs.declared.phase.Deadline.{Deadline}
-use Rattle.rules.specs.declared.phase.Deadline.TheVariants.{Never, At}
 use Rattle.rules.specs.declared.record.Record.{Record}
 use Rattle.rules.specs.declared.state.State.{State}
 use Rattle.rules.specs.Phases.{deadline, at_deadline}
@@ -43,9 +42,9 @@ moved_lamp p k l t = sym (move_keeps (state_of p k l) t)
 
 -- ---- is a timer due?
 
-due_case : (P : Type 0) (x : Deadline) (t : ℕ) → due_by x t ≡ true → ((d : ℕ) → x ≡ At d → d ≤ t → P) → P
-due_case P Never t e f = no e
-due_case P (At d) t e f = f d refl (leb-true d t e)
+due_case : (P : Type 0) (x : Option ℕ) (t : ℕ) → due_by x t ≡ true → ((d : ℕ) → x ≡ Some d → d ≤ t → P) → P
+due_case P None t e f = no e
+due_case P (Some d) t e f = f d refl (leb-true d t e)
 
 -- its own moment has room
 pub due_has_room : (p : Params) (phase : Phase) (t : ℕ) → due_by (deadline phase) t ≡ true → Room p t → Room p (due phase)
@@ -57,9 +56,9 @@ unfolding timer_of
 due_lowers_the_rank p l phase t e = due_case (rank (at_deadline p l.night phase) < rank phase) (deadline phase) t e (λ d at past. a_timer_lowers_the_rank p l.night phase d at)
 
 -- where no timer is due, only the clock moves
-quiet : (x : Deadline) (t : ℕ) → due_by x t ≡ false → Quiet t x
-quiet Never t e = tt
-quiet (At d) t e = leb-false d t e
+quiet : (x : Option ℕ) (t : ℕ) → due_by x t ≡ false → Quiet t x
+quiet None t e = tt
+quiet (Some d) t e = leb-false d t e
 
 -- ---- one timer after the other
 
@@ -79,7 +78,7 @@ module _ (p : Params) (l : Lamp) (t : ℕ) where
   timer_written k now clock d e = rw (← e) (listed_written by_itself _ _)
 
   module _ (now : Phase) (wrote : List Record) (r : Running p l t now wrote) where
-    runs_at : (d : ℕ) → deadline now ≡ At d → d ≤ t → Running p l t (at_deadline p l.night now) (wrote ++ listed (timer_of p l now).note)
+    runs_at : (d : ℕ) → deadline now ≡ Some d → d ≤ t → Running p l t (at_deadline p l.night now) (wrote ++ listed (timer_of p l now).note)
     runs_at d at past =
         record {
           clock = d;

@@ -1,9 +1,7 @@
 -- What a timer and the timers of a clock move leave, and the whole move, as the code has them.
-use Rattle.std.specs.Prelude.{ℕ, Bool, false, leb}
+use Rattle.std.specs.Prelude.{ℕ, Bool, false, leb, Option, Some, None}
 use Rattle.rules.specs.declared.parameters.Params.{Params}
 use Rattle.rules.specs.declared.phase.Phase.{Phase}
-use Rattle.rules.specs.declared.phase.Deadline.{Deadline}
-use Rattle.rules.specs.declared.phase.Deadline.TheVariants.{Never, At}
 use Rattle.rules.specs.Phases.{at_deadline}
 use Rattle.rules.specs.Orders.{with_phase}
 use Rattle.rules.specs.Status.{by_itself}
@@ -17,9 +15,9 @@ use Rattle.timers.specs.declared.clock.Ticked.{Ticked}
 use Rattle.timers.specs.declared.clock.Clocked.{Clocked}
 
 -- a deadline at or before t
-abbrev pub due_by : Deadline → ℕ → Bool
-due_by Never t = false
-due_by (At d) t = leb d t
+abbrev pub due_by : Option ℕ → ℕ → Bool
+due_by None t = false
+due_by (Some d) t = leb d t
 
 -- the timer of a lamp in this phase, at its own moment
 unfoldable pub timer_of : Params → Lamp → Phase → Timer

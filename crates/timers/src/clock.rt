@@ -12,16 +12,16 @@ use lamps::lamp;
 use lamps::lamp::Lamp;
 use phases::phase;
 use records::notes;
-use records::notes::{Note, Notes};
+use records::notes::Notes;
 use rules::parameters::Params;
-use rules::phase::{Deadline, Phase};
+use rules::phase::Phase;
 use rules::state::State;
 
 // What one timer leaves: a phase, and the record of it.
 #[derive(Clone, Copy)]
 pub struct Timer {
     pub phase: Phase,
-    pub note: Note,
+    pub note: Option<Record>,
 }
 
 // What timers leave: a phase, and the records that they wrote. All else of a lamp but its clock stays.
@@ -44,8 +44,8 @@ pub fn is_due(ph: Phase, t: u32) -> bool
 {
     let deadline = phase::deadline_of(ph);
     match deadline {
-        Deadline::Never => false,
-        Deadline::At(d) => d <= t,
+        None => false,
+        Some(d) => d <= t,
     }
 }
 

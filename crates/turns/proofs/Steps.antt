@@ -1,7 +1,7 @@
 -- A step of the pair is the clock's move, the item's turn, and what it asks of the actuator, if anything.
+use Rattle.std.specs.Prelude.{Some, None, Option, Bool}
 use Prim.Native.Nat.{ℕ}
 use mathlib.Core.List.{List, [], ◌∷◌, ◌++◌}
-use mathlib.Core.Option.{Option, some, none}
 use mathlib.Core.Path.{◌≡◌, refl, sym, ap}
 use native.Mathlib.Omega.{arith}
 use Rattle.rules.specs.declared.input.Input.{Input}
@@ -9,8 +9,6 @@ use Rattle.rules.specs.Steps.{Stepped, act}
 use Rattle.rules.specs.Lists.{still}
 use Rattle.sensor.specs.declared.signal.Signal.TheVariants as signal
 use Rattle.sensor.specs.declared.state.Sensor.{Sensor}
-use Rattle.sensor.specs.declared.react.Telegram.{Telegram}
-use Rattle.sensor.specs.declared.react.Telegram.TheVariants.{Silent, Switch}
 use Rattle.sensor.specs.Reactions.{react}
 use Rattle.pairs.specs.declared.item.Item.{Item}
 use Rattle.pairs.specs.declared.item.Item.TheVariants.{Plain, Button1, Button2}
@@ -32,27 +30,27 @@ pub record Performs (m : PairMoved) (z : Sensor) (x : Input) (d : PairStepped) :
   pub answer : d.answer ≡ (act (still m.pair.actuator) x).answer
   pub records : d.records ≡ m.records ++ (act (still m.pair.actuator) x).records
 
-something : {A : Type 0} {x : Input} → some x ≡ none → A
+something : {A : Type 0} {x : Input} → Some x ≡ None → A
 something e = absurd (let z : ◌≡◌ {A = ℕ} 0 1 = cc in omega arith)
 
 abbrev input_or : Input → Option Input → Input
-input_or other (some x) = x
-input_or other none = other
+input_or other (Some x) = x
+input_or other None = other
 
-same_input : (x y : Input) → some x ≡ some y → x ≡ y
+same_input : (x y : Input) → Some x ≡ Some y → x ≡ y
 same_input x y e = ap (input_or x) e
 
 -- an edge
 module _ (m : PairMoved) (z : Sensor) where
-  unasked : (sent : Telegram) → sent_as sent ≡ none → Rests m z (tell sent m z)
+  unasked : (sent : Option Bool) → sent_as sent ≡ None → Rests m z (tell sent m z)
   unfolding tell
-  unasked Silent e = record { pair = refl; answer = refl; records = refl }
-  unasked (Switch value) e = something e
+  unasked None e = record { pair = refl; answer = refl; records = refl }
+  unasked (Some value) e = something e
 
-  asked : (sent : Telegram) (x : Input) → sent_as sent ≡ some x → Performs m z x (tell sent m z)
+  asked : (sent : Option Bool) (x : Input) → sent_as sent ≡ Some x → Performs m z x (tell sent m z)
   unfolding tell
-  asked Silent x e = something (sym e)
-  asked (Switch value) x e = rw (← same_input _ x e) (record { pair = refl; answer = refl; records = refl })
+  asked None x e = something (sym e)
+  asked (Some value) x e = rw (← same_input _ x e) (record { pair = refl; answer = refl; records = refl })
 
 abbrev first_of : List ℕ → ℕ
 first_of [] = 0
@@ -65,13 +63,13 @@ module _ (p : Pair) (t : ℕ) where
       let whole = an_item_comes_after_the_timers p (Plain i) t in
       record { pair = ap (λ (a : PairPlayed). a.pair) whole; answer = ap (λ (a : PairPlayed). first_of a.answers) whole; records = ap (λ (a : PairPlayed). a.records) whole }
 
-  pub resting_step : (i : Item) → let z : Sensor = (pair_move p t).pair.sensor in given_of i (decides z i t).telegram ≡ none → Rests (pair_move p t) (decides z i t).sensor (pair_step p i t)
+  pub resting_step : (i : Item) → let z : Sensor = (pair_move p t).pair.sensor in given_of i (decides z i t).telegram ≡ None → Rests (pair_move p t) (decides z i t).sensor (pair_step p i t)
   unfolding pair_step pressed told
   resting_step (Plain i) e = something e
   resting_step (Button1 edge) e = unasked (pair_move p t) _ (react (pair_move p t).pair.sensor (signal.Button1 edge) t).telegram e
   resting_step (Button2 edge) e = unasked (pair_move p t) _ (react (pair_move p t).pair.sensor (signal.Button2 edge) t).telegram e
 
-  pub acting_step : (i : Item) (x : Input) → let z : Sensor = (pair_move p t).pair.sensor in given_of i (decides z i t).telegram ≡ some x → Performs (pair_move p t) (decides z i t).sensor x (pair_step p i t)
+  pub acting_step : (i : Item) (x : Input) → let z : Sensor = (pair_move p t).pair.sensor in given_of i (decides z i t).telegram ≡ Some x → Performs (pair_move p t) (decides z i t).sensor x (pair_step p i t)
   unfolding pair_step pressed told
   acting_step (Plain i) x e = rw (← same_input i x e) (plain_acts i)
   acting_step (Button1 edge) x e = asked (pair_move p t) _ (react (pair_move p t).pair.sensor (signal.Button1 edge) t).telegram x e

@@ -4,27 +4,26 @@ ghost use Rattle.octets.specs.Groups.{group_size, kind_at, value_at};
 ghost use Rattle.rules.specs.Layout.{record_place};
 ghost use Rattle.sensor.specs.Reactions.{react};
 ghost use Rattle.pairs.specs.declared.item.Item.{Item};
-ghost use Rattle.pairs.specs.declared.item.Read.TheVariants.{Known};
 ghost use Rattle.pairs.specs.Items.{item_at};
 ghost use Rattle.turns.specs.Turns.{edge_turn, turn_of};
 
 use crate::heard::listen;
 use inputs::LAST_KIND;
-use sensor::react::{Telegram, react};
-use sensor::signal::{Signal, Signalled, signal_at};
+use sensor::react::react;
+use sensor::signal::{Signal, signal_at};
 use sensor::state::Sensor;
 
-// What an item asks of the actuator: an input, by its kind and value, or nothing.
+// What an item may ask of the actuator: an input, by its kind and value.
 #[derive(Clone, Copy)]
-pub enum Asked {
-    Nothing,
-    Order(u8, u8),
+pub struct Order {
+    pub kind: u8,
+    pub value: u8,
 }
 
 // What its turn comes to: what it asks, and the sensor, which has heard the first so many records.
 #[derive(Clone, Copy)]
 pub struct Turn {
-    pub asked: Asked,
+    pub asked: Option<Order>,
     pub sensor: Sensor,
     pub heard: u32,
 }
@@ -37,13 +36,16 @@ fn press(signal: Signal, t: u32, z: Sensor, count: u32) -> Turn
     let sensor = r.sensor;
     let telegram = r.telegram;
     match telegram {
-        Telegram::Silent => Turn {
-            asked: Asked::Nothing,
+        None => Turn {
+            asked: None,
             sensor,
             heard: count,
         },
-        Telegram::Switch(on) => Turn {
-            asked: Asked::Order(1, on as u8),
+        Some(on) => Turn {
+            asked: Some(Order {
+                kind: 1,
+                value: on as u8,
+            }),
             sensor,
             heard: count,
         },
@@ -62,21 +64,24 @@ pub fn turn_at(
     heard: u32,
 ) -> Turn
     requires { (at + group_size ≤ length file.now) × (heard ≤ count) × (record_place count ≤ length records.now) }
-    ensures { (i : Item) → item_at file.now at ≡ Known i → result ≡ turn_of i (kind_at file.now at) (value_at file.now at) t records.now count z heard }
+    ensures { (i : Item) → item_at file.now at ≡ Some i → result ≡ turn_of i (kind_at file.now at) (value_at file.now at) t records.now count z heard }
 {
     let kind = file[at + 4];
     if kind <= LAST_KIND {
         return Turn {
-            asked: Asked::Order(kind, file[at + 5]),
+            asked: Some(Order {
+                kind,
+                value: file[at + 5],
+            }),
             sensor: z,
             heard,
         };
     }
     let meant = signal_at(file, at);
     match meant {
-        Signalled::Meant(signal) => press(signal, t, listen(records, count, z, heard), count),
-        Signalled::Wrong => Turn {
-            asked: Asked::Nothing,
+        Some(signal) => press(signal, t, listen(records, count, z, heard), count),
+        None => Turn {
+            asked: None,
             sensor: z,
             heard,
         },

@@ -1,4 +1,7 @@
 -- What the check of a wall list knows is what its items say; and the whole check, part by part.
+use Rattle.sensor.specs.declared.signal.Signal.{Signal}
+use Rattle.rules.specs.declared.input.Input.{Input}
+use Rattle.std.specs.Prelude.{Option, Some, None, Ok, Err}
 use Prim.Native.Nat.{ℕ, ◌≤◌, ◌<◌}
 use mathlib.Core.Bool.{true, ◌&&◌, ◌||◌}
 use mathlib.Core.List.{List}
@@ -6,20 +9,14 @@ use mathlib.Core.Path.{◌≡◌, refl, ◌∙◌}
 use lib.ListN.{length}
 use borrow.Author.Tests.{le-leb, lt-leb}
 use Rattle.octets.specs.Groups.{stamp_at}
-use Rattle.base.specs.declared.refusal.Check.{Check}
-use Rattle.base.specs.declared.refusal.Check.TheVariants.{Passed, Refused}
 use Rattle.base.specs.declared.refusal.Refusal.TheVariants.{WrongLength}
-use Rattle.base.specs.Refusals.{or_else}
-use Rattle.rules.specs.declared.input.Decoded.{Decoded}
-use Rattle.rules.specs.declared.input.Decoded.TheVariants as input
+use Rattle.base.specs.Refusals.{or_else, Check, refused_with}
 use Rattle.rules.specs.Inputs.{input_at}
 use Rattle.rules.specs.Layout.{input_place}
 use Rattle.rules.specs.Readings.{Reading, verdict}
 use Rattle.rules.specs.Files.{check_start}
 use Rattle.rules.proofs.Refusals.Readings.{verdict_after}
 use Rattle.sensor.specs.declared.signal.Signal.TheVariants as signal
-use Rattle.sensor.specs.declared.signal.Signalled.{Signalled}
-use Rattle.sensor.specs.declared.signal.Signalled.TheVariants as signalled
 use Rattle.sensor.specs.Signals.{signal_at}
 use Rattle.sensor.specs.Actions.{check_actions}
 use Rattle.pairs.specs.Items.{item_of, item_at}
@@ -35,17 +32,17 @@ pub items_say : (inputs : List ℕ) (i : ℕ) → known_at true inputs i ≡ say
 unfolding is_known item_in item_at
 items_say inputs i = by (input_at inputs (input_place i)) (signal_at inputs (input_place i))
   where
-    by : (d : Decoded) (s : Signalled) → (is_meant d || (true && is_edge s)) ≡ says (stamped_item (stamp_at inputs (input_place i)) (item_of d s))
-    by (input.Meant x) s = refl
-    by input.Wrong (signalled.Meant (signal.Button1 edge)) = refl
-    by input.Wrong (signalled.Meant (signal.Button2 edge)) = refl
-    by input.Wrong (signalled.Meant (signal.Status value)) = refl
-    by input.Wrong signalled.Wrong = refl
+    by : (d : Option Input) (s : Option Signal) → (is_meant d || (true && is_edge s)) ≡ says (stamped_item (stamp_at inputs (input_place i)) (item_of d s))
+    by (Some x) s = refl
+    by None (Some (signal.Button1 edge)) = refl
+    by None (Some (signal.Button2 edge)) = refl
+    by None (Some (signal.Status value)) = refl
+    by None None = refl
 
 -- one check after another, in either grouping
 or_else_assoc : (a b c : Check) → or_else (or_else a b) c ≡ or_else a (or_else b c)
-or_else_assoc Passed b c = refl
-or_else_assoc (Refused why place) b c = refl
+or_else_assoc (Ok _) b c = refl
+or_else_assoc (Err fault) b c = refl
 
 module _ (wall : List ℕ) where
   pub long_wall : 56 ≤ length wall → verdict (read_wall wall) ≡ check_parts (file_in wall) (actions_in wall)
@@ -55,6 +52,6 @@ module _ (wall : List ℕ) where
       items : Reading Listed
       items = items_read (file_in wall)
 
-  pub short_wall : length wall < 56 → verdict (read_wall wall) ≡ Refused WrongLength 0
+  pub short_wall : length wall < 56 → verdict (read_wall wall) ≡ refused_with WrongLength 0
   unfolding read_wall check_wall
   short_wall short = rw (lt-leb 56 (length wall) short)

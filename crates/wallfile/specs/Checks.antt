@@ -1,7 +1,6 @@
 -- A wall list as the code checks it.
 use Rattle.std.specs.Prelude.{ℕ, List}
-use Rattle.base.specs.declared.refusal.Check.{Check}
-use Rattle.base.specs.Refusals.{or_else}
+use Rattle.base.specs.Refusals.{or_else, Check}
 use Rattle.rules.specs.Readings.{verdict}
 use Rattle.rules.specs.Files.{check_start}
 use Rattle.sensor.specs.Actions.{check_actions}

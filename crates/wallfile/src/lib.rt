@@ -7,7 +7,7 @@ ghost use Rattle.rules.specs.Readings.{verdict};
 ghost use Rattle.pairs.specs.Walls.{actions_size, file_in, actions_in, read_wall};
 ghost use Rattle.wallfile.specs.Checks.{check_parts};
 
-use base::refusal::{Check, Refusal};
+use base::refusal::{Refusal, Refused};
 use cues::check::{check_inputs_in, check_start};
 use layout::LEAST_FILE;
 use sensor::action::check_actions;
@@ -31,31 +31,31 @@ pub fn actions_in(wall: &[u8]) -> &[u8]
 }
 
 // The rows of the cue file up to its parameters, then the actions, then the inputs, edges among them.
-fn check_parts(file: &[u8], actions: &[u8]) -> Check
+fn check_parts(file: &[u8], actions: &[u8]) -> Result<(), Refused>
     ensures { result ≡ check_parts file.now actions.now }
 {
     let start = check_start(file);
     match start {
-        Check::Refused { why, place } => Check::Refused { why, place },
-        Check::Passed => {
+        Err(Refused { why, place }) => Err(Refused { why, place }),
+        Ok(()) => {
             let edges = check_actions(actions);
             match edges {
-                Check::Refused { why, place } => Check::Refused { why, place },
-                Check::Passed => check_inputs_in(file, true),
+                Err(Refused { why, place }) => Err(Refused { why, place }),
+                Ok(()) => check_inputs_in(file, true),
             }
         }
     }
 }
 
 // A whole wall list: accepted, or refused for the first row of the table that holds.
-pub fn check_wall(wall: &[u8]) -> Check
+pub fn check_wall(wall: &[u8]) -> Result<(), Refused>
     ensures { result ≡ verdict (read_wall wall.now) }
 {
     if wall.len() < LEAST_FILE + ACTIONS_SIZE {
-        return Check::Refused {
+        return Err(Refused {
             why: Refusal::WrongLength,
             place: 0,
-        };
+        });
     }
     check_parts(file_in(wall), actions_in(wall))
 }

@@ -1,9 +1,10 @@
 -- The whole run over a wall list, one law for each way out.
+use Rattle.base.specs.Refusals.{refused_with}
+use Rattle.std.specs.Prelude.{Ok}
 use Prim.Native.Nat.{ℕ}
 use mathlib.Core.List.{List}
 use mathlib.Core.Path.{◌≡◌, sym, ap, ◌∙◌}
 use Rattle.base.specs.declared.refusal.Refusal.{Refusal}
-use Rattle.base.specs.declared.refusal.Check.TheVariants.{Passed, Refused}
 use Rattle.base.proofs.Tests.{cond_case}
 use Rattle.rules.specs.Readings.{Reading, cues, found, verdict}
 use Rattle.rules.specs.Files.{lent_enough}
@@ -15,7 +16,7 @@ use Rattle.pairs.proofs.Refusals.Walls.{good_wall, good_wall_is_read, a_bad_wall
 use Rattle.runs.specs.Runs.{items_in, play_in, ran_in, Fit}
 
 -- the items that the check of a list has found are those of its file
-pub wall_passed : (wall : List ℕ) → verdict (read_wall wall) ≡ Passed → read_wall wall ≡ cues (items_in (file_in wall))
+pub wall_passed : (wall : List ℕ) → verdict (read_wall wall) ≡ (Ok tt) → read_wall wall ≡ cues (items_in (file_in wall))
 unfolding items_in
 wall_passed wall e =
     let read = good_read (read_wall wall) e in
@@ -25,7 +26,7 @@ pub wall_fits : (wall : List ℕ) → read_wall wall ≡ cues (items_in (file_in
 wall_fits wall read = let good = good_wall wall _ read in record { start = good.start; reads = sym (good_wall_is_read wall good) ∙ read }
 
 module _ (wall r a : List ℕ) where
-  pub run_refused : (why : Refusal) (place : ℕ) → verdict (read_wall wall) ≡ Refused why place → wall_whole (wall_refusal why place) r a ≡ wall_call wall r a
+  pub run_refused : (why : Refusal) (place : ℕ) → verdict (read_wall wall) ≡ refused_with why place → wall_whole (wall_refusal why place) r a ≡ wall_call wall r a
   unfolding wall_refused
   run_refused why place e = sym (a_bad_wall_is_refused wall r a why place (bad_read (read_wall wall) why place e))
 

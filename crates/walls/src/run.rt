@@ -2,7 +2,7 @@
 ghost use Rattle.std.specs.Prelude.{◌≡◌};
 ghost use Rattle.pairs.specs.Walls.{wall_whole, wall_call};
 
-use base::refusal::Check;
+use base::refusal::Refused;
 use pairs::call::WallRan;
 use runs::run::{refused, run_checked};
 use sensor::state::fresh_with;
@@ -15,8 +15,8 @@ pub fn run_wall(wall: &[u8], records: &mut [u8], answers: &mut [u8]) -> WallRan
 {
     let checked = check_wall(wall);
     match checked {
-        Check::Refused { why, place } => refused(why, place),
-        Check::Passed => {
+        Err(Refused { why, place }) => refused(why, place),
+        Ok(()) => {
             let first = fresh_with(actions_in(wall));
             run_checked(file_in(wall), first, records, answers)
         }

@@ -1,4 +1,5 @@
 -- One item to a pair and a clock move of a pair: refused exactly when the table says, a refusal changes nothing, and a sound pair stays sound.
+use Rattle.std.specs.Prelude.{Option, Some, None}
 use Prim.Native.Nat.{ℕ, ◌-◌, ◌≤◌}
 use mathlib.Core.Bool.{Bool, true, false, cond}
 use mathlib.Core.List.{List, [], ◌++◌}
@@ -7,8 +8,7 @@ use native.Mathlib.Omega.{arith}
 use lib.ListN.{length}
 use Rattle.octets.specs.Groups.{stamp_at}
 use Rattle.base.specs.declared.refusal.Refusal.TheVariants.{BadInput, BadStamp, UnsoundState}
-use Rattle.base.specs.declared.refusal.Check.{Check}
-use Rattle.base.specs.Refusals.{code_of, place_of, stamp_in_range, check_call, Timely}
+use Rattle.base.specs.Refusals.{code_of, place_of, stamp_in_range, check_call, Timely, Check}
 use Rattle.base.proofs.Codes.{timely_exactly_when, call_codes}
 use Rattle.rules.specs.Steps.{Stepped}
 use Rattle.rules.specs.Calls.{places}
@@ -16,8 +16,6 @@ use Rattle.rules.proofs.Laws.Records.{a_move_writes_at_most_two, an_input_writes
 use Rattle.sensor.specs.Calls.{telegram_octets}
 use Rattle.sensor.specs.Claims.{silence}
 use Rattle.pairs.specs.declared.item.Item.{Item}
-use Rattle.pairs.specs.declared.item.Read.{Read}
-use Rattle.pairs.specs.declared.item.Read.TheVariants.{Known, Unknown}
 use Rattle.pairs.specs.declared.call.Joint.{Joint}
 use Rattle.pairs.specs.declared.call.JointMove.{JointMove}
 use Rattle.pairs.specs.Items.{item_at}
@@ -43,9 +41,9 @@ a_pair_move_writes_at_most_two p t = a_move_writes_at_most_two p.actuator t
 -- What one item finds: the first of the table's rows 9, 6, 7 that fits, or an item that is played.
 pub data JointFinds (p : Pair) (octets : List ℕ) : Joint → Type 0 where
   not_sound : pair_sound p ≡ false → JointFinds p octets (joint_refused p UnsoundState)
-  unknown : pair_sound p ≡ true → item_at octets 0 ≡ Unknown → JointFinds p octets (joint_refused p BadInput)
-  untimely : (i : Item) → pair_sound p ≡ true → item_at octets 0 ≡ Known i → stamp_in_range p.actuator.clock (stamp_at octets 0) ≡ false → JointFinds p octets (joint_refused p BadStamp)
-  plays : (i : Item) → pair_sound p ≡ true → item_at octets 0 ≡ Known i → stamp_in_range p.actuator.clock (stamp_at octets 0) ≡ true → JointFinds p octets (joint_done (stamp_at octets 0) (pair_step p i (stamp_at octets 0)))
+  unknown : pair_sound p ≡ true → item_at octets 0 ≡ None → JointFinds p octets (joint_refused p BadInput)
+  untimely : (i : Item) → pair_sound p ≡ true → item_at octets 0 ≡ Some i → stamp_in_range p.actuator.clock (stamp_at octets 0) ≡ false → JointFinds p octets (joint_refused p BadStamp)
+  plays : (i : Item) → pair_sound p ≡ true → item_at octets 0 ≡ Some i → stamp_in_range p.actuator.clock (stamp_at octets 0) ≡ true → JointFinds p octets (joint_done (stamp_at octets 0) (pair_step p i (stamp_at octets 0)))
 
 module _ (p : Pair) (octets : List ℕ) where
   abbrev t : ℕ
@@ -59,20 +57,20 @@ module _ (p : Pair) (octets : List ℕ) where
   unfolding joint_call
   joint_finds = by (pair_sound p) refl
     where
-      in_time : (i : Item) (b : Bool) → pair_sound p ≡ true → item_at octets 0 ≡ Known i → timely ≡ b → JointFinds p octets (cond b (joint_done t (pair_step p i t)) (joint_refused p BadStamp))
+      in_time : (i : Item) (b : Bool) → pair_sound p ≡ true → item_at octets 0 ≡ Some i → timely ≡ b → JointFinds p octets (cond b (joint_done t (pair_step p i t)) (joint_refused p BadStamp))
       in_time i true h m e = plays i h m e
       in_time i false h m e = untimely i h m e
 
-      known : (r : Read) → pair_sound p ≡ true → item_at octets 0 ≡ r → JointFinds p octets (joint_meant p t r)
-      known Unknown h m = unfold joint_meant in unknown h m
-      known (Known i) h m = unfold joint_meant in in_time i timely h m refl
+      known : (r : Option Item) → pair_sound p ≡ true → item_at octets 0 ≡ r → JointFinds p octets (joint_meant p t r)
+      known None h m = unfold joint_meant in unknown h m
+      known (Some i) h m = unfold joint_meant in in_time i timely h m refl
 
       by : (b : Bool) → pair_sound p ≡ b → JointFinds p octets (cond b (joint_meant p t (item_at octets 0)) (joint_refused p UnsoundState))
       by true h = known (item_at octets 0) h refl
       by false h = not_sound h
 
   -- and the other way round: where no row fits, the item is played
-  pub a_good_item_is_played : (i : Item) → pair_sound p ≡ true → item_at octets 0 ≡ Known i → timely ≡ true → joint_call p octets ≡ joint_done t (pair_step p i t)
+  pub a_good_item_is_played : (i : Item) → pair_sound p ≡ true → item_at octets 0 ≡ Some i → timely ≡ true → joint_call p octets ≡ joint_done t (pair_step p i t)
   unfolding joint_call joint_meant
   a_good_item_is_played i h m e = rw (h, m, e)
 
@@ -92,7 +90,7 @@ module _ (p : Pair) (octets : List ℕ) where
   pub joint_refused_exactly_when : JointCodes p octets (joint_call p octets).code (joint_call p octets).place
   joint_refused_exactly_when =
       rw (joint_is_tested.0, joint_is_tested.1)
-      (call_codes (SoundPair p) ((i : Item) × (item_at octets 0 ≡ Known i)) (Timely p.actuator.clock t) _ _ _ (sound_pair_exactly_when p) (known_exactly_when (item_at octets 0)) (timely_exactly_when p.actuator.clock t))
+      (call_codes (SoundPair p) ((i : Item) × (item_at octets 0 ≡ Some i)) (Timely p.actuator.clock t) _ _ _ (sound_pair_exactly_when p) (known_exactly_when (item_at octets 0)) (timely_exactly_when p.actuator.clock t))
 
   -- "A refused call .. hands back the state it was given"; it records nothing and sends nothing
   pub joint_refusal_changes_nothing : ((joint_call p octets).code ≡ 0 → ⊥) →

@@ -1,4 +1,5 @@
 -- The run over a wall list: what it is refused for, exactly; what it finds, what it writes, and how much.
+use Rattle.std.specs.Prelude.{Ok, Err, slice_get}
 use Prim.Native.Nat.{ℕ, ◌+◌, ◌-◌, ◌*◌, ◌≤◌, ◌<◌}
 use mathlib.Core.Bool.{Bool, true, false, cond}
 use mathlib.Core.List.{List, [], ◌∷◌, ◌++◌}
@@ -6,15 +7,13 @@ use mathlib.Core.Logic.{◌↔◌}
 use mathlib.Core.Path.{◌≡◌, refl, sym, ap, ◌∙◌}
 use native.Mathlib.Omega.{arith}
 use lib.Dec.{leb}
-use lib.ListN.{length, drop, get_elem?, length-append, length-take, length-drop, take-append-drop}
+use lib.ListN.{length, drop, length-append, length-take, length-drop, take-append-drop}
 use lib.Seq.{get_or-take, get_or-drop}
 use borrow.Author.Tests.{leb-true, le-leb}
 use Rattle.octets.specs.BigEndian.{octet}
 use Rattle.base.specs.declared.refusal.Refusal.{Refusal}
 use Rattle.base.specs.declared.refusal.Refusal.TheVariants.{WrongLength, ShortBuffer}
-use Rattle.base.specs.declared.refusal.Check.{Check}
-use Rattle.base.specs.declared.refusal.Check.TheVariants.{Passed, Refused}
-use Rattle.base.specs.Refusals.{code_of, place_of, or_else, Decides}
+use Rattle.base.specs.Refusals.{code_of, place_of, or_else, Decides, Check, refused_with}
 use Rattle.base.proofs.Codes.{codes_of_a_check, one_test_decides, then_decides}
 use Rattle.rules.specs.Files.{input_count, end_time, check_start, lent_enough, params_in, scenes_in, inputs_in}
 use Rattle.rules.specs.Calls.{own_state}
@@ -61,9 +60,9 @@ module _ (wall : List ℕ) where
 
 -- one check after the other
 wall_is_its_checks : (b : Bool) (start actions inputs : Check) →
-    or_else (cond b (or_else start actions) (Refused WrongLength 0)) inputs ≡ or_else (cond b Passed (Refused WrongLength 0)) (or_else start (or_else actions inputs))
-wall_is_its_checks true Passed actions inputs = refl
-wall_is_its_checks true (Refused why place) actions inputs = refl
+    or_else (cond b (or_else start actions) (refused_with WrongLength 0)) inputs ≡ or_else (cond b (Ok tt) (refused_with WrongLength 0)) (or_else start (or_else actions inputs))
+wall_is_its_checks true (Ok _) actions inputs = refl
+wall_is_its_checks true (Err fault) actions inputs = refl
 wall_is_its_checks false start actions inputs = refl
 
 long_exactly_when : (n : ℕ) → (leb 56 n ≡ true) ↔ (56 ≤ n)
@@ -102,7 +101,7 @@ good_wall_is_read wall g = a_good_start_is_read wall g.long g.start g.actions
 -- as many items as inputs, in their order
 pub items_are_the_octets : (wall : List ℕ) (items : List Listed) → read_wall wall ≡ cues items →
     let file : List ℕ = file_in wall in
-    (length items ≡ input_count file) × ((j : ℕ) → j < input_count file → get_elem? items j ≡ item_in (inputs_in file) j)
+    (length items ≡ input_count file) × ((j : ℕ) → j < input_count file → slice_get items j ≡ item_in (inputs_in file) j)
 items_are_the_octets wall items e =
     let file : List ℕ = file_in wall in
     list_is_the_inputs (item_in (inputs_in file)) (inputs_in file) (input_count file) 0 (end_time file) items (sym (good_wall_is_read wall (good_wall wall items e)) ∙ e)

@@ -1,4 +1,5 @@
 -- Times in range, and deadlines that lie 1 to 655,350 after the clock: what keeps every sum within its type.
+use Rattle.std.specs.Prelude.{Option, Some, None}
 use Prim.Native.Nat.{ℕ, ◌+◌, ◌-◌, ◌/◌, ◌%◌, ◌≤◌, ◌<◌}
 use mathlib.Core.Bool.{Bool, true, false}
 use mathlib.Core.Path.{◌≡◌, refl, ap}
@@ -9,8 +10,6 @@ use borrow.Author.Tests.{leb-true, ltb-true, eqb-true, le-leb, lt-ltb, eq-eqb}
 use Rattle.rules.specs.declared.form.Scale.TheVariants.{Seconds, Tenths}
 use Rattle.rules.specs.declared.parameters.Params.{Params}
 use Rattle.rules.specs.declared.phase.Phase.{Phase}
-use Rattle.rules.specs.declared.phase.Deadline.{Deadline}
-use Rattle.rules.specs.declared.phase.Deadline.TheVariants.{Never, At}
 use Rattle.base.specs.Time.{longest_delay}
 use Rattle.rules.specs.Forms.{unit, form_of, HasVersion}
 use Rattle.rules.specs.Parameters.{time_in_range, times_in_range, modes_in_range, params_in_range}
@@ -126,38 +125,38 @@ pub record Within (t d : ℕ) : Type 0 where
   pub after : t < d
   pub near : d ≤ t + longest_delay
 
-pub soon_within : (t d : ℕ) → soon t (At d) ≡ true → Within t d
+pub soon_within : (t d : ℕ) → soon t (Some d) ≡ true → Within t d
 unfolding soon
 soon_within t d h =
     cond_case (λ (b : Bool). b ≡ true → Within t d) (ltb t d) (leb (d - t) longest_delay) false
     (λ e g. omega (arith, ltb-true t d e, leb-true (d - t) longest_delay g)) (λ e g. no g) h
 
-pub within_soon : (t d : ℕ) → Within t d → soon t (At d) ≡ true
+pub within_soon : (t d : ℕ) → Within t d → soon t (Some d) ≡ true
 unfolding soon
 within_soon t d w = simp (lt-ltb t d w.after, le-leb (d - t) longest_delay (omega arith))
 
 -- if it ever comes
-abbrev pub Near : ℕ → Deadline → Type 0
-Near t Never = Unit {0}
-Near t (At d) = Within t d
+abbrev pub Near : ℕ → Option ℕ → Type 0
+Near t None = Unit {0}
+Near t (Some d) = Within t d
 
-pub soon_near : (t : ℕ) (x : Deadline) → soon t x ≡ true → Near t x
-soon_near t Never h = tt
-soon_near t (At d) h = soon_within t d h
+pub soon_near : (t : ℕ) (x : Option ℕ) → soon t x ≡ true → Near t x
+soon_near t None h = tt
+soon_near t (Some d) h = soon_within t d h
 
-pub near_soon : (t : ℕ) (x : Deadline) → Near t x → soon t x ≡ true
-near_soon t Never h = unfold soon in refl
-near_soon t (At d) h = within_soon t d h
+pub near_soon : (t : ℕ) (x : Option ℕ) → Near t x → soon t x ≡ true
+near_soon t None h = unfold soon in refl
+near_soon t (Some d) h = within_soon t d h
 
 -- (a phase without a deadline has the number 0 for it)
-pub near_due : (t : ℕ) (x : Deadline) → Near t x → moment x ≤ t + longest_delay
-near_due t Never h = omega arith
-near_due t (At d) h = h.near
+pub near_due : (t : ℕ) (x : Option ℕ) → Near t x → moment x ≤ t + longest_delay
+near_due t None h = omega arith
+near_due t (Some d) h = h.near
 
 -- the number of a deadline is the deadline
-pub due_is : (phase : Phase) (d : ℕ) → deadline phase ≡ At d → due phase ≡ d
+pub due_is : (phase : Phase) (d : ℕ) → deadline phase ≡ Some d → due phase ≡ d
 due_is phase d e = ap moment e
 
 -- and 0 where there is none
-pub due_none : (phase : Phase) → deadline phase ≡ Never → due phase ≡ 0
+pub due_none : (phase : Phase) → deadline phase ≡ None → due phase ≡ 0
 due_none phase e = ap moment e

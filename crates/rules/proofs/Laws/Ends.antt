@@ -1,5 +1,6 @@
 -- When light ends: a phase's own end (`own_end`), as the timers bear it out, the one choice of the earlier of two moments, and what any Off
 -- leaves.
+use Rattle.std.specs.Prelude.{Option, Some, None}
 use Prim.Native.Nat.{ℕ, ◌+◌, ◌≤◌}
 use mathlib.Core.Bool.{Bool, true, false, not, ◌&&◌}
 use mathlib.Core.Path.{◌≡◌, refl}
@@ -9,8 +10,6 @@ use borrow.Author.Tests.{not-true, le-leb, lt-leb, ne_eqb, eqb-false}
 use Rattle.rules.specs.declared.parameters.Params.{Params}
 use Rattle.rules.specs.declared.phase.Phase.{Phase}
 use Rattle.rules.specs.declared.phase.Phase.TheVariants.{Dark, Lit, Starting, Timed, Warning, Ending}
-use Rattle.rules.specs.declared.phase.Deadline.{Deadline}
-use Rattle.rules.specs.declared.phase.Deadline.TheVariants.{Never, At}
 use Rattle.rules.specs.declared.state.State.{State}
 use Rattle.rules.specs.Phases.{output, deadline, at_deadline, own_end}
 use Rattle.rules.specs.Orders.{earliest_end, off}
@@ -21,32 +20,32 @@ use Rattle.base.proofs.Tests.{no, both, cond_case, by_order}
 -- ---- moments that may never come
 
 -- it does not come before t
-abbrev pub DueFrom : ℕ → Deadline → Type 0
-DueFrom t Never = Unit {0}
-DueFrom t (At d) = t ≤ d
+abbrev pub DueFrom : ℕ → Option ℕ → Type 0
+DueFrom t None = Unit {0}
+DueFrom t (Some d) = t ≤ d
 
 -- it comes, by m
-abbrev pub ComesBy : ℕ → Deadline → Type 0
-ComesBy m Never = ⊥
-ComesBy m (At d) = d ≤ m
+abbrev pub ComesBy : ℕ → Option ℕ → Type 0
+ComesBy m None = ⊥
+ComesBy m (Some d) = d ≤ m
 
 -- ---- the earlier of two moments
 
 module _ (delayed : ℕ) where
-  pub earliest_within : (own : Deadline) → earliest_end delayed own ≤ delayed
+  pub earliest_within : (own : Option ℕ) → earliest_end delayed own ≤ delayed
   unfolding earliest_end
-  earliest_within Never = omega arith
-  earliest_within (At d) = omega arith
+  earliest_within None = omega arith
+  earliest_within (Some d) = omega arith
 
-  pub earliest_by : (m : ℕ) (own : Deadline) → ComesBy m own → earliest_end delayed own ≤ m
+  pub earliest_by : (m : ℕ) (own : Option ℕ) → ComesBy m own → earliest_end delayed own ≤ m
   unfolding earliest_end
-  earliest_by m (At d) h = omega arith
-  earliest_by m Never h = elim h [ ]
+  earliest_by m (Some d) h = omega arith
+  earliest_by m None h = elim h [ ]
 
-  pub earliest_from : (f : ℕ) (own : Deadline) → f ≤ delayed → DueFrom f own → f ≤ earliest_end delayed own
+  pub earliest_from : (f : ℕ) (own : Option ℕ) → f ≤ delayed → DueFrom f own → f ≤ earliest_end delayed own
   unfolding earliest_end
-  earliest_from f Never near h = near
-  earliest_from f (At d) near h = omega arith
+  earliest_from f None near h = near
+  earliest_from f (Some d) near h = omega arith
 
 -- ---- a phase's own end
 

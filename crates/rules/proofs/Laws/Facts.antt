@@ -1,4 +1,5 @@
 -- A state is sound exactly when it is as 01 says, clause by clause.
+use Rattle.std.specs.Prelude.{Option, Some, None}
 use Prim.Native.Nat.{ℕ, ◌+◌, ◌≤◌}
 use mathlib.Core.Bool.{Bool, true, false, cond, not, ◌&&◌, ◌||◌}
 use mathlib.Core.Logic.{◌↔◌, ◌⊎◌, inl, inr, ⊎_elim}
@@ -6,8 +7,6 @@ use mathlib.Core.Path.{◌≡◌, refl, sym}
 use native.Mathlib.Omega.{arith}
 use Rattle.rules.specs.declared.phase.Phase.{Phase}
 use Rattle.rules.specs.declared.phase.Phase.TheVariants.{Dark, Lit}
-use Rattle.rules.specs.declared.phase.Deadline.{Deadline}
-use Rattle.rules.specs.declared.phase.Deadline.TheVariants.{Never, At}
 use Rattle.rules.specs.declared.input.Force.{Force}
 use Rattle.rules.specs.declared.input.Force.TheVariants.{Free, Off, On}
 use Rattle.rules.specs.declared.state.Link.{Link}
@@ -45,11 +44,11 @@ guarded : (guard rule : Bool) → (cond guard rule true ≡ true) ↔ (guard ≡
 guarded true rule = (λ h e. h, λ f. f refl)
 guarded false rule = (λ h e. no e, λ f. refl)
 
-soon_exactly_when : (t : ℕ) (x : Deadline) → (soon t x ≡ true) ↔ ((d : ℕ) → x ≡ At d → (t + 1 ≤ d) × (d ≤ t + 655_350))
-soon_exactly_when t Never = (λ h d e. no cc, λ f. unfold soon in refl)
-soon_exactly_when t (At x) = (λ h d e. near d (sym e) (soon_within t x h), λ f. within_soon t x (omega (arith, f x refl)))
+soon_exactly_when : (t : ℕ) (x : Option ℕ) → (soon t x ≡ true) ↔ ((d : ℕ) → x ≡ Some d → (t + 1 ≤ d) × (d ≤ t + 655_350))
+soon_exactly_when t None = (λ h d e. no cc, λ f. unfold soon in refl)
+soon_exactly_when t (Some x) = (λ h d e. near d (sym e) (soon_within t x h), λ f. within_soon t x (omega (arith, f x refl)))
   where
-    near : (d : ℕ) → At d ≡ At x → Within t x → (t + 1 ≤ d) × (d ≤ t + 655_350)
+    near : (d : ℕ) → Some d ≡ Some x → Within t x → (t + 1 ≤ d) × (d ≤ t + 655_350)
     near d e w =
         let same : d ≡ x = cc in
         (omega (arith, w.after), omega (arith, w.near))

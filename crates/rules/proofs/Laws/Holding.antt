@@ -1,11 +1,11 @@
 -- The rules on deadline, flags and phase: what they ask where nothing holds the phase, and where lock or force does.
+use Rattle.std.specs.Prelude.{Some}
 use Prim.Native.Nat.{ℕ}
 use mathlib.Core.Bool.{Bool, true, false, cond, not, ◌&&◌, ◌||◌}
 use mathlib.Core.Logic.{◌↔◌}
 use mathlib.Core.Path.{◌≡◌, refl, sym, ◌∙◌}
 use borrow.Author.Tests.{not-true}
 use Rattle.rules.specs.declared.phase.Phase.{Phase}
-use Rattle.rules.specs.declared.phase.Deadline.TheVariants.{At}
 use Rattle.rules.specs.declared.input.Force.{Force}
 use Rattle.rules.specs.declared.input.Force.TheVariants.{Free, Off, On}
 use Rattle.rules.specs.declared.state.Link.{Link}
@@ -76,13 +76,13 @@ unguarded true rule h e = no (sym e ∙ h)
 unguarded false rule h e = refl
 
 -- only Dark and Lit have no deadline
-waiting_is_not_steady : (phase : Phase) (d : ℕ) → deadline phase ≡ At d → (is_dark phase ≡ false) × (is_lit phase ≡ false)
+waiting_is_not_steady : (phase : Phase) (d : ℕ) → deadline phase ≡ Some d → (is_dark phase ≡ false) × (is_lit phase ≡ false)
 waiting_is_not_steady =
-    each_phase (λ phase. (d : ℕ) → deadline phase ≡ At d → (is_dark phase ≡ false) × (is_lit phase ≡ false))
+    each_phase (λ phase. (d : ℕ) → deadline phase ≡ Some d → (is_dark phase ≡ false) × (is_lit phase ≡ false))
     (λ d e. (cc, cc)) (λ d e. (cc, cc)) (λ timed x d e. (refl, refl)) (λ x d e. (refl, refl)) (λ x d e. (refl, refl)) (λ x d e. (refl, refl))
 
 -- lock, force and power down leave only Dark or Lit
-pub waiting_is_loose : (s : State) (d : ℕ) → deadline s.phase ≡ At d → Stands s → LooseIn s
+pub waiting_is_loose : (s : State) (d : ℕ) → deadline s.phase ≡ Some d → Stands s → LooseIn s
 unfolding held_is_steady power_down_is_clear
 waiting_is_loose s d e h =
     let n = waiting_is_not_steady s.phase d e in

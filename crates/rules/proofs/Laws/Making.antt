@@ -1,13 +1,12 @@
 -- What an order may make of the phase, and by what, said once of every order. By its cases follows that no deadline is set too early or too
 -- far off, that night leaves no light that lasts, how long light lasts, that a wait and a lit lamp stay, and that an Off is heard.
+use Rattle.std.specs.Prelude.{Option, Some, None}
 use Prim.Native.Nat.{ℕ, ◌+◌, ◌≤◌}
 use mathlib.Core.Bool.{Bool, true, false, not, ◌&&◌, ◌||◌, or-true, and-false}
 use mathlib.Core.Path.{◌≡◌, refl, sym}
 use mathlib.Core.Logic.{◌⊎◌, inl, inr}
 use lib.Dec.{eqb}
 use Rattle.rules.specs.declared.parameters.Params.{Params}
-use Rattle.rules.specs.declared.parameters.Recalled.{Recalled}
-use Rattle.rules.specs.declared.parameters.Recalled.TheVariants.{Nothing, Output}
 use Rattle.rules.specs.declared.phase.Phase.{Phase}
 use Rattle.rules.specs.declared.phase.Phase.TheVariants.{Dark, Lit, Starting, Timed, Warning, Ending}
 use Rattle.rules.specs.declared.input.Force.{Force}
@@ -148,10 +147,10 @@ module _ (s : State) (Bright Holds Dims : Type 0) where
   timed_leads true b d = timed_start_makes s.phase (b refl)
   timed_leads false b d = timed_stop_makes s.phase (d refl)
 
-  recall_leads : (found : Recalled) → (recalls_on found ≡ true → Bright) → (recalls_off found ≡ true → Dims) → Leads (recall s found)
+  recall_leads : (found : Option Bool) → (recalls_on found ≡ true → Bright) → (recalls_off found ≡ true → Dims) → Leads (recall s found)
   unfolding recall
-  recall_leads Nothing b d = stays
-  recall_leads (Output value) b d = switch_leads value b d
+  recall_leads None b d = stays
+  recall_leads (Some value) b d = switch_leads value b d
 
   learn_leads : (number : ℕ) → Leads (learn s number)
   unfolding learn held

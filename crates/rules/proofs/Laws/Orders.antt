@@ -1,4 +1,5 @@
 -- What an order leaves: the parameters and the clock, the scenes but for one that it teaches, and each flag that is not its own.
+use Rattle.std.specs.Prelude.{Option, Some, None}
 use Prim.Native.Nat.{ℕ}
 use mathlib.Core.Bool.{Bool, true, false, cond, ◌||◌}
 use mathlib.Core.List.{List}
@@ -6,8 +7,6 @@ use mathlib.Core.Logic.{◌↔◌}
 use mathlib.Core.Path.{◌≡◌, refl, sym}
 use lib.Dec.{eqb}
 use Rattle.rules.specs.declared.parameters.Scene.{Scene}
-use Rattle.rules.specs.declared.parameters.Recalled.{Recalled}
-use Rattle.rules.specs.declared.parameters.Recalled.TheVariants.{Nothing, Output}
 use Rattle.rules.specs.declared.input.Force.{Force}
 use Rattle.rules.specs.declared.input.Force.TheVariants.{Free, Off, On}
 use Rattle.rules.specs.declared.input.Event.{Event}
@@ -47,10 +46,10 @@ unfolding timed
 timed_leaves s true = same
 timed_leaves s false = same
 
-pub recall_leaves : (s : State) (found : Recalled) → With s (flags_of s) (recall s found)
+pub recall_leaves : (s : State) (found : Option Bool) → With s (flags_of s) (recall s found)
 unfolding recall
-recall_leaves s Nothing = same
-recall_leaves s (Output value) = switch_leaves s value
+recall_leaves s None = same
+recall_leaves s (Some value) = switch_leaves s value
 
 learn_leaves : (s : State) (number : ℕ) → Leaves s (NumberedSceneControl true number) (learn s number)
 unfolding learn

@@ -1,4 +1,6 @@
 -- What the check of parameters answers, exactly; and accepted octets are parameters and scenes in range.
+use Rattle.base.specs.Refusals.{Check, refused_with}
+use Rattle.std.specs.Prelude.{Ok, Err}
 use Prim.Native.Nat.{ℕ, zero, suc, ◌+◌, ◌-◌, ◌*◌, ◌/◌, ◌%◌, ◌≤◌, ◌<◌}
 use mathlib.Core.Bool.{Bool, true, false, cond, not, ◌&&◌, ◌||◌, and-false, or-true}
 use mathlib.Core.List.{List, [], ◌∷◌}
@@ -15,16 +17,15 @@ use Rattle.rules.specs.declared.form.Scale.{Scale}
 use Rattle.rules.specs.declared.form.Scale.TheVariants.{Seconds, Tenths}
 use Rattle.rules.specs.declared.form.Form.{Form}
 use Rattle.rules.specs.declared.parameters.Scene.{Scene}
+use Rattle.base.specs.declared.refusal.Refusal.{Refusal}
 use Rattle.base.specs.declared.refusal.Refusal.TheVariants.{WrongLength, BadParameter}
-use Rattle.base.specs.declared.refusal.Check.{Check}
-use Rattle.base.specs.declared.refusal.Check.TheVariants.{Passed, Refused}
 use Rattle.rules.specs.Forms.{width, unit, is_version}
 use Rattle.rules.specs.Layout.{time_place, modes_at, scenes_at, parameters_size}
 use Rattle.rules.specs.Parameters.{time_at, delay, params_of, scene_at, scenes_of, greatest, bad_time, number_above, bad_number, bad_flags, bad_octet, time_in_range, times_in_range, modes_in_range, params_in_range, lowest_bad, check_parameters}
 use Rattle.rules.specs.Scenes.{entry_in_range, absent, scenes_in_range}
 use Rattle.rules.specs.Steps.{fresh}
 use Rattle.rules.specs.Soundness.{sound}
-use Rattle.rules.specs.Refusals.{GoodParameters, FirstBad, FoundWhen}
+use Rattle.rules.specs.Refusals.{GoodParameters, FirstBad, FoundWhen, FoundBy}
 use Rattle.base.proofs.Tests.{no, neither_left, or_else, cond_case, eqb_same, by_order}
 use Rattle.rules.proofs.Laws.Forms.{IsRow}
 use Rattle.rules.proofs.Laws.Soundness.{fresh_is_sound}
@@ -36,7 +37,7 @@ lowest_given : (f : Form) (octets : List ℕ) → length octets ≡ parameters_s
 unfolding lowest_bad
 lowest_given f octets whole zero at end good = record { whole = whole; good = λ j within. good j (omega arith) }
 lowest_given f octets whole (suc left) at end good =
-    cond_case (FoundWhen f octets) (bad_octet f octets at) (Refused BadParameter at) (lowest_bad f octets left (at + 1))
+    cond_case (FoundWhen f octets) (bad_octet f octets at) (refused_with BadParameter at) (lowest_bad f octets left (at + 1))
     (λ bad. record { whole = whole; within = omega arith; bad = bad; good = good })
     (λ fine. lowest_given f octets whole left (at + 1) (omega arith) (below_more (λ j. bad_octet f octets j ≡ false) at good fine))
 
@@ -44,7 +45,7 @@ lowest_given f octets whole (suc left) at end good =
 check_given : (f : Form) (octets : List ℕ) → FoundWhen f octets (check_parameters f octets)
 unfolding check_parameters
 check_given f octets =
-    cond_case (FoundWhen f octets) (eqb (length octets) (parameters_size f)) (lowest_bad f octets (parameters_size f) 0) (Refused WrongLength 0)
+    cond_case (FoundWhen f octets) (eqb (length octets) (parameters_size f)) (lowest_bad f octets (parameters_size f) 0) (refused_with WrongLength 0)
     (λ whole. lowest_given f octets (eqb-true _ _ whole) (parameters_size f) 0 (omega arith) (below_none _))
     (λ other. (refl, eqb-false _ _ other))
 
@@ -59,21 +60,28 @@ same_place f octets a b x y =
     let not_more : b < a → ⊥ = λ more. clash f octets b y.bad (x.good b more) in
     omega arith
 
+-- parameters without a bad octet fit no refusal
+good_is_not_bad : (f : Form) (octets : List ℕ) (why : Refusal) (place : ℕ) → GoodParameters f octets → FoundBy f octets why place → ⊥
+good_is_not_bad f octets WrongLength place good bad = bad.1 good.whole
+good_is_not_bad f octets BadParameter place good bad = clash f octets place bad.bad (good.good place bad.within)
+good_is_not_bad f octets _ place good bad = elim bad [ ]
+
+-- no two refusals fit
+one_refusal : (f : Form) (octets : List ℕ) (why reason : Refusal) (place other : ℕ) → FoundBy f octets why place → FoundBy f octets reason other → refused_with why place ≡ refused_with reason other
+one_refusal f octets WrongLength WrongLength place other a b = ap (refused_with WrongLength) (omega arith)
+one_refusal f octets WrongLength BadParameter place other a b = absurd (a.1 b.whole)
+one_refusal f octets BadParameter WrongLength place other a b = absurd (b.1 a.whole)
+one_refusal f octets BadParameter BadParameter place other a b = ap (refused_with BadParameter) (same_place f octets place other a b)
+one_refusal f octets WrongLength _ place other a b = elim b [ ]
+one_refusal f octets BadParameter _ place other a b = elim b [ ]
+one_refusal f octets _ reason place other a b = elim a [ ]
+
 -- no two answers fit
 one_answer : (f : Form) (octets : List ℕ) (x y : Check) → FoundWhen f octets x → FoundWhen f octets y → x ≡ y
-one_answer f octets Passed Passed a b = refl
-one_answer f octets Passed (Refused WrongLength place) a b = absurd (b.1 a.whole)
-one_answer f octets Passed (Refused BadParameter place) a b = clash f octets place b.bad (a.good place b.within)
-one_answer f octets (Refused WrongLength place) Passed a b = absurd (a.1 b.whole)
-one_answer f octets (Refused WrongLength place) (Refused WrongLength other) a b = ap (Refused WrongLength) (omega arith)
-one_answer f octets (Refused WrongLength place) (Refused BadParameter other) a b = absurd (a.1 b.whole)
-one_answer f octets (Refused BadParameter place) Passed a b = clash f octets place a.bad (b.good place a.within)
-one_answer f octets (Refused BadParameter place) (Refused WrongLength other) a b = absurd (b.1 a.whole)
-one_answer f octets (Refused BadParameter place) (Refused BadParameter other) a b = ap (Refused BadParameter) (same_place f octets place other a b)
-one_answer f octets Passed _ a b = elim b [ ]
-one_answer f octets (Refused WrongLength place) _ a b = elim b [ ]
-one_answer f octets (Refused BadParameter place) _ a b = elim b [ ]
-one_answer f octets _ y a b = elim a [ ]
+one_answer f octets (Ok _) (Ok _) a b = refl
+one_answer f octets (Ok _) (Err fault) a b = absurd (good_is_not_bad f octets fault.why fault.place a b)
+one_answer f octets (Err fault) (Ok _) a b = absurd (good_is_not_bad f octets fault.why fault.place b a)
+one_answer f octets (Err fault) (Err other) a b = one_refusal f octets fault.why other.why fault.place other.place a b
 
 -- an answer is given exactly when it fits: the answer given fits, and no other does
 pub lowest_bad_octet : (f : Form) (octets : List ℕ) (x : Check) → (check_parameters f octets ≡ x) ↔ FoundWhen f octets x
@@ -125,9 +133,9 @@ some_time : (f : Form) (octets : List ℕ) → bad_time f octets 2 ≡ false →
 unfolding bad_time
 some_time f octets good none = no (sym good ∙ or_else (ltb 655_350 (delay f octets 2)) _ (λ short. eq-eqb (delay f octets 2) 0 none))
 
-pub passed_has_some_time : (f : Form) (octets : List ℕ) → check_parameters f octets ≡ Passed → 1 ≤ (params_of f octets).timedon
+pub passed_has_some_time : (f : Form) (octets : List ℕ) → check_parameters f octets ≡ (Ok tt) → 1 ≤ (params_of f octets).timedon
 unfolding params_of
-passed_has_some_time f octets passed = omega (arith, some_time f octets (good_time f octets ((lowest_bad_octet f octets Passed).0 passed) 2 (omega arith)))
+passed_has_some_time f octets passed = omega (arith, some_time f octets (good_time f octets ((lowest_bad_octet f octets (Ok tt)).0 passed) 2 (omega arith)))
 
 -- whatever a time is, it is so many of its units
 delay_in_units : (f : Form) (octets : List ℕ) (n : ℕ) → delay f octets n % unit f.scale ≡ 0
@@ -303,14 +311,14 @@ entries_in_range f octets (suc left) n a end =
     simp (entry_in_range_lem f octets n a (omega arith), here, entries_in_range f octets left (n + 1) a (omega arith))
 
 -- the eight entries are the scene table
-pub passed_is_in_range : (f : Form) (octets : List ℕ) → IsRow f → check_parameters f octets ≡ Passed → (params_in_range (params_of f octets) ≡ true) × (scenes_in_range (scenes_of f octets) ≡ true)
+pub passed_is_in_range : (f : Form) (octets : List ℕ) → IsRow f → check_parameters f octets ≡ (Ok tt) → (params_in_range (params_of f octets) ≡ true) × (scenes_in_range (scenes_of f octets) ≡ true)
 unfolding scenes_of entries
 passed_is_in_range f octets row passed =
-    let a = (lowest_bad_octet f octets Passed).0 passed in
+    let a = (lowest_bad_octet f octets (Ok tt)).0 passed in
     (params_in_range_lem f octets row a, entries_in_range f octets 8 0 a refl)
 
 -- accepted parameters start a sound state
-pub passed_is_sound : (f : Form) (octets : List ℕ) → IsRow f → check_parameters f octets ≡ Passed → sound (fresh (params_of f octets) (scenes_of f octets)) ≡ true
+pub passed_is_sound : (f : Form) (octets : List ℕ) → IsRow f → check_parameters f octets ≡ (Ok tt) → sound (fresh (params_of f octets) (scenes_of f octets)) ≡ true
 passed_is_sound f octets row passed =
     let ranges = passed_is_in_range f octets row passed in
     fresh_is_sound (params_of f octets) (scenes_of f octets) ranges.0 ranges.1

@@ -1,4 +1,5 @@
 -- What the timers and the orders make of a phase: its deadline stays soon, and a night that rules leaves no Lit.
+use Rattle.std.specs.Prelude.{Option, Some, None}
 use Prim.Native.Nat.{ℕ, ◌+◌}
 use mathlib.Core.Bool.{Bool, true, false}
 use mathlib.Core.Path.{◌≡◌, refl, sym, ◌∙◌}
@@ -6,8 +7,6 @@ use native.Mathlib.Omega.{arith}
 use Rattle.rules.specs.declared.parameters.Params.{Params}
 use Rattle.rules.specs.declared.phase.Phase.{Phase}
 use Rattle.rules.specs.declared.phase.Phase.TheVariants.{Dark, Lit, Starting, Timed, Warning, Ending}
-use Rattle.rules.specs.declared.phase.Deadline.{Deadline}
-use Rattle.rules.specs.declared.phase.Deadline.TheVariants.{Never, At}
 use Rattle.rules.specs.Phases.{deadline, lit_at, at_deadline, own_end}
 use Rattle.rules.specs.Answers.{due}
 use Rattle.rules.specs.Soundness.{is_lit}
@@ -21,9 +20,9 @@ use Rattle.rules.proofs.Laws.Making.{may_last, Makes, keeps, darkens, steadies, 
 lit_may_last : (phase : Phase) → is_lit phase ≡ true → may_last phase ≡ true
 lit_may_last = each_phase (λ phase. is_lit phase ≡ true → may_last phase ≡ true) (λ e. e) (λ e. e) (λ timed d e. e) (λ d e. e) (λ d e. e) (λ d e. refl)
 
-near_from : (t : ℕ) (x : Deadline) → Near t x → DueFrom (t + 1) x
-near_from t Never h = tt
-near_from t (At d) h = omega arith
+near_from : (t : ℕ) (x : Option ℕ) → Near t x → DueFrom (t + 1) x
+near_from t None h = tt
+near_from t (Some d) h = omega arith
 
 -- What a sound state asks of its phase, where night rules or not: its deadline, if it has one, is soon, and it is not Lit in a night that rules.
 abbrev pub Sits : Bool → ℕ → Phase → Type 0

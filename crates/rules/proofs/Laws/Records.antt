@@ -1,4 +1,5 @@
 -- How many records are written: at most one by a timer or an order, two by a clock move, three by an input; and their places by value.
+use Rattle.std.specs.Prelude.{Option, Some, None}
 use Prim.Native.Nat.{ℕ, zero, suc, ◌+◌, ◌-◌, ◌≤◌}
 use mathlib.Core.Bool.{cond, ◌||◌}
 use mathlib.Core.List.{List, [], ◌∷◌, ◌++◌}
@@ -9,8 +10,6 @@ use lib.ListN.{length, take, get_or, length-append}
 use Rattle.rules.specs.declared.parameters.Params.{Params}
 use Rattle.rules.specs.declared.phase.Phase.{Phase}
 use Rattle.rules.specs.declared.phase.Phase.TheVariants.{Dark, Lit, Starting, Timed, Warning, Ending}
-use Rattle.rules.specs.declared.phase.Deadline.{Deadline}
-use Rattle.rules.specs.declared.phase.Deadline.TheVariants.{Never, At}
 use Rattle.rules.specs.declared.input.Input.{Input}
 use Rattle.rules.specs.declared.state.State.{State}
 use Rattle.rules.specs.declared.barrier.Barrier.{Barrier}
@@ -34,9 +33,9 @@ unfolding written
 one_record_at_most cause before after = cond_case (λ (l : List Record). length l ≤ 1) (same_status before after) _ _ (λ same. omega arith) (λ differs. omega arith)
 
 -- how often the timers of a phase can still show: that its light ends by itself, and before that a light that is awaited
-abbrev ending : Deadline → ℕ
-ending Never = 0
-ending (At d) = 1
+abbrev ending : Option ℕ → ℕ
+ending None = 0
+ending (Some d) = 1
 
 abbrev shows : Params → Phase → ℕ
 shows p phase = cond (awaited phase) 2 (ending (own_end p phase))

@@ -1,4 +1,5 @@
 -- What each mode sets, and what Off, timed orders and nightfall make of a phase, in 01's words; and what a noted value changes, in those of 02.
+use Rattle.std.specs.Prelude.{Some}
 use Prim.Native.Nat.{ℕ, zero, suc, ◌+◌, ◌≤◌}
 use mathlib.Core.Bool.{Bool, true, false, cond, not, ◌&&◌, and-false}
 use mathlib.Core.List.{[], ◌∷◌}
@@ -11,7 +12,6 @@ use borrow.Author.Tests.{eq-eqb, ne_eqb}
 use Rattle.rules.specs.declared.parameters.Params.{Params}
 use Rattle.rules.specs.declared.phase.Phase.{Phase}
 use Rattle.rules.specs.declared.phase.Phase.TheVariants.{Dark, Lit, Timed, Warning, Ending}
-use Rattle.rules.specs.declared.phase.Deadline.TheVariants.{At}
 use Rattle.rules.specs.declared.input.Force.{Force}
 use Rattle.rules.specs.declared.input.Force.TheVariants.{Free, Off, On}
 use Rattle.rules.specs.declared.input.Event.{Event}
@@ -117,10 +117,10 @@ stop_is_off p t = each_phase (λ phase. timed_stop p t phase ≡ cond (runs_time
 
 -- ---- On
 
-ending_is_set_on : (p : Params) (night held : Bool) (t : ℕ) (phase : Phase) (d : ℕ) → own_end p phase ≡ At d → on p night held t phase ≡ lit_at p (night && not held) t
+ending_is_set_on : (p : Params) (night held : Bool) (t : ℕ) (phase : Phase) (d : ℕ) → own_end p phase ≡ Some d → on p night held t phase ≡ lit_at p (night && not held) t
 unfolding on set_on
 ending_is_set_on p night held t =
-    each_phase (λ phase. (d : ℕ) → own_end p phase ≡ At d → on p night held t phase ≡ lit_at p (night && not held) t)
+    each_phase (λ phase. (d : ℕ) → own_end p phase ≡ Some d → on p night held t phase ≡ lit_at p (night && not held) t)
     (λ d e. no cc) (λ d e. no cc) (λ timed x d e. no cc) (λ x d e. refl) (λ x d e. refl) (λ x d e. refl)
 
 pub on_orders : (p : Params) (night held : Bool) (t : ℕ) → OnOrders p night held t

@@ -1,4 +1,5 @@
 -- When a table is in range, exactly; and it stays so when an entry is taught.
+use Rattle.std.specs.Prelude.{Some, None}
 use Prim.Native.Nat.{ℕ, zero, suc, ◌≤◌, ◌<◌}
 use mathlib.Core.Bool.{Bool, true, false, cond, not, ◌||◌}
 use mathlib.Core.List.{List, [], ◌∷◌}
@@ -9,7 +10,6 @@ use native.Mathlib.Omega.{arith}
 use lib.Dec.{eqb, leb}
 use borrow.Author.Tests.{leb-true, eqb-true, eqb-false, not-true, le-leb, eq-eqb, ne_eqb}
 use Rattle.rules.specs.declared.parameters.Scene.{Scene}
-use Rattle.rules.specs.declared.parameters.Recalled.TheVariants.{Nothing, Output}
 use Rattle.rules.specs.Scenes.{recalled, learnt, entry_in_range, absent, scenes_in_range}
 use Rattle.rules.specs.Calls.{unused}
 use Rattle.rules.specs.Facts.{EntryFits, entry, ScenesFit, Recalls, Learns}
@@ -111,13 +111,13 @@ scenes_exactly_when k = (fits_view k, fits_whole k)
 first_differs : (x : Scene) (rest : List Scene) (number n : ℕ) → ScenesFit (x ∷ rest) → number ≤ 63 → (entry rest n).number ≡ number → eqb x.number number ≡ false
 first_differs x rest number n f small e = ne_eqb x.number number (λ same. omega (arith, f.distinct 0 (suc n) (omega arith) (same ∙ sym e)))
 
-recalled_found : (k : List Scene) (number n : ℕ) → ScenesFit k → number ≤ 63 → (entry k n).number ≡ number → recalled k number ≡ cond (entry k n).taught (Output (entry k n).value) Nothing
+recalled_found : (k : List Scene) (number n : ℕ) → ScenesFit k → number ≤ 63 → (entry k n).number ≡ number → recalled k number ≡ cond (entry k n).taught (Some (entry k n).value) None
 unfolding recalled unused
 recalled_found [] number n f small e = absurd (omega arith)
 recalled_found (x ∷ rest) number zero f small e = simp (eq-eqb x.number number e)
 recalled_found (x ∷ rest) number (suc n) f small e = rw (first_differs x rest number n f small e) (recalled_found rest number n (later_fits x rest f) small e)
 
-recalled_other : (k : List Scene) (number : ℕ) → ((n : ℕ) → (entry k n).number ≡ number → ⊥) → recalled k number ≡ Nothing
+recalled_other : (k : List Scene) (number : ℕ) → ((n : ℕ) → (entry k n).number ≡ number → ⊥) → recalled k number ≡ None
 unfolding recalled
 recalled_other [] number none = refl
 recalled_other (x ∷ rest) number none = rw (ne_eqb x.number number (none 0)) (recalled_other rest number (λ n. none (suc n)))

@@ -1,4 +1,5 @@
 -- A sound state stays sound: from its start, by a timer, by a clock move, by an order that nothing stops, by a value that is noted, by a step.
+use Rattle.std.specs.Prelude.{Option, Some, None}
 use Prim.Native.Nat.{ℕ, ◌+◌, ◌≤◌}
 use mathlib.Core.Bool.{true, false}
 use mathlib.Core.List.{List}
@@ -8,8 +9,6 @@ use borrow.Author.Tests.{leb-true, le-leb}
 use Rattle.rules.specs.declared.parameters.Params.{Params}
 use Rattle.rules.specs.declared.parameters.Scene.{Scene}
 use Rattle.rules.specs.declared.phase.Phase.{Phase}
-use Rattle.rules.specs.declared.phase.Deadline.{Deadline}
-use Rattle.rules.specs.declared.phase.Deadline.TheVariants.{Never, At}
 use Rattle.rules.specs.declared.input.Input.{Input}
 use Rattle.rules.specs.declared.input.Input.TheVariants.{SwitchOnOff, TimedStartStop, NumberedSceneControl, SwitchOnOffForced, LockDevice, NightMode, Bus, Power}
 use Rattle.rules.specs.declared.state.State.{State}
@@ -87,7 +86,7 @@ own_state_is_sound = fresh_is_sound least_params no_scenes refl refl
 -- ---- a timer
 
 -- a phase with a deadline is one that nothing holds, and its timer leads to another that may stand so
-fired_is_sound : (s : State) (t d : ℕ) → t ≤ last_stamp → Sound s → deadline s.phase ≡ At d → d ≤ t → Sound (fired s d)
+fired_is_sound : (s : State) (t d : ℕ) → t ≤ last_stamp → Sound s → deadline s.phase ≡ Some d → d ≤ t → Sound (fired s d)
 fired_is_sound s t d end h e past =
     let l = waiting_is_loose s d e (fits s h).stands in
     let next = timer_sits s.params (times_bounded s.params h.params) (ruled s) s.night s.clock s.phase (λ day. rw day) (fits_sits s (fits s h)) in
@@ -106,10 +105,10 @@ tick_clock s t h = tick_case (λ (u : State). u.clock ≤ t) s t (λ d e past. p
 -- ---- a clock move
 
 -- a deadline that is not yet due comes nearer
-soon_later : (clock t : ℕ) (x : Deadline) → clock ≤ t → Quiet t x → soon clock x ≡ true → soon t x ≡ true
+soon_later : (clock t : ℕ) (x : Option ℕ) → clock ≤ t → Quiet t x → soon clock x ≡ true → soon t x ≡ true
 unfolding soon
-soon_later clock t Never later quiet h = refl
-soon_later clock t (At d) later quiet h = within_soon t d (omega (arith, soon_within clock d h))
+soon_later clock t None later quiet h = refl
+soon_later clock t (Some d) later quiet h = within_soon t d (omega (arith, soon_within clock d h))
 
 -- the timers keep the state sound, and leave no deadline at or before t
 pub move_is_sound : (s : State) (t : ℕ) → sound s ≡ true → s.clock ≤ t → t ≤ 864_000 → sound (clock_move s t).state ≡ true

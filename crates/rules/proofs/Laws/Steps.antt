@@ -1,4 +1,5 @@
 -- One timer: it runs at its own moment or not at all, and three of them leave nothing due.
+use Rattle.std.specs.Prelude.{Option, Some, None}
 use Prim.Native.Nat.{ℕ, zero, suc, ◌-◌, ◌≤◌, ◌<◌}
 use mathlib.Core.Bool.{Bool, ◌||◌}
 use mathlib.Core.Logic.{◌⊎◌, inl, inr}
@@ -9,8 +10,6 @@ use borrow.Author.Tests.{leb-true, leb-false}
 use Rattle.rules.specs.declared.parameters.Params.{Params}
 use Rattle.rules.specs.declared.phase.Phase.{Phase}
 use Rattle.rules.specs.declared.phase.Phase.TheVariants.{Dark, Lit, Starting, Timed, Warning, Ending}
-use Rattle.rules.specs.declared.phase.Deadline.{Deadline}
-use Rattle.rules.specs.declared.phase.Deadline.TheVariants.{Never, At}
 use Rattle.rules.specs.declared.state.State.{State}
 use Rattle.rules.specs.Phases.{deadline, lit_at, at_deadline}
 use Rattle.rules.specs.Steps.{at_moment, tick_at, tick, Quiet, fired}
@@ -18,13 +17,13 @@ use Rattle.base.proofs.Tests.{cond_case, cond_zero}
 use Rattle.rules.proofs.Laws.Cases.{each_phase}
 
 -- what holds after a due timer, and where none is due, holds after a tick
-pub tick_case : (P : State → Type 0) (s : State) (t : ℕ) → ((d : ℕ) → deadline s.phase ≡ At d → d ≤ t → P (fired s d)) → (Quiet t (deadline s.phase) → P s) → P (tick s t)
+pub tick_case : (P : State → Type 0) (s : State) (t : ℕ) → ((d : ℕ) → deadline s.phase ≡ Some d → d ≤ t → P (fired s d)) → (Quiet t (deadline s.phase) → P s) → P (tick s t)
 unfolding tick tick_at
 tick_case P s t f g = go (deadline s.phase) refl
   where
-    go : (x : Deadline) → deadline s.phase ≡ x → P (tick_at s t x)
-    go Never e = g (rw e tt)
-    go (At d) e = cond_case P (leb d t) _ _ (λ past. f d e (leb-true d t past)) (λ later. g (rw e (leb-false d t later)))
+    go : (x : Option ℕ) → deadline s.phase ≡ x → P (tick_at s t x)
+    go None e = g (rw e tt)
+    go (Some d) e = cond_case P (leb d t) _ _ (λ past. f d e (leb-true d t past)) (λ later. g (rw e (leb-false d t later)))
 
 pub tick_rests : (s : State) (t : ℕ) → Quiet t (deadline s.phase) → tick s t ≡ s
 tick_rests s t q = tick_case (λ (u : State). u ≡ s) s t (λ d e past. absurd (omega (arith, rw e at q))) (λ q. refl)
@@ -67,7 +66,7 @@ none_left t phase (inr few) =
     each_phase (λ phase. rank phase ≤ 0 → Quiet t (deadline phase)) (λ few. tt) (λ few. tt) (λ timed d few. omega arith) (λ d few. omega arith) (λ d few. omega arith) (λ d few. omega arith) phase few
 
 -- so a timer that runs always leaves fewer
-pub a_timer_lowers_the_rank : (p : Params) (night : Bool) (phase : Phase) (d : ℕ) → deadline phase ≡ At d → rank (at_deadline p night phase) < rank phase
+pub a_timer_lowers_the_rank : (p : Params) (night : Bool) (phase : Phase) (d : ℕ) → deadline phase ≡ Some d → rank (at_deadline p night phase) < rank phase
 a_timer_lowers_the_rank p night phase d e = go (rank phase) refl
   where
     go : (n : ℕ) → rank phase ≡ n → rank (at_deadline p night phase) < rank phase

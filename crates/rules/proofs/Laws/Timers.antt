@@ -1,10 +1,10 @@
 -- The timers of a clock move: each runs at its own moment, three are enough, and two moves are one.
+use Rattle.std.specs.Prelude.{Some}
 use Prim.Native.Nat.{ℕ, ◌≤◌}
 use mathlib.Core.List.{List, [], ◌++◌, append-nil, append_assoc}
 use mathlib.Core.Path.{◌≡◌, refl, sym}
 use native.Mathlib.Omega.{arith}
 use borrow.Author.Tests.{le-leb, eq-eqb}
-use Rattle.rules.specs.declared.phase.Deadline.TheVariants.{At}
 use Rattle.rules.specs.declared.state.State.{State}
 use Rattle.rules.specs.declared.record.Record.{Record}
 use Rattle.rules.specs.Phases.{deadline, at_deadline}
@@ -15,7 +15,7 @@ use Rattle.rules.proofs.Laws.Steps.{tick_case, tick_rests, three_are_enough}
 -- ---- one timer
 
 -- a due timer takes the state to its own moment and the phase to the next, and changes nothing else
-pub each_timer_at_its_own_moment : (s : State) (t d : ℕ) → deadline s.phase ≡ At d → d ≤ t → tick s t ≡ at_moment s d (at_deadline s.params s.night s.phase)
+pub each_timer_at_its_own_moment : (s : State) (t d : ℕ) → deadline s.phase ≡ Some d → d ≤ t → tick s t ≡ at_moment s d (at_deadline s.params s.night s.phase)
 unfolding tick tick_at
 each_timer_at_its_own_moment s t d e past = rw (e, le-leb d t past)
 
@@ -53,7 +53,7 @@ unfolding clock_move ticked
 clock_moves s t = rw append-nil at (tick_moves t s _ _ (tick_moves t _ _ _ (tick_moves t _ _ _ (rest (three_are_enough s t)))))
 
 -- its first due timer, then the others
-pub the_first_timer_first : (s : State) (t d : ℕ) → deadline s.phase ≡ At d → d ≤ t →
+pub the_first_timer_first : (s : State) (t d : ℕ) → deadline s.phase ≡ Some d → d ≤ t →
     ((clock_move s t).state ≡ (clock_move (fired s d) t).state) × ((clock_move s t).records ≡ written by_itself s (fired s d) ++ (clock_move (fired s d) t).records)
 the_first_timer_first s t d e past = moves_once (clock_moves s t) (fire d e past (clock_moves (fired s d) t))
 

@@ -1,5 +1,6 @@
 -- Parameters and headers are read as they are written: what is written is accepted and read back, and accepted parameters are written in
 -- no other way.
+use Rattle.std.specs.Prelude.{Ok}
 use Prim.Native.Nat.{ℕ, zero, suc, ◌+◌, ◌*◌, ◌/◌, ◌%◌, ◌≤◌, ◌<◌}
 use mathlib.Core.Bool.{Bool, true, false, cond}
 use mathlib.Core.List.{List, [], ◌∷◌, ◌++◌, append-nil}
@@ -16,7 +17,6 @@ use Rattle.rules.specs.declared.form.Scale.TheVariants.{Seconds, Tenths}
 use Rattle.rules.specs.declared.form.Form.{Form}
 use Rattle.rules.specs.declared.parameters.Params.{Params}
 use Rattle.rules.specs.declared.parameters.Scene.{Scene}
-use Rattle.base.specs.declared.refusal.Check.TheVariants.{Passed}
 use Rattle.rules.specs.Forms.{width, form_of, version, HasVersion}
 use Rattle.rules.specs.Layout.{modes_at, scenes_at, scene_place, flags_place, parameters_size}
 use Rattle.rules.specs.Parameters.{time_at, delay, bad_time, params_of, scene_at, scenes_of, greatest, number_above, bad_number, bad_flags, bad_octet, check_parameters}
@@ -156,10 +156,10 @@ flags_few f octets n good =
     good
 
 -- parameters that are accepted are the octets that 01 and 02 write for what they say, and no others
-pub accepted_as_written : (f : Form) (octets : List ℕ) → ((i : ℕ) → octet octets i < 256) → check_parameters f octets ≡ Passed → parameters_octets f (params_of f octets) (scenes_of f octets) ≡ octets
+pub accepted_as_written : (f : Form) (octets : List ℕ) → ((i : ℕ) → octet octets i < 256) → check_parameters f octets ≡ (Ok tt) → parameters_octets f (params_of f octets) (scenes_of f octets) ≡ octets
 unfolding greatest
 accepted_as_written f octets small passed =
-    let good = (lowest_bad_octet f octets Passed).0 passed in
+    let good = (lowest_bad_octet f octets (Ok tt)).0 passed in
     let mode : (m : ℕ) → m < 8 → octet octets (modes_at f + m) ≤ get_or greatest m 0 = mode_in_range f octets good in
     plain_as_written f octets small
     record {
@@ -343,9 +343,9 @@ module _ (p : Params) (k : List Scene) (fit : ParamsFit p) (g : ScenesFit k) (ei
   mode_good m within = mode_octet f written m within ∙ rw (behind_times f p k eight m) (modes_within p fit (scenes_octets k) m within)
 
   -- parameters and a table in range, written as 01 and 02 say, are accepted and read back as themselves
-  pub written_is_accepted : check_parameters f written ≡ Passed
+  pub written_is_accepted : check_parameters f written ≡ Ok tt
   written_is_accepted =
-      (lowest_bad_octet f written Passed).1
+      (lowest_bad_octet f written (Ok tt)).1
       record { whole = parameters_length f p k eight; good = every_octet_good f written time_good mode_good number_good flags_good }
 
   pub written_is_read_back : (params_of f written ≡ p) × (scenes_of f written ≡ k)

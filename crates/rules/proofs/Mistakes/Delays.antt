@@ -1,6 +1,7 @@
 -- "Newcomers let a repeated Off start the off delay again. A nervous operator then keeps the house lit by asking for dark."
 -- What an Off leaves is Dark, or Ending that is over within the off delay; only what stirs undoes that, and another Off finds nothing
 -- to change in it.
+use Rattle.std.specs.Prelude.{Some}
 use Prim.Native.Nat.{ℕ, ◌+◌, ◌≤◌}
 use mathlib.Core.Bool.{Bool, true, false}
 use mathlib.Core.Path.{◌≡◌, refl, sym, ap, subst, ◌∙◌}
@@ -11,7 +12,6 @@ use native.Mathlib.Omega.{arith}
 use borrow.Author.Tests.{ne_eqb}
 use Rattle.rules.specs.declared.parameters.Params.{Params}
 use Rattle.rules.specs.declared.parameters.Scene.{Scene}
-use Rattle.rules.specs.declared.parameters.Recalled.TheVariants.{Output}
 use Rattle.rules.specs.declared.phase.Phase.{Phase}
 use Rattle.rules.specs.declared.phase.Phase.TheVariants.{Dark, Lit, Starting, Timed, Warning, Ending}
 use Rattle.rules.specs.declared.input.Force.TheVariants.{Free, Off, On}
@@ -179,8 +179,8 @@ step_heard s i t m h calm =
 -- ---- an Off or scene-off
 
 -- On or Off asks for an output, or a scene that is recalled
-asking_case : (P : Input → Type 0) (s : State) (i : Input) (value : Bool) → asks_for s i ≡ Output value → P (SwitchOnOff value) →
-    ((number : ℕ) → recalled s.scenes number ≡ Output value → P (NumberedSceneControl false number)) → P i
+asking_case : (P : Input → Type 0) (s : State) (i : Input) (value : Bool) → asks_for s i ≡ Some value → P (SwitchOnOff value) →
+    ((number : ℕ) → recalled s.scenes number ≡ Some value → P (NumberedSceneControl false number)) → P i
 asking_case P s (SwitchOnOff on) value asks switched found = let same : on ≡ value = cc in rw same switched
 asking_case P s (TimedStartStop start) value asks switched found = no cc
 asking_case P s (NumberedSceneControl true number) value asks switched found = no cc
@@ -192,19 +192,19 @@ asking_case P s (Bus event) value asks switched found = no cc
 asking_case P s (Power event) value asks switched found = no cc
 
 -- which switches, On or Off
-pub asking_switches : (s : State) (i : Input) (value : Bool) → asks_for s i ≡ Output value → order s i ≡ switch s value
+pub asking_switches : (s : State) (i : Input) (value : Bool) → asks_for s i ≡ Some value → order s i ≡ switch s value
 unfolding order scene recall
 asking_switches s i value asks = asking_case (λ (i : Input). order s i ≡ switch s value) s i value asks refl (λ number found. rw found)
 
 -- and sets no value, so that it is not noted
-pub asking_is_not_noted : (s : State) (i : Input) (value : Bool) → asks_for s i ≡ Output value → barrier s i ≡ Notes → ⊥
+pub asking_is_not_noted : (s : State) (i : Input) (value : Bool) → asks_for s i ≡ Some value → barrier s i ≡ Notes → ⊥
 asking_is_not_noted s i value asks = asking_case (λ (i : Input). barrier s i ≡ Notes → ⊥) s i value asks (noted_where s (SwitchOnOff value)) (λ number found. noted_where s (NumberedSceneControl false number))
 
 -- where one is taken no lock and no force stands, and the link is up
 nothing_stands : (s : State) → Unstopped (power_down s.link) (bus_down s.link) s.lock (standing s.force) → (s.lock ≡ false) × (s.force ≡ Free) × (s.link ≡ Up)
 nothing_stands s c = (c.unlocked, (none_stands_exactly_when s.force).0 c.unforced, neither_down s.link c.powered c.connected)
 
-taken_finds_nothing : (s : State) (i : Input) (value : Bool) → asks_for s i ≡ Output value → barrier s i ≡ Open → (s.lock ≡ false) × (s.force ≡ Free) × (s.link ≡ Up)
+taken_finds_nothing : (s : State) (i : Input) (value : Bool) → asks_for s i ≡ Some value → barrier s i ≡ Open → (s.lock ≡ false) × (s.force ≡ Free) × (s.link ≡ Up)
 unfolding row_of rows
 taken_finds_nothing s i value asks =
     asking_case (λ (i : Input). barrier s i ≡ Open → (s.lock ≡ false) × (s.force ≡ Free) × (s.link ≡ Up)) s i value asks
@@ -215,13 +215,13 @@ off_heard : (s : State) → (s.lock ≡ false) × (s.force ≡ Free) × (s.link 
 unfolding switch
 off_heard s free = record { fades = off_within_its_delay s.params s.clock s.phase; unlocked = free.0; unforced = free.1; linked = free.2 }
 
-taken_is_heard : (s : State) (i : Input) (t : ℕ) → Taken (turn s t i) → asks_for (clock_move s t).state i ≡ Output false → Heard (t + s.params.offdelay) (step s i t).state
+taken_is_heard : (s : State) (i : Input) (t : ℕ) → Taken (turn s t i) → asks_for (clock_move s t).state i ≡ Some false → Heard (t + s.params.offdelay) (step s i t).state
 taken_is_heard s i t way off =
     let met : State = (clock_move s t).state in
     rw (taken_is_the_order s i t way ∙ asking_switches met i false off) (rw (move_clock s t, move_params s t) at (off_heard met (taken_finds_nothing met i false off way)))
 
 -- and a later one, taken or not, leaves what the clock move alone leaves
-asking_again_leaves_no_trace : (s : State) (i : Input) (m u : ℕ) → Heard m s → m ≤ u + s.params.offdelay → asks_for (clock_move s u).state i ≡ Output false → LeavesNoTrace s i u
+asking_again_leaves_no_trace : (s : State) (i : Input) (m u : ℕ) → Heard m s → m ≤ u + s.params.offdelay → asks_for (clock_move s u).state i ≡ Some false → LeavesNoTrace s i u
 unfolding switch
 asking_again_leaves_no_trace s i m u h later off =
     let met : State = (clock_move s u).state in

@@ -1,5 +1,6 @@
 -- 01, "Slips we have seen": "A repeated On or Off that starts its delay again." The On: an order that lights leaves light, or a wait,
 -- and without it the lamp is dark and waits at least as long. No input lets it catch up: each keeps that so, or makes the two alike.
+use Rattle.std.specs.Prelude.{Option, Some, None}
 use Prim.Native.Nat.{ℕ, ◌+◌, ◌≤◌, ◌<◌}
 use mathlib.Core.Bool.{Bool, true, false, cond, not, ◌&&◌, ◌||◌}
 use mathlib.Core.Path.{◌≡◌, refl, sym, ap, subst, ◌∙◌}
@@ -10,8 +11,6 @@ use lib.Dec.{eqb}
 use borrow.Author.Tests.{ne_eqb}
 use Rattle.rules.specs.declared.parameters.Params.{Params}
 use Rattle.rules.specs.declared.parameters.Scene.{Scene}
-use Rattle.rules.specs.declared.parameters.Recalled.{Recalled}
-use Rattle.rules.specs.declared.parameters.Recalled.TheVariants.{Nothing, Output}
 use Rattle.rules.specs.declared.phase.Phase.{Phase}
 use Rattle.rules.specs.declared.phase.Phase.TheVariants.{Dark, Lit, Starting, Timed, Warning, Ending}
 use Rattle.rules.specs.declared.input.Force.{Force}
@@ -50,7 +49,7 @@ waiting_is_kept : (p : Params) (night held : Bool) (t d : ℕ) (phase : Phase) �
 unfolding on
 waiting_is_kept p night held t d phase e = rw e refl
 
-repeated_on_leaves_no_trace : (s : State) (i : Input) (u d : ℕ) → (clock_move s u).state.phase ≡ Starting false d → asks_for (clock_move s u).state i ≡ Output true → LeavesNoTrace s i u
+repeated_on_leaves_no_trace : (s : State) (i : Input) (u d : ℕ) → (clock_move s u).state.phase ≡ Starting false d → asks_for (clock_move s u).state i ≡ Some true → LeavesNoTrace s i u
 unfolding switch
 repeated_on_leaves_no_trace s i u d e lit =
     let met : State = (clock_move s u).state in
@@ -198,10 +197,10 @@ module _ (unstopped : Bool) (d : ℕ) (s : State) (is-timed : Bool) (phase : Pha
             (timed_stop_behind unstopped s.params s.clock d phase (failed unstopped (λ so. unless so refl)) h
             ∙ sym (rw e (timed_stop_behind false s.params s.clock d (Starting true d) refl (omega arith, λ _ _. refl)))))
 
-    recall_follows : (found : Recalled) → Follows unstopped d (recall s found) (recall (with_phase s phase) found)
+    recall_follows : (found : Option Bool) → Follows unstopped d (recall s found) (recall (with_phase s phase) found)
     unfolding recall
-    recall_follows Nothing = stays
-    recall_follows (Output value) = switch_follows value
+    recall_follows None = stays
+    recall_follows (Some value) = switch_follows value
 
   -- both teach the same
   learn_follows : (number : ℕ) → Follows unstopped d (learn s number) (learn (with_phase s phase) number)
@@ -483,10 +482,10 @@ module _ (s : State) (d : ℕ) where
       }
   timed_found false e waits = no e
 
-  recall_found : (found : Recalled) → recalls_on found ≡ true → Waits d (recall s found).phase → Trails false d (recall s found) s
+  recall_found : (found : Option Bool) → recalls_on found ≡ true → Waits d (recall s found).phase → Trails false d (recall s found) s
   unfolding recall
-  recall_found Nothing e waits = no e
-  recall_found (Output value) e waits = switch_found value e waits
+  recall_found None e waits = no e
+  recall_found (Some value) e waits = switch_found value e waits
 
   order_found : (i : Input) → lights s i ≡ true → Waits d (order s i).phase → Trails (is_timed i) d (order s i) s
   unfolding order scene

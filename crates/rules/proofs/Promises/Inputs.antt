@@ -1,12 +1,11 @@
 -- Which inputs light, dim or have the mode On, in the words of the promises.
+use Rattle.std.specs.Prelude.{Option, Some, None, Bool}
 use mathlib.Core.Bool.{true, false}
 use mathlib.Core.Logic.{◌↔◌, ◌⊎◌, inl, inr, ⊎_elim}
 use mathlib.Core.Path.{◌≡◌, refl}
 use native.Mathlib.Omega.{arith}
 use borrow.Author.Tests.{eqb-true, eq-eqb}
 use Prim.Native.Nat.{ℕ, ◌≤◌}
-use Rattle.rules.specs.declared.parameters.Recalled.{Recalled}
-use Rattle.rules.specs.declared.parameters.Recalled.TheVariants.{Nothing, Output}
 use Rattle.rules.specs.declared.input.Event.{Event}
 use Rattle.rules.specs.declared.input.Event.TheVariants.{Failure, Return}
 use Rattle.rules.specs.declared.input.Input.{Input}
@@ -20,15 +19,15 @@ use Rattle.rules.specs.Promises.{recalls_on, recalls_off, lights, dims, mode_on,
 use Rattle.rules.specs.Facts.{Lights, Dims, BusOn}
 use Rattle.base.proofs.Tests.{no}
 
-recalls_on_lem : (r : Recalled) → recalls_on r ≡ true → r ≡ Output true
-recalls_on_lem Nothing h = no h
-recalls_on_lem (Output true) h = refl
-recalls_on_lem (Output false) h = no h
+recalls_on_lem : (r : Option Bool) → recalls_on r ≡ true → r ≡ Some true
+recalls_on_lem None h = no h
+recalls_on_lem (Some true) h = refl
+recalls_on_lem (Some false) h = no h
 
-recalls_off_lem : (r : Recalled) → recalls_off r ≡ true → r ≡ Output false
-recalls_off_lem Nothing h = no h
-recalls_off_lem (Output true) h = no h
-recalls_off_lem (Output false) h = refl
+recalls_off_lem : (r : Option Bool) → recalls_off r ≡ true → r ≡ Some false
+recalls_off_lem None h = no h
+recalls_off_lem (Some true) h = no h
+recalls_off_lem (Some false) h = refl
 
 -- ---- "On, timed start or scene-on"
 

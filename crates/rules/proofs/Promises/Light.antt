@@ -1,5 +1,6 @@
 -- "Nobody waits for ever", Light: an order that lights leaves light, or a wait that ends within the on delay, and no order but one
 -- that dims disturbs the wait.
+use Rattle.std.specs.Prelude.{Option, Some, None}
 use Prim.Native.Nat.{ℕ, ◌+◌, ◌≤◌, ◌<◌}
 use mathlib.Core.Bool.{Bool, true, false, not, ◌&&◌, ◌||◌}
 use mathlib.Core.Path.{◌≡◌, refl, sym, ap, subst, ◌∙◌}
@@ -8,11 +9,8 @@ use mathlib.Core.Logic.{◌⊎◌, inl, inr}
 use native.Mathlib.Omega.{arith}
 use Rattle.rules.specs.declared.parameters.Params.{Params}
 use Rattle.rules.specs.declared.parameters.Scene.{Scene}
-use Rattle.rules.specs.declared.parameters.Recalled.{Recalled}
-use Rattle.rules.specs.declared.parameters.Recalled.TheVariants.{Nothing, Output}
 use Rattle.rules.specs.declared.phase.Phase.{Phase}
 use Rattle.rules.specs.declared.phase.Phase.TheVariants.{Dark, Lit, Starting, Timed, Warning, Ending}
-use Rattle.rules.specs.declared.phase.Deadline.TheVariants.{At}
 use Rattle.rules.specs.declared.input.Input.{Input}
 use Rattle.rules.specs.declared.input.Input.TheVariants.{SwitchOnOff, TimedStartStop, NumberedSceneControl, SwitchOnOffForced, LockDevice, NightMode, Bus, Power}
 use Rattle.rules.specs.declared.state.State.{State}
@@ -86,8 +84,8 @@ step_waits s i t d early waits undimmed =
 
 -- it ends in light
 
-waits_until : (d : ℕ) (phase : Phase) → Waits d phase → deadline phase ≡ At d
-waits_until d (Starting timed e) h = ap At h
+waits_until : (d : ℕ) (phase : Phase) → Waits d phase → deadline phase ≡ Some d
+waits_until d (Starting timed e) h = ap Some h
 waits_until d _ h = elim h [ ]
 
 ends_in_light : (p : Params) (night : Bool) (d : ℕ) (phase : Phase) → 1 ≤ p.timedon → Waits d phase → LitAt d (at_deadline p night phase)
@@ -147,10 +145,10 @@ module _ (s : State) (some : 1 ≤ s.params.timedon) (over : Over (s.clock + lon
   timed_shines true e = timed_start_shines s.params some s.clock (s.night && not (held s)) s.phase over quiet
   timed_shines false e = no e
 
-  recall_shines : (found : Recalled) → recalls_on found ≡ true → Shines s.params s.clock (recall s found).phase
+  recall_shines : (found : Option Bool) → recalls_on found ≡ true → Shines s.params s.clock (recall s found).phase
   unfolding recall
-  recall_shines Nothing e = no e
-  recall_shines (Output value) e = switch_shines value e
+  recall_shines None e = no e
+  recall_shines (Some value) e = switch_shines value e
 
   order_shines : (i : Input) → lights s i ≡ true → Shines s.params s.clock (order s i).phase
   unfolding order scene
@@ -273,9 +271,9 @@ step_stays_lit s i t some lit undimmed =
     (step_phase_case (λ (x : Phase). output x ≡ true) s i t (λ way. made_stays_lit (λ dims. no (sym (undimmed way) ∙ dims)) lit (order_makes (clock_move s t).state i)) lit, nothing_due_after_a_step s i t some)
 
 -- an order that lights does not dim
-recalls_one_way : (found : Recalled) → recalls_on found ≡ true → recalls_off found ≡ false
-recalls_one_way Nothing e = no e
-recalls_one_way (Output value) e = rw e
+recalls_one_way : (found : Option Bool) → recalls_on found ≡ true → recalls_off found ≡ false
+recalls_one_way None e = no e
+recalls_one_way (Some value) e = rw e
 
 lights_dims_not : (s : State) (i : Input) → lights s i ≡ true → dims s i ≡ false
 lights_dims_not s (SwitchOnOff value) e = rw e

@@ -1,5 +1,6 @@
 -- No record is stamped before its time: an order sets no deadline before the clock, a timer none before its own, so whatever is
 -- played from a state on is stamped at its clock or later.
+use Rattle.std.specs.Prelude.{Option, Some, None}
 use Prim.Native.Nat.{ℕ, ◌+◌, ◌≤◌}
 use mathlib.Core.Bool.{Bool, ◌||◌}
 use mathlib.Core.Path.{◌≡◌, refl}
@@ -9,8 +10,6 @@ use lib.Dec.{eqb}
 use Rattle.rules.specs.declared.parameters.Params.{Params}
 use Rattle.rules.specs.declared.phase.Phase.{Phase}
 use Rattle.rules.specs.declared.phase.Phase.TheVariants.{Dark, Lit, Starting, Timed, Warning, Ending}
-use Rattle.rules.specs.declared.phase.Deadline.{Deadline}
-use Rattle.rules.specs.declared.phase.Deadline.TheVariants.{Never, At}
 use Rattle.rules.specs.declared.input.Input.{Input}
 use Rattle.rules.specs.declared.state.State.{State}
 use Rattle.rules.specs.declared.barrier.Barrier.{Barrier}
@@ -32,17 +31,17 @@ use Rattle.rules.proofs.Laws.Lists.{plays_to_next}
 
 -- ---- deadlines
 
-due_from_earlier : (t u : ℕ) (x : Deadline) → t ≤ u → DueFrom u x → DueFrom t x
-due_from_earlier t u Never earlier h = tt
-due_from_earlier t u (At d) earlier h = omega arith
+due_from_earlier : (t u : ℕ) (x : Option ℕ) → t ≤ u → DueFrom u x → DueFrom t x
+due_from_earlier t u None earlier h = tt
+due_from_earlier t u (Some d) earlier h = omega arith
 
-quiet_is_later : (t : ℕ) (x : Deadline) → Quiet t x → DueFrom (t + 1) x
-quiet_is_later t Never h = tt
-quiet_is_later t (At d) h = omega arith
+quiet_is_later : (t : ℕ) (x : Option ℕ) → Quiet t x → DueFrom (t + 1) x
+quiet_is_later t None h = tt
+quiet_is_later t (Some d) h = omega arith
 
-later_is_quiet : (t : ℕ) (x : Deadline) → DueFrom (t + 1) x → Quiet t x
-later_is_quiet t Never h = tt
-later_is_quiet t (At d) h = omega arith
+later_is_quiet : (t : ℕ) (x : Option ℕ) → DueFrom (t + 1) x → Quiet t x
+later_is_quiet t None h = tt
+later_is_quiet t (Some d) h = omega arith
 
 -- a phase whose timer is not due before t
 abbrev Ahead : ℕ → Phase → Type 0

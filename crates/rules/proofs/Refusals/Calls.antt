@@ -1,4 +1,5 @@
 -- The public calls: from a sound state they return a sound one, they refuse exactly when the table says, and a refusal changes nothing.
+use Rattle.std.specs.Prelude.{Option, Some, None, Ok, Err}
 use Prim.Native.Nat.{ℕ, ◌-◌}
 use mathlib.Core.Bool.{Bool, true, false, cond}
 use mathlib.Core.List.{List, [], ◌++◌}
@@ -7,19 +8,15 @@ use mathlib.Core.Path.{◌≡◌, refl}
 use lib.ListN.{length}
 use Rattle.rules.specs.declared.form.Form.{Form}
 use Rattle.rules.specs.declared.input.Input.{Input}
-use Rattle.rules.specs.declared.input.Decoded.{Decoded}
-use Rattle.rules.specs.declared.input.Decoded.TheVariants.{Meant, Wrong}
 use Rattle.rules.specs.declared.state.State.{State}
 use Rattle.base.specs.declared.refusal.Refusal.TheVariants.{BadInput, BadStamp, UnsoundState}
-use Rattle.base.specs.declared.refusal.Check.{Check}
-use Rattle.base.specs.declared.refusal.Check.TheVariants.{Passed, Refused}
 use Rattle.rules.specs.declared.call.Single.{Single}
 use Rattle.rules.specs.declared.call.Move.{Move}
 use Rattle.rules.specs.Inputs.{input_at}
 use Rattle.octets.specs.Groups.{stamp_at}
 use Rattle.rules.specs.Steps.{clock_move, step}
 use Rattle.rules.specs.Soundness.{sound}
-use Rattle.base.specs.Refusals.{code_of, place_of, stamp_in_range, check_call}
+use Rattle.base.specs.Refusals.{code_of, place_of, stamp_in_range, check_call, Check, refused_with}
 use Rattle.rules.specs.Layout.{form_alone}
 use Rattle.rules.specs.Parameters.{check_parameters, check_alone}
 use Rattle.rules.specs.Calls.{fresh_by, fresh_call, places, single_done, single_refused, single_meant, single_call, move_done, move_refused, move_call}
@@ -37,22 +34,22 @@ use Rattle.rules.proofs.Laws.Records.{a_move_writes_at_most_two, an_input_writes
 -- What a single input finds: the first of the table's rows 9, 6, 7 that fits, or an input that is played.
 pub data SingleFinds (s : State) (octets : List ℕ) : Single → Type 0 where
   not_sound : sound s ≡ false → SingleFinds s octets (single_refused s UnsoundState)
-  wrong : sound s ≡ true → input_at octets 0 ≡ Wrong → SingleFinds s octets (single_refused s BadInput)
-  untimely : (i : Input) → sound s ≡ true → input_at octets 0 ≡ Meant i → stamp_in_range s.clock (stamp_at octets 0) ≡ false → SingleFinds s octets (single_refused s BadStamp)
-  plays : (i : Input) → sound s ≡ true → input_at octets 0 ≡ Meant i → stamp_in_range s.clock (stamp_at octets 0) ≡ true → SingleFinds s octets (single_done (step s i (stamp_at octets 0)))
+  wrong : sound s ≡ true → input_at octets 0 ≡ None → SingleFinds s octets (single_refused s BadInput)
+  untimely : (i : Input) → sound s ≡ true → input_at octets 0 ≡ Some i → stamp_in_range s.clock (stamp_at octets 0) ≡ false → SingleFinds s octets (single_refused s BadStamp)
+  plays : (i : Input) → sound s ≡ true → input_at octets 0 ≡ Some i → stamp_in_range s.clock (stamp_at octets 0) ≡ true → SingleFinds s octets (single_done (step s i (stamp_at octets 0)))
 
 -- each test of the call decides one row
 pub single_finds : (s : State) (octets : List ℕ) → SingleFinds s octets (single_call s octets)
 unfolding single_call
 single_finds s octets = by (sound s) refl
   where
-    timely : (i : Input) (b : Bool) → sound s ≡ true → input_at octets 0 ≡ Meant i → stamp_in_range s.clock (stamp_at octets 0) ≡ b → SingleFinds s octets (cond b (single_done (step s i (stamp_at octets 0))) (single_refused s BadStamp))
+    timely : (i : Input) (b : Bool) → sound s ≡ true → input_at octets 0 ≡ Some i → stamp_in_range s.clock (stamp_at octets 0) ≡ b → SingleFinds s octets (cond b (single_done (step s i (stamp_at octets 0))) (single_refused s BadStamp))
     timely i true h m e = plays i h m e
     timely i false h m e = untimely i h m e
 
-    meant : (d : Decoded) → sound s ≡ true → input_at octets 0 ≡ d → SingleFinds s octets (single_meant s (stamp_at octets 0) d)
-    meant Wrong h m = unfold single_meant in wrong h m
-    meant (Meant i) h m = unfold single_meant in timely i (stamp_in_range s.clock (stamp_at octets 0)) h m refl
+    meant : (d : Option Input) → sound s ≡ true → input_at octets 0 ≡ d → SingleFinds s octets (single_meant s (stamp_at octets 0) d)
+    meant None h m = unfold single_meant in wrong h m
+    meant (Some i) h m = unfold single_meant in timely i (stamp_in_range s.clock (stamp_at octets 0)) h m refl
 
     by : (b : Bool) → sound s ≡ b → SingleFinds s octets (cond b (single_meant s (stamp_at octets 0) (input_at octets 0)) (single_refused s UnsoundState))
     by true h = meant (input_at octets 0) h refl
@@ -60,18 +57,18 @@ single_finds s octets = by (sound s) refl
 
 -- and the other way round: where no row fits, the input is played
 module _ (s : State) (octets : List ℕ) where
-  pub good_is_played : (i : Input) → sound s ≡ true → input_at octets 0 ≡ Meant i → stamp_in_range s.clock (stamp_at octets 0) ≡ true → single_call s octets ≡ single_done (step s i (stamp_at octets 0))
+  pub good_is_played : (i : Input) → sound s ≡ true → input_at octets 0 ≡ Some i → stamp_in_range s.clock (stamp_at octets 0) ≡ true → single_call s octets ≡ single_done (step s i (stamp_at octets 0))
   unfolding single_call single_meant
   good_is_played i h m e = rw (h, m, e)
 
 -- whether eight octets mean an input
-abbrev known : Decoded → Bool
-known (Meant i) = true
-known Wrong = false
+abbrev known : Option Input → Bool
+known (Some i) = true
+known None = false
 
-known_exactly_when : (d : Decoded) → (known d ≡ true) ↔ ((i : Input) × (d ≡ Meant i))
-known_exactly_when (Meant i) = (λ h. (i, refl), λ g. refl)
-known_exactly_when Wrong = (λ h. no h, λ g. not_meant g.1)
+known_exactly_when : (d : Option Input) → (known d ≡ true) ↔ ((i : Input) × (d ≡ Some i))
+known_exactly_when (Some i) = (λ h. (i, refl), λ g. refl)
+known_exactly_when None = (λ h. no h, λ g. not_meant g.1)
 
 -- its code and its place are those of its three tests
 module _ (s : State) (octets : List ℕ) where
@@ -188,14 +185,14 @@ unfolding fresh_call check_alone
 fresh_call_is_sound octets = by (check_alone octets) refl
   where
     by : (c : Check) → check_alone octets ≡ c → sound (fresh_by octets c).state ≡ true
-    by Passed h = unfold fresh_by in passed_is_sound (form_alone octets) octets (alone_row octets) h
-    by (Refused why place) h = unfold fresh_by in own_state_is_sound
+    by (Ok _) h = unfold fresh_by in passed_is_sound (form_alone octets) octets (alone_row octets) h
+    by (Err fault) h = unfold fresh_by in own_state_is_sound
 
 pub fresh_refused_exactly_when : (octets : List ℕ) → FreshCodes octets (fresh_call octets).code (fresh_call octets).place
 unfolding fresh_call fresh_by check_alone
 fresh_refused_exactly_when octets =
     let f : Form = form_alone octets in
-    codes_of_a_check {Given = λ why p. FoundWhen f octets (Refused why p)} (check_parameters f octets) (record { refused = λ why p. lowest_bad_octet f octets (Refused why p); passed = lowest_bad_octet f octets Passed })
+    codes_of_a_check {Given = λ why p. FoundWhen f octets (refused_with why p)} (check_parameters f octets) (record { refused = λ why p. lowest_bad_octet f octets (refused_with why p); passed = lowest_bad_octet f octets (Ok tt) })
 
 -- 02, [2]: "A state keeps its version .., and single inputs follow it": no call changes the parameters, and so the version, accepted or refused
 pub single_call_keeps_version : (s : State) (octets : List ℕ) → (single_call s octets).state.params ≡ s.params

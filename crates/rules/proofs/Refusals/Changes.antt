@@ -1,4 +1,5 @@
 -- A whole scene change: what reading its inputs finds decides what it plays, and what it is refused for.
+use Rattle.std.specs.Prelude.{Option, Some, None, Ok, Err}
 use Prim.Native.Nat.{ℕ, zero, suc, ◌+◌, ◌*◌, ◌/◌, ◌%◌, ◌<◌, ◌≤◌}
 use mathlib.Core.Bool.{Bool, true, false, cond, ◌&&◌}
 use mathlib.Core.List.{List, [], ◌∷◌}
@@ -13,15 +14,11 @@ use Rattle.octets.specs.BigEndian.{octet}
 use Rattle.octets.specs.Groups.{stamp_at}
 use Rattle.base.specs.declared.refusal.Refusal.{Refusal}
 use Rattle.base.specs.declared.refusal.Refusal.TheVariants.{BadInput, BadStamp, ShortBuffer, UnsoundState, WrongGroups}
-use Rattle.base.specs.declared.refusal.Check.{Check}
-use Rattle.base.specs.declared.refusal.Check.TheVariants.{Passed, Refused}
 use Rattle.base.specs.Time.{last_stamp}
-use Rattle.base.specs.Refusals.{number, code_of, place_of, stamp_in_range, if_not, or_else, Decides, Only}
+use Rattle.base.specs.Refusals.{number, code_of, place_of, stamp_in_range, if_not, or_else, Decides, Only, Check}
 use Rattle.base.proofs.Tests.{both}
 use Rattle.base.proofs.Codes.{some_number, codes_of_a_check, one_test_decides, then_decides}
 use Rattle.rules.specs.declared.input.Input.{Input}
-use Rattle.rules.specs.declared.input.Decoded.{Decoded}
-use Rattle.rules.specs.declared.input.Decoded.TheVariants.{Meant, Wrong}
 use Rattle.rules.specs.declared.state.State.{State}
 use Rattle.rules.specs.declared.call.Single.{Single}
 use Rattle.rules.specs.Layout.{input_place}
@@ -76,15 +73,15 @@ module _ (inputs : List ℕ) (i : ℕ) where
     abbrev t : ℕ
     t = stamp_at inputs (input_place i)
 
-    a_wrong_group : input_at inputs (input_place i) ≡ Wrong → single_call s (group_at inputs i) ≡ single_refused s BadInput
+    a_wrong_group : input_at inputs (input_place i) ≡ None → single_call s (group_at inputs i) ≡ single_refused s BadInput
     unfolding single_call single_meant
     a_wrong_group e = rw (safe, group_input, e)
 
-    an_untimely_group : (x : Input) → input_at inputs (input_place i) ≡ Meant x → stamp_in_range s.clock t ≡ false → single_call s (group_at inputs i) ≡ single_refused s BadStamp
+    an_untimely_group : (x : Input) → input_at inputs (input_place i) ≡ Some x → stamp_in_range s.clock t ≡ false → single_call s (group_at inputs i) ≡ single_refused s BadStamp
     unfolding single_call single_meant
     an_untimely_group x e late = rw (safe, group_input, e, group_stamp, late)
 
-    pub a_good_group : (x : Input) → input_at inputs (input_place i) ≡ Meant x → stamp_in_range s.clock t ≡ true → single_call s (group_at inputs i) ≡ single_done (step s x t)
+    pub a_good_group : (x : Input) → input_at inputs (input_place i) ≡ Some x → stamp_in_range s.clock t ≡ true → single_call s (group_at inputs i) ≡ single_done (step s x t)
     a_good_group x e timely = good_is_played s (group_at inputs i) x safe (group_input ∙ e) (rw group_stamp timely) ∙ rw group_stamp
 
 -- a refused one ends the change
@@ -123,14 +120,14 @@ in_range clock t e = e
 
 -- a good input is read before those after it
 read_more : (inputs : List ℕ) (m i clock : ℕ) (x : Input) (list : List Cue) → let u : ℕ = stamp_at inputs (input_place i) in
-    input_at inputs (input_place i) ≡ Meant x → stamp_in_range clock u ≡ true → read_inputs (cue_at inputs) inputs m (i + 1) u last_stamp ≡ cues list →
+    input_at inputs (input_place i) ≡ Some x → stamp_in_range clock u ≡ true → read_inputs (cue_at inputs) inputs m (i + 1) u last_stamp ≡ cues list →
     read_inputs (cue_at inputs) inputs (suc m) i clock last_stamp ≡ cues (cue u x ∷ list)
 unfolding read_inputs read_one cue_at
 read_more inputs m i clock x list means timely read = rw (means, in_range clock (stamp_at inputs (input_place i)) timely, read) refl
 
 -- an input that is played comes before what is said of the others
 one_more : (inputs : List ℕ) (i : ℕ) (s : State) (x : Input) → let u : ℕ = stamp_at inputs (input_place i) in let d : Stepped = step s x u in
-    input_at inputs (input_place i) ≡ Meant x → stamp_in_range s.clock u ≡ true → (r : Reading Cue) (others : State → Singles) → As inputs (i + 1) d.state r (others d.state) →
+    input_at inputs (input_place i) ≡ Some x → stamp_in_range s.clock u ≡ true → (r : Reading Cue) (others : State → Singles) → As inputs (i + 1) d.state r (others d.state) →
     As inputs i s (readings.before (cue u x) r) (then_others (stepped d) others)
 unfolding plays
 one_more inputs i s x means timely (cues list) others said = rw said refl
@@ -156,7 +153,7 @@ module _ (inputs : List ℕ) (left i : ℕ) (s : State) (safe : sound s ≡ true
   unfolding read_inputs plays
   refused why e = (0, [], omega arith, refl, rw e (refused_ends s why i others))
 
-  timed : Next → (x : Input) (b : Bool) → input_at inputs (input_place i) ≡ Meant x → stamp_in_range s.clock stamp ≡ b →
+  timed : Next → (x : Input) (b : Bool) → input_at inputs (input_place i) ≡ Some x → stamp_in_range s.clock stamp ≡ b →
       As inputs i s (cond b (readings.before (cue stamp x) later) (bad BadStamp i)) (goes_on (single_call s (group_at inputs i)) i others)
   timed next x false m e = refused BadStamp (an_untimely_group inputs i s safe x m e)
   timed next x true m e =
@@ -165,10 +162,10 @@ module _ (inputs : List ℕ) (left i : ℕ) (s : State) (safe : sound s ≡ true
       let rest = rw (step_clock s x stamp) at (next (step s x stamp).state safely) in
       rw (a_good_group inputs i s safe x m e, done_goes_on s x stamp i others) (one_more inputs i s x m e later others rest)
 
-  known : Next → (d : Decoded) → input_at inputs (input_place i) ≡ d → As inputs i s (read_one (stamped stamp d) stamp s.clock last_stamp i later) (goes_on (single_call s (group_at inputs i)) i others)
+  known : Next → (d : Option Input) → input_at inputs (input_place i) ≡ d → As inputs i s (read_one (stamped stamp d) stamp s.clock last_stamp i later) (goes_on (single_call s (group_at inputs i)) i others)
   unfolding read_one stamp_in_range
-  known next Wrong m = refused BadInput (a_wrong_group inputs i s safe m)
-  known next (Meant x) m = timed next x (stamp_in_range s.clock stamp) m refl
+  known next None m = refused BadInput (a_wrong_group inputs i s safe m)
+  known next (Some x) m = timed next x (stamp_in_range s.clock stamp) m refl
 
   one_as_read : Next → As inputs i s (read_inputs (cue_at inputs) inputs (suc left) i s.clock last_stamp) (singles i (groups (suc left) (drop (input_place i) inputs)) s)
   unfolding read_inputs cue_at singles
@@ -240,7 +237,7 @@ module _ (s : State) (inputs records answers : List ℕ) where
   room_decides = one_test_decides (RoomFor n records answers) (lent_for n records answers) ShortBuffer 0 (room_exactly_when n records answers)
 
   -- inputs are looked at exactly where none of the three is given
-  pub looked_at_exactly_when : (check_change s inputs records answers ≡ Passed) ↔ ((sound s ≡ true) × (GoodGroups inputs × RoomFor n records answers))
+  pub looked_at_exactly_when : (check_change s inputs records answers ≡ Ok tt) ↔ ((sound s ≡ true) × (GoodGroups inputs × RoomFor n records answers))
   unfolding check_change check_lent
   looked_at_exactly_when = (then_decides _ _ safe_decides (then_decides _ _ groups_decide room_decides)).passed
 
@@ -251,9 +248,9 @@ module _ (s : State) (inputs records answers : List ℕ) where
       by : (c : Check) (r : Reading Cue) → check_change s inputs records answers ≡ c → change_read s inputs (group_count inputs) ≡ r →
           let w : Whole = change_by c s inputs records answers in
           (w.report.code ≡ code_of (or_else c (verdict r))) × (w.report.place ≡ place_of (or_else c (verdict r)))
-      by (Refused why place) r h e = unfold change_by in (refl, refl)
-      by Passed (cues list) h e = unfold change_by changed in rw (all_are_played s inputs (looked_at_exactly_when.0 h).0 list e) (refl, refl)
-      by Passed (bad why place) h e = unfold change_by changed in rw (played_up_to s inputs (looked_at_exactly_when.0 h).0 why place e).2 (refl, refl)
+      by (Err fault) r h e = unfold change_by in (refl, refl)
+      by (Ok _) (cues list) h e = unfold change_by changed in rw (all_are_played s inputs (looked_at_exactly_when.0 h).0 list e) (refl, refl)
+      by (Ok _) (bad why place) h e = unfold change_by changed in rw (played_up_to s inputs (looked_at_exactly_when.0 h).0 why place e).2 (refl, refl)
 
   -- "Given exactly when", of a change
   pub change_refused_exactly_when : ChangeCodes s inputs records answers (change_call s inputs records answers).report.code (change_call s inputs records answers).report.place
@@ -264,6 +261,6 @@ module _ (s : State) (inputs records answers : List ℕ) where
       rw (e.0, e.1) (codes_of_a_check met (rw (in_turn _ _ _ _) (then_decides _ _ safe_decides (then_decides _ _ groups_decide (then_decides _ _ room_decides each)))))
     where
       in_turn : (a b c d : Check) → or_else (or_else a (or_else b c)) d ≡ or_else a (or_else b (or_else c d))
-      in_turn (Refused why place) b c d = refl
-      in_turn Passed (Refused why place) c d = refl
-      in_turn Passed Passed c d = refl
+      in_turn (Err fault) b c d = refl
+      in_turn (Ok _) (Err fault) c d = refl
+      in_turn (Ok _) (Ok _) c d = refl

@@ -1,25 +1,21 @@
 -- What a cue file is refused for, exactly; and what an accepted one says.
+use Rattle.std.specs.Prelude.{Option, Some, None, Ok, Err, slice_get}
 use Prim.Native.Nat.{ℕ, suc, ◌+◌, ◌*◌, ◌≤◌, ◌<◌}
 use mathlib.Core.Bool.{Bool, true, false, cond, ◌&&◌}
 use mathlib.Core.List.{List}
 use mathlib.Core.Logic.{◌↔◌, inl, inr, ⊎_elim}
-use mathlib.Core.Option.{some}
 use mathlib.Core.Path.{◌≡◌, refl, sym, ◌∙◌, ap}
 use native.Mathlib.Omega.{arith}
-use lib.ListN.{length, drop, get_elem?, length-take, length-drop}
+use lib.ListN.{length, drop, length-take, length-drop}
 use lib.Seq.{get_or-take, get_or-drop}
 use Rattle.octets.specs.BigEndian.{octet}
 use lib.Dec.{eqb, leb}
 use borrow.Author.Tests.{leb-true, leb-false, eqb-true, eqb-false, le-leb, lt-leb, eq-eqb, ne_eqb}
 use Rattle.rules.specs.declared.input.Input.{Input}
-use Rattle.rules.specs.declared.input.Decoded.{Decoded}
-use Rattle.rules.specs.declared.input.Decoded.TheVariants.{Meant, Wrong}
 use Rattle.base.specs.declared.refusal.Refusal.{Refusal}
 use Rattle.base.specs.declared.refusal.Refusal.TheVariants.{WrongLength, WrongVersion, WrongActuators, WrongLayout, BadParameter}
-use Rattle.base.specs.declared.refusal.Check.{Check}
-use Rattle.base.specs.declared.refusal.Check.TheVariants.{Passed, Refused}
 use Rattle.base.specs.Time.{last_stamp}
-use Rattle.base.specs.Refusals.{Decides}
+use Rattle.base.specs.Refusals.{Decides, Check, refused_with}
 use Rattle.rules.specs.Inputs.{input_at}
 use Rattle.octets.specs.Groups.{stamp_at}
 use Rattle.rules.specs.Lists.{Cue, cue}
@@ -28,7 +24,7 @@ use Rattle.rules.specs.Layout.{parameters_size, form_alone, inputs_at, input_pla
 use Rattle.rules.specs.Readings.{cues, bad, verdict, found, read_inputs}
 use Rattle.rules.specs.Forms.{is_version, version, form_in, HasVersion}
 use Rattle.rules.specs.Files.{actuators, parameters_offset, input_count, inputs_offset, end_time, parameters_in, layout_right, check_rest, check_start, inputs_in, stamped, cue_at, cues_read, read_file}
-use Rattle.rules.specs.Refusals.{LongEnough, FoundWhen, GoodLayout, GoodHeader, GoodStart, StartWhen, GivenWhen, GoodFile}
+use Rattle.rules.specs.Refusals.{LongEnough, FoundBy, FoundWhen, GoodLayout, GoodHeader, GoodStart, StartWhen, GivenWhen, GoodFile}
 use Rattle.base.proofs.Tests.{no, both, cond_case, either_way}
 use Rattle.base.proofs.Codes.{then_decides}
 use Rattle.rules.proofs.Refusals.Readings.{verdict_after, bad_read, good_read, FirstOf, first_of, inputs_decide, list_is_the_inputs}
@@ -74,7 +70,7 @@ layout_false file other = by (layout_right file) refl
 
 -- each test of the header decides one row
 module _ (file : List ℕ) where
-  pub short_file : length file < 52 → check_start file ≡ Refused WrongLength 0
+  pub short_file : length file < 52 → check_start file ≡ refused_with WrongLength 0
   unfolding check_start
   short_file short = simp (lt-leb 52 (length file) short)
 
@@ -85,33 +81,33 @@ module _ (file : List ℕ) where
       by true e = absurd (other ((has_version (version file)).0 e))
       by false e = refl
 
-  pub other_version : 52 ≤ length file → (HasVersion (version file) → ⊥) → check_start file ≡ Refused WrongVersion 0
+  pub other_version : 52 ≤ length file → (HasVersion (version file) → ⊥) → check_start file ≡ refused_with WrongVersion 0
   unfolding check_start
   other_version least other = simp (le-leb 52 (length file) least, no_version other)
 
   -- a file of either version that is shorter than its own parameters
-  pub short_of_version : HasVersion (version file) → length file < inputs_at (form_in file) → check_start file ≡ Refused WrongLength 0
+  pub short_of_version : HasVersion (version file) → length file < inputs_at (form_in file) → check_start file ≡ refused_with WrongLength 0
   unfolding check_start check_rest
   short_of_version known short =
-      either_way (λ (c : Check). c ≡ Refused WrongLength 0) (leb 52 (length file)) _ (Refused WrongLength 0)
+      either_way (λ (c : Check). c ≡ refused_with WrongLength 0) (leb 52 (length file)) _ (refused_with WrongLength 0)
       (simp ((has_version (version file)).1 known, lt-leb (inputs_at (form_in file)) (length file) short))
       refl
 
   -- from there on
-  past_length : LongEnough file → check_start file ≡ cond (eqb (actuators file) 1) (cond (layout_right file) (check_parameters (form_in file) (parameters_in file)) (Refused WrongLayout 0)) (Refused WrongActuators 0)
+  past_length : LongEnough file → check_start file ≡ cond (eqb (actuators file) 1) (cond (layout_right file) (check_parameters (form_in file) (parameters_in file)) (refused_with WrongLayout 0)) (refused_with WrongActuators 0)
   unfolding check_start check_rest
   past_length e = simp (le-leb 52 (length file) e.least, (has_version (version file)).1 e.version, le-leb (inputs_at (form_in file)) (length file) e.long)
 
-  pub other_actuators : LongEnough file → (actuators file ≡ 1 → ⊥) → check_start file ≡ Refused WrongActuators 0
+  pub other_actuators : LongEnough file → (actuators file ≡ 1 → ⊥) → check_start file ≡ refused_with WrongActuators 0
   other_actuators enough other = past_length enough ∙ simp (ne_eqb (actuators file) 1 other)
 
-  pub other_layout : LongEnough file → actuators file ≡ 1 → layout_right file ≡ false → check_start file ≡ Refused WrongLayout 0
+  pub other_layout : LongEnough file → actuators file ≡ 1 → layout_right file ≡ false → check_start file ≡ refused_with WrongLayout 0
   other_layout enough single other = past_length enough ∙ simp (eq-eqb (actuators file) 1 single, other)
 
   pub good_header : GoodHeader file → check_start file ≡ check_parameters (form_in file) (parameters_in file)
   good_header h = past_length h.enough ∙ simp (eq-eqb (actuators file) 1 h.actuators, layout_good file h.layout)
 
-  pub good_start_passes : GoodStart file → check_start file ≡ Passed
+  pub good_start_passes : GoodStart file → check_start file ≡ Ok tt
   good_start_passes s = good_header s.header ∙ s.passed
 
   pub good_start : GoodStart file → read_file file ≡ cues_read file
@@ -122,7 +118,7 @@ module _ (file : List ℕ) where
   pub file_passes : GoodStart file → verdict (read_file file) ≡ verdict (cues_read file)
   file_passes s = ap verdict (good_start s)
 
-  pub file_stops : (why : Refusal) (place : ℕ) → check_start file ≡ Refused why place → verdict (read_file file) ≡ Refused why place
+  pub file_stops : (why : Refusal) (place : ℕ) → check_start file ≡ refused_with why place → verdict (read_file file) ≡ refused_with why place
   unfolding read_file
   file_stops why place e = rw e
 
@@ -144,34 +140,34 @@ inputs_whole file layout = length-drop (inputs_at (form_in file)) file ∙ omega
 
 -- what its check says about a file
 abbrev Begins : List ℕ → Check → Type 0
-Begins file Passed = GoodStart file
-Begins file (Refused why place) = StartWhen file why place
+Begins file (Ok _) = GoodStart file
+Begins file (Err fault) = StartWhen file fault.why fault.place
 
 -- the tests of the header in their order, then the parameters
 begins : (file : List ℕ) → Begins file (check_start file)
 unfolding check_start check_rest
 begins file =
-    cond_case (Begins file) (leb 52 (length file)) _ (Refused WrongLength 0)
-    (λ least. cond_case (Begins file) (is_version (version file)) _ (Refused WrongVersion 0)
-    (λ known. cond_case (Begins file) (leb (inputs_at (form_in file)) (length file)) _ (Refused WrongLength 0)
+    cond_case (Begins file) (leb 52 (length file)) _ (refused_with WrongLength 0)
+    (λ least. cond_case (Begins file) (is_version (version file)) _ (refused_with WrongVersion 0)
+    (λ known. cond_case (Begins file) (leb (inputs_at (form_in file)) (length file)) _ (refused_with WrongLength 0)
     (λ long. from (record { least = leb-true _ _ least; version = (has_version (version file)).0 known; long = leb-true _ _ long }))
     (λ short. (refl, inr ((has_version (version file)).0 known, leb-false _ _ short))))
     (λ other. (refl, leb-true _ _ least, λ known. no (sym other ∙ (has_version (version file)).1 known))))
     (λ short. (refl, inl (leb-false _ _ short)))
   where
     by : GoodHeader file → (c : Check) → check_parameters (form_in file) (parameters_in file) ≡ c → Begins file c
-    by header Passed e = record { header = header; passed = e }
-    by header (Refused why place) e = refused why ((lowest_bad_octet (form_in file) (parameters_in file) (Refused why place)).0 e)
+    by header (Ok _) e = record { header = header; passed = e }
+    by header (Err fault) e = refused fault.why ((lowest_bad_octet (form_in file) (parameters_in file) (Err fault)).0 e)
       where
-        refused : (why : Refusal) → FoundWhen (form_in file) (parameters_in file) (Refused why place) → StartWhen file why place
+        refused : (why : Refusal) → FoundBy (form_in file) (parameters_in file) why fault.place → StartWhen file why fault.place
         refused WrongLength g = absurd (g.1 (parameters_whole file header.enough.long))
         refused BadParameter g = (header, g)
         refused _ g = elim g [ ]
 
-    from : LongEnough file → Begins file (cond (eqb (actuators file) 1) (cond (layout_right file) (check_parameters (form_in file) (parameters_in file)) (Refused WrongLayout 0)) (Refused WrongActuators 0))
+    from : LongEnough file → Begins file (cond (eqb (actuators file) 1) (cond (layout_right file) (check_parameters (form_in file) (parameters_in file)) (refused_with WrongLayout 0)) (refused_with WrongActuators 0))
     from enough =
-        cond_case (Begins file) (eqb (actuators file) 1) _ (Refused WrongActuators 0)
-        (λ single. cond_case (Begins file) (layout_right file) _ (Refused WrongLayout 0)
+        cond_case (Begins file) (eqb (actuators file) 1) _ (refused_with WrongActuators 0)
+        (λ single. cond_case (Begins file) (layout_right file) _ (refused_with WrongLayout 0)
         (λ right. by (record { enough = enough; actuators = eqb-true _ _ single; layout = layout_true file right }) (check_parameters (form_in file) (parameters_in file)) refl)
         (λ other. (refl, enough, eqb-true _ _ single, λ good. no (sym other ∙ layout_good file good))))
         (λ other. (refl, enough, eqb-false _ _ other))
@@ -183,12 +179,12 @@ start_decides file =
       passed = (λ e. rw e at (begins file), good_start_passes file);
     }
   where
-    by : (why : Refusal) (p : ℕ) → StartWhen file why p → check_start file ≡ Refused why p
+    by : (why : Refusal) (p : ℕ) → StartWhen file why p → check_start file ≡ refused_with why p
     by WrongLength p g = ⊎_elim (short_file file) (λ own. short_of_version file own.0 own.1) g.1 ∙ rw g.0
     by WrongVersion p g = other_version file g.1 g.2 ∙ rw g.0
     by WrongActuators p g = other_actuators file g.1 g.2 ∙ rw g.0
     by WrongLayout p g = other_layout file g.1 g.2 (layout_false file g.3) ∙ rw g.0
-    by BadParameter p g = good_header file g.0 ∙ (lowest_bad_octet (form_in file) (parameters_in file) (Refused BadParameter p)).1 g.1
+    by BadParameter p g = good_header file g.0 ∙ (lowest_bad_octet (form_in file) (parameters_in file) (refused_with BadParameter p)).1 g.1
     by _ p g = elim g [ ]
 
 -- ---- the whole file
@@ -218,21 +214,21 @@ pub accepted_exactly_when : (file : List ℕ) → ((list : List Cue) × (read_fi
 accepted_exactly_when file = (λ r. good_file file r.0 r.1, λ g. let e = (file_decides file).passed.1 g in (found (read_file file), good_read (read_file file) e))
 
 -- the cues are the inputs of the file, as many and in their order, each with its own stamp
-pub cues_are_the_octets : (file : List ℕ) (list : List Cue) → read_file file ≡ cues list → (length list ≡ input_count file) × ((j : ℕ) → j < input_count file → get_elem? list j ≡ cue_at (inputs_in file) j)
+pub cues_are_the_octets : (file : List ℕ) (list : List Cue) → read_file file ≡ cues list → (length list ≡ input_count file) × ((j : ℕ) → j < input_count file → slice_get list j ≡ cue_at (inputs_in file) j)
 cues_are_the_octets file list e = list_is_the_inputs (cue_at (inputs_in file)) (inputs_in file) (input_count file) 0 (end_time file) list (sym (good_start file (good_file file list e).start) ∙ e)
 
 -- what a cue of a list is made of
-cue_said : (inputs : List ℕ) (i : ℕ) (c : Cue) → cue_at inputs i ≡ some c → (x : Input) × (input_at inputs (input_place i) ≡ Meant x) × (c ≡ cue (stamp_at inputs (input_place i)) x)
+cue_said : (inputs : List ℕ) (i : ℕ) (c : Cue) → cue_at inputs i ≡ Some c → (x : Input) × (input_at inputs (input_place i) ≡ Some x) × (c ≡ cue (stamp_at inputs (input_place i)) x)
 unfolding cue_at
 cue_said inputs i c e = by (input_at inputs (input_place i)) refl e
   where
-    by : (d : Decoded) → input_at inputs (input_place i) ≡ d → stamped (stamp_at inputs (input_place i)) d ≡ some c → (x : Input) × (input_at inputs (input_place i) ≡ Meant x) × (c ≡ cue (stamp_at inputs (input_place i)) x)
-    by (Meant x) m e = (x, m, cc)
-    by Wrong m e = absurd (let z : ◌≡◌ {A = ℕ} 0 1 = cc in omega arith)
+    by : (d : Option Input) → input_at inputs (input_place i) ≡ d → stamped (stamp_at inputs (input_place i)) d ≡ Some c → (x : Input) × (input_at inputs (input_place i) ≡ Some x) × (c ≡ cue (stamp_at inputs (input_place i)) x)
+    by (Some x) m e = (x, m, cc)
+    by None m e = absurd (let z : ◌≡◌ {A = ℕ} 0 1 = cc in omega arith)
 
 -- the first cue of a list that is read without fault
 pub first_cue_lem : (inputs : List ℕ) (left i last end : ℕ) (list : List Cue) → read_inputs (cue_at inputs) inputs (suc left) i last end ≡ cues list →
-    FirstOf (cue_at inputs) (λ x. input_at inputs (input_place i) ≡ Meant x) (λ x. cue (stamp_at inputs (input_place i)) x) inputs left i last end list
+    FirstOf (cue_at inputs) (λ x. input_at inputs (input_place i) ≡ Some x) (λ x. cue (stamp_at inputs (input_place i)) x) inputs left i last end list
 first_cue_lem inputs left i last end list e = first_of (cue_at inputs) _ _ inputs left i last end list (cue_said inputs i) e
 
 -- "offset of parameters (20)": they are the octets from there on

@@ -1,23 +1,22 @@
 -- A list of inputs, whatever they may say: read without fault from its first on, or refused for the first that is at fault.
+use Rattle.std.specs.Prelude.{Ok, Err, Option, Some, None, slice_get}
 use Prim.Native.Nat.{ℕ, zero, suc, ◌+◌, ◌≤◌, ◌<◌}
 use mathlib.Core.Bool.{Bool, true, false, cond, ◌&&◌, and-false}
 use mathlib.Core.List.{List, [], ◌∷◌}
 use mathlib.Core.Logic.{◌⊎◌, inl, inr}
-use mathlib.Core.Option.{Option, some, none}
 use mathlib.Core.Path.{◌≡◌, refl, sym, ap, ◌∙◌}
 use native.Mathlib.Nat.{eq-or-lt_of_le}
 use native.Mathlib.Numerals.{add-one}
 use native.Mathlib.Omega.{arith}
-use lib.ListN.{length, get_elem?}
+use lib.ListN.{length}
 use lib.Dec.{leb}
 use borrow.Author.Count.{below_none, below_more}
 use borrow.Author.Tests.{leb-true, leb-false, le-leb, lt-leb}
 use Rattle.octets.specs.Groups.{stamp_at}
 use Rattle.base.specs.declared.refusal.Refusal.{Refusal}
 use Rattle.base.specs.declared.refusal.Refusal.TheVariants.{BadInput, BadStamp, ShortBuffer}
-use Rattle.base.specs.declared.refusal.Check.{Check}
-use Rattle.base.specs.declared.refusal.Check.TheVariants.{Passed, Refused}
-use Rattle.base.specs.Refusals.{or_else, Decides}
+use Rattle.base.proofs.Codes.{same_row}
+use Rattle.base.specs.Refusals.{or_else, Decides, Check, refused_with}
 use Rattle.rules.specs.Layout.{input_place}
 use Rattle.rules.specs.Readings.{Reading, cues, bad, verdict, found, before, read_one, read_inputs, after_check, if_lent_enough}
 use Rattle.rules.specs.Refusals.{stamp_before, GoodInput, GoodInputs, InputsWhen}
@@ -25,22 +24,22 @@ use Rattle.base.proofs.Tests.{both, cond_case}
 
 -- what is wrong before the inputs, then what is wrong with them
 pub verdict_after : {A : Type 0} (c : Check) (r : Reading A) → verdict (after_check c r) ≡ or_else c (verdict r)
-verdict_after Passed r = refl
-verdict_after (Refused why place) r = refl
+verdict_after (Ok _) r = refl
+verdict_after (Err fault) r = refl
 
 -- "then 8"
-pub verdict_if_lent : {A : Type 0} (b : Bool) (r : Reading A) → verdict (if_lent_enough b r) ≡ or_else (verdict r) (cond b Passed (Refused ShortBuffer 0))
+pub verdict_if_lent : {A : Type 0} (b : Bool) (r : Reading A) → verdict (if_lent_enough b r) ≡ or_else (verdict r) (cond b (Ok tt) (refused_with ShortBuffer 0))
 verdict_if_lent true (cues list) = refl
 verdict_if_lent true (bad why place) = refl
 verdict_if_lent false (cues list) = refl
 verdict_if_lent false (bad why place) = refl
 
 -- a verdict tells the reading, but for its list
-pub bad_read : {A : Type 0} (r : Reading A) (why : Refusal) (place : ℕ) → verdict r ≡ Refused why place → r ≡ bad why place
+pub bad_read : {A : Type 0} (r : Reading A) (why : Refusal) (place : ℕ) → verdict r ≡ refused_with why place → r ≡ bad why place
 bad_read (cues list) why place e = absurd (let z : ◌≡◌ {A = ℕ} 0 1 = cc in omega arith)
-bad_read (bad reason at) why place e = let w : reason ≡ why = cc in let p : at ≡ place = cc in rw (w, p) refl
+bad_read (bad reason at) why place e = let same = same_row reason why at place e in rw (same.0, same.1) refl
 
-pub good_read : {A : Type 0} (r : Reading A) → verdict r ≡ Passed → r ≡ cues (found r)
+pub good_read : {A : Type 0} (r : Reading A) → verdict r ≡ (Ok tt) → r ≡ cues (found r)
 good_read (cues list) e = refl
 good_read (bad reason at) e = absurd (let z : ◌≡◌ {A = ℕ} 0 1 = cc in omega arith)
 
@@ -76,7 +75,7 @@ pub record FirstOf {A B : Type 0} (at : ℕ → Option A) (Means : B → Type 0)
   pub reads : read_inputs at inputs left (i + 1) (stamp_at inputs (input_place i)) end ≡ cues later
 
 abbrev First : {A : Type 0} → (ℕ → Option A) → List ℕ → ℕ → ℕ → ℕ → ℕ → List A → Type 0
-First at inputs left i last end list = FirstOf at (λ x. at i ≡ some x) (λ x. x) inputs left i last end list
+First at inputs left i last end list = FirstOf at (λ x. at i ≡ Some x) (λ x. x) inputs left i last end list
 
 first_read : {A : Type 0} (at : ℕ → Option A) (inputs : List ℕ) (left i last end : ℕ) (list : List A) → read_inputs at inputs (suc left) i last end ≡ cues list → First at inputs left i last end list
 unfolding read_inputs
@@ -85,7 +84,7 @@ first_read {A} at inputs left i last end list e = by (at i) refl e
     later : Reading A
     later = read_inputs at inputs left (i + 1) (stamp_at inputs (input_place i)) end
 
-    timed : (x : A) (b : Bool) → at i ≡ some x → (leb last (stamp_at inputs (input_place i)) && leb (stamp_at inputs (input_place i)) end) ≡ b
+    timed : (x : A) (b : Bool) → at i ≡ Some x → (leb last (stamp_at inputs (input_place i)) && leb (stamp_at inputs (input_place i)) end) ≡ b
         → cond b (before x later) (bad BadStamp i) ≡ cues list → First at inputs left i last end list
     timed x true m t r =
         let order = both (leb last (stamp_at inputs (input_place i))) (leb (stamp_at inputs (input_place i)) end) t in
@@ -102,11 +101,11 @@ first_read {A} at inputs left i last end list e = by (at i) refl e
     timed x false m t r = absurd (let z : ◌≡◌ {A = ℕ} 0 1 = cc in omega arith)
 
     by : (d : Option A) → at i ≡ d → read_one d (stamp_at inputs (input_place i)) last end i later ≡ cues list → First at inputs left i last end list
-    by none m r = absurd (let z : ◌≡◌ {A = ℕ} 0 1 = unfold read_one in cc in omega arith)
-    by (some x) m r = unfold read_one in timed x _ m refl r
+    by None m r = absurd (let z : ◌≡◌ {A = ℕ} 0 1 = unfold read_one in cc in omega arith)
+    by (Some x) m r = unfold read_one in timed x _ m refl r
 
 -- what stands there may be told by what it is made of
-pub first_of : {A B : Type 0} (at : ℕ → Option A) (Means : B → Type 0) (made : B → A) (inputs : List ℕ) (left i last end : ℕ) (list : List A) → ((x : A) → at i ≡ some x → (b : B) × Means b × (x ≡ made b)) →
+pub first_of : {A B : Type 0} (at : ℕ → Option A) (Means : B → Type 0) (made : B → A) (inputs : List ℕ) (left i last end : ℕ) (list : List A) → ((x : A) → at i ≡ Some x → (b : B) × Means b × (x ≡ made b)) →
     read_inputs at inputs (suc left) i last end ≡ cues list → FirstOf at Means made inputs left i last end list
 first_of {A} at Means made inputs left i last end list said e =
     let f = first_read at inputs left i last end list e in
@@ -143,8 +142,8 @@ module _ {A : Type 0} (at : ℕ → Option A) (inputs : List ℕ) (n from to : �
   one_said i within good later next = by (at i) refl
     where
       by : (d : Option A) → at i ≡ d → Said (read_one d (stamp_at inputs (input_place i)) (stamp_before inputs from i) to i later)
-      by none e = unfold read_one in record { within = within; wrong = e; good = good }
-      by (some x) e =
+      by None e = unfold read_one in record { within = within; wrong = e; good = good }
+      by (Some x) e =
           unfold read_one in
           cond_case Said (leb (stamp_before inputs from i) (stamp_at inputs (input_place i)) && leb (stamp_at inputs (input_place i)) to)
           (before x later) (bad BadStamp i)
@@ -189,13 +188,13 @@ module _ {A : Type 0} (at : ℕ → Option A) (inputs : List ℕ) (n from to : �
   -- these many of a list, from index i on
   record SaysFrom (i left : ℕ) (list : List A) : Type 0 where
     count : length list ≡ left
-    each : (k : ℕ) → k < left → get_elem? list k ≡ at (i + k)
+    each : (k : ℕ) → k < left → slice_get list k ≡ at (i + k)
 
   -- one input more, at the head
   says_more : (i left : ℕ) (list : List A) (g : GoodInput at inputs from to i) → SaysFrom (i + 1) left list → SaysFrom i (suc left) (g.input ∷ list)
   says_more i left list g s = record { count = ap suc s.count; each = by }
     where
-      by : (k : ℕ) → k < suc left → get_elem? (g.input ∷ list) k ≡ at (i + k)
+      by : (k : ℕ) → k < suc left → slice_get (g.input ∷ list) k ≡ at (i + k)
       by zero within = let e : i + 0 ≡ i = omega arith in rw e (sym g.means)
       by (suc k) within = let e : i + suc k ≡ i + 1 + k = omega arith in rw e (s.each k (omega arith))
 
@@ -224,7 +223,7 @@ module _ {A : Type 0} (at : ℕ → Option A) (inputs : List ℕ) (n from to : �
       }
 
   -- the list is what the inputs say, as many and in their order
-  pub list_is_the_inputs : (list : List A) → all ≡ cues list → (length list ≡ n) × ((j : ℕ) → j < n → get_elem? list j ≡ at j)
+  pub list_is_the_inputs : (list : List A) → all ≡ cues list → (length list ≡ n) × ((j : ℕ) → j < n → slice_get list j ≡ at j)
   list_is_the_inputs list e =
       let good : GoodInputs at inputs n from to = rw e at said in
       let r = all_read good n 0 (omega arith) in

@@ -1,9 +1,9 @@
 -- The run over a cue file: what it finds, what it writes, and how much.
+use Rattle.std.specs.Prelude.{Option}
 use Prim.Native.Nat.{ℕ, ◌+◌, ◌*◌, ◌≤◌, ◌<◌}
 use mathlib.Core.Bool.{Bool, true, false}
 use mathlib.Core.List.{List, [], ◌∷◌, ◌++◌, append_assoc}
 use mathlib.Core.Logic.{◌↔◌, inl, inr}
-use mathlib.Core.Option.{Option}
 use mathlib.Core.Path.{◌≡◌, refl, ◌∙◌}
 use native.Mathlib.Omega.{arith}
 use lib.ListN.{length, drop, length-append}
@@ -14,10 +14,9 @@ use Rattle.rules.specs.declared.record.Record.{Record}
 use Rattle.rules.specs.declared.call.Ran.{Ran}
 use Rattle.base.specs.declared.refusal.Refusal.{Refusal}
 use Rattle.base.specs.declared.refusal.Refusal.TheVariants.{WrongLength, WrongVersion, WrongActuators, WrongLayout, BadParameter, BadInput, BadStamp, ShortBuffer}
-use Rattle.base.specs.declared.refusal.Check.{Check}
 use Rattle.rules.specs.Steps.{fresh, step}
 use Rattle.rules.specs.Lists.{Cue, cue, plays, plays_to, play_list}
-use Rattle.base.specs.Refusals.{code_of, place_of}
+use Rattle.base.specs.Refusals.{code_of, place_of, Check}
 use Rattle.rules.specs.Calls.{own_state}
 use Rattle.rules.specs.Readings.{Reading, cues, bad, verdict, if_lent_enough}
 use Rattle.rules.specs.Forms.{form_in}

@@ -11,22 +11,22 @@ fate_of-f-requires c = rw c.kind_of.ensures (kind_range c.args.i)
 pub take-d-requires : goal.take-d-requires
 unfolding barrier
 take-d-requires c =
-    (rw c.lamp_of-l.ensures c.requires, rw (← c.kind_of.ensures) (sym c.fate_of-f.ensures ∙ c.in-Counts.is))
+    (rw c.lamp_of-l.ensures c.requires, rw (← c.kind_of.ensures) (sym c.fate_of-f.ensures ∙ c.in-Ok.is))
 
 pub scenes_after-requires : goal.scenes_after-requires
 unfolding barrier
-scenes_after-requires c = (c.in-Counts.noted, rw (← c.kind_of.ensures) (sym c.fate_of-f.ensures ∙ c.in-Counts.is))
+scenes_after-requires c = (c.in-Ok.noted, rw (← c.kind_of.ensures) (sym c.fate_of-f.ensures ∙ c.in-Ok.is))
 
-pub returns-in-Dropped : goal.returns-in-Dropped
+pub returns-in-Err : goal.returns-in-Err
 unfolding barrier dropped_by
-returns-in-Dropped c =
+returns-in-Err c =
     let a = c.args in
-    let drops = rw (c.kind_of.ensures, c.lamp_of-l.ensures) at (sym c.fate_of-f.ensures ∙ c.in-Dropped.is) in
+    let drops = rw (c.kind_of.ensures, c.lamp_of-l.ensures) at (sym c.fate_of-f.ensures ∙ c.in-Err.is) in
     let left = dropped_leaves a.s a.i _ drops in
     acting_by_parts a.s a.i (dropped_by a.s _) _ left.0 left.1
 
-pub returns-in-Counts : goal.returns-in-Counts
-returns-in-Counts c =
+pub returns-in-Ok : goal.returns-in-Ok
+returns-in-Ok c =
     let a = c.args in
     let l = c.lamp_of-l.ensures in
     rw c.state_of.ensures

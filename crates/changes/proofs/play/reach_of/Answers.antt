@@ -1,10 +1,10 @@
 use Rattle.changes.specs.Reaches.{reach_of}
 use Rattle.changes.proofs.play.reach_of.Goals as goal
 
-pub returns-in-Passed : goal.returns-in-Passed
+pub returns-in-Ok : goal.returns-in-Ok
 unfolding reach_of
-returns-in-Passed c = rw c.in-Passed.is
+returns-in-Ok c = rw c.in-Ok.is
 
-pub returns-in-Refused : goal.returns-in-Refused
+pub returns-in-Err : goal.returns-in-Err
 unfolding reach_of
-returns-in-Refused c = rw (c.number_of.ensures, c.in-Refused.is)
+returns-in-Err c = rw (c.number_of.ensures, c.in-Err.is)

@@ -15,13 +15,13 @@ pub play_image-requires : goal.play_image-requires
 play_image-requires c = (
   sym c.is_image_of.ensures ∙ c.if-is_image_of.true,
   c.state_in-s.ensures,
-  sym c.check_lent-met.ensures ∙ c.in-Passed.is,
+  sym c.check_lent-met.ensures ∙ c.in-Ok.is,
 )
 
-pub returns-in-Refused : goal.returns-in-Refused
-returns-in-Refused c =
-    rw c.refused-in-Refused.ensures
-    (change_lent_badly _ _ _ _ (sym c.is_image_of.ensures ∙ c.if-is_image_of.true) _ _ (sym c.check_lent-met.ensures ∙ c.in-Refused.is))
+pub returns-in-Err : goal.returns-in-Err
+returns-in-Err c =
+    rw c.refused-in-Err.ensures
+    (change_lent_badly _ _ _ _ (sym c.is_image_of.ensures ∙ c.if-is_image_of.true) _ _ (sym c.check_lent-met.ensures ∙ c.in-Err.is))
 
 pub returns-else-is_image_of : goal.returns-else-is_image_of
 returns-else-is_image_of c = rw c.refused-else-is_image_of.ensures (change_no_image _ _ _ _ (sym c.is_image_of.ensures ∙ c.if-is_image_of.false))

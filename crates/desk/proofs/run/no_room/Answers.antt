@@ -2,10 +2,10 @@ use mathlib.Core.Path.{sym, ◌∙◌}
 use Rattle.desk.specs.Answers.{short_number}
 use Rattle.desk.proofs.run.no_room.Goals as goal
 
-pub returns-in-Refused : goal.returns-in-Refused
+pub returns-in-Err : goal.returns-in-Err
 unfolding short_number
-returns-in-Refused c = rw (c.refused.ensures, sym c.check_file-checked.ensures ∙ c.in-Refused.is)
+returns-in-Err c = rw (c.refused.ensures, sym c.check_file-checked.ensures ∙ c.in-Err.is)
 
-pub returns-in-Passed : goal.returns-in-Passed
+pub returns-in-Ok : goal.returns-in-Ok
 unfolding short_number
-returns-in-Passed c = rw (c.refused-in-Passed.ensures, sym c.check_file-checked.ensures ∙ c.in-Passed.is)
+returns-in-Ok c = rw (c.refused-in-Ok.ensures, sym c.check_file-checked.ensures ∙ c.in-Ok.is)

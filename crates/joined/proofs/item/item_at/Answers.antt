@@ -2,10 +2,10 @@ use mathlib.Core.Path.{sym, ◌∙◌}
 use Rattle.pairs.specs.Items.{item_at}
 use Rattle.joined.proofs.item.item_at.Goals as goal
 
-pub returns-in-Meant : goal.returns-in-Meant
+pub returns-in-Some : goal.returns-in-Some
 unfolding item_at
-returns-in-Meant c = simp (sym c.input_at-meant.ensures ∙ c.in-Meant.is)
+returns-in-Some c = simp (sym c.input_at-meant.ensures ∙ c.in-Some.is)
 
-pub returns-in-Wrong : goal.returns-in-Wrong
+pub returns-in-None : goal.returns-in-None
 unfolding item_at
-returns-in-Wrong c = simp (c.edge_in.ensures, c.signal_at.ensures, sym c.input_at-meant.ensures ∙ c.in-Wrong.is)
+returns-in-None c = simp (c.edge_in.ensures, c.signal_at.ensures, sym c.input_at-meant.ensures ∙ c.in-None.is)

@@ -8,13 +8,13 @@ stamped-requires c =
     let a = c.args in
     sound_actuator a.s a.z (sym c.is_sound_pair.ensures ∙ c.if-is_sound_pair.true)
 
-pub returns-in-Known : goal.returns-in-Known
+pub returns-in-Some : goal.returns-in-Some
 unfolding joint_call joint_meant
-returns-in-Known c = record { whole = simp (c.stamped.ensures, sym c.item_at-meant.ensures ∙ c.in-Known.is, c.stamp_at-stamp.ensures, sym c.is_sound_pair.ensures ∙ c.if-is_sound_pair.true) }
+returns-in-Some c = record { whole = simp (c.stamped.ensures, sym c.item_at-meant.ensures ∙ c.in-Some.is, c.stamp_at-stamp.ensures, sym c.is_sound_pair.ensures ∙ c.if-is_sound_pair.true) }
 
-pub returns-in-Unknown : goal.returns-in-Unknown
+pub returns-in-None : goal.returns-in-None
 unfolding joint_call joint_meant
-returns-in-Unknown c = record { whole = simp (c.refused.ensures, sym c.item_at-meant.ensures ∙ c.in-Unknown.is, sym c.is_sound_pair.ensures ∙ c.if-is_sound_pair.true) }
+returns-in-None c = record { whole = simp (c.refused.ensures, sym c.item_at-meant.ensures ∙ c.in-None.is, sym c.is_sound_pair.ensures ∙ c.if-is_sound_pair.true) }
 
 pub returns-else-is_sound_pair : goal.returns-else-is_sound_pair
 unfolding joint_call

@@ -22,14 +22,14 @@ switched-requires c =
     let e = c.move_clock-m.ensures in
     (rw (e, move_params c.args.s c.args.t, move_clock c.args.s c.args.t) (moved_roomy c.args.s c.args.t c.requires.0 c.requires.1 c.requires.2), moved_few c.args.s c.args.t _ e)
 
-pub returns-in-Silent : goal.returns-in-Silent
-returns-in-Silent c =
+pub returns-in-None : goal.returns-in-None
+returns-in-None c =
     let a = c.args in
-    silent_step a.s a.t _ c.move_clock-m.ensures a.z _ c.hear_notes-heard.ensures a.signal _ c.react-r.ensures c.in-Silent.is
+    silent_step a.s a.t _ c.move_clock-m.ensures a.z _ c.hear_notes-heard.ensures a.signal _ c.react-r.ensures c.in-None.is
 
-pub returns-in-Switch : goal.returns-in-Switch
-returns-in-Switch c =
+pub returns-in-Some : goal.returns-in-Some
+returns-in-Some c =
     let a = c.args in
     let e = c.move_clock-m.ensures in
     c.switched.ensures (clock_move a.s a.t).records (moved_notes a.s a.t _ e) ∙
-    telling_step a.s a.t _ e a.z _ c.hear_notes-heard.ensures a.signal _ c.react-r.ensures _ c.in-Switch.is
+    telling_step a.s a.t _ e a.z _ c.hear_notes-heard.ensures a.signal _ c.react-r.ensures _ c.in-Some.is

@@ -5,24 +5,24 @@ use Rattle.live.proofs.ByValue.{passed_length}
 use Rattle.live.proofs.fresh.fresh_state.Goals as goal
 
 pub params_of-requires : goal.params_of-requires
-params_of-requires c = passed_length _ _ (sym c.check_parameters-check.ensures ∙ c.in-Passed.is)
+params_of-requires c = passed_length _ _ (sym c.check_parameters-check.ensures ∙ c.in-Ok.is)
 
 pub scenes_of-requires : goal.scenes_of-requires
-scenes_of-requires c = passed_length _ _ (sym c.check_parameters-check.ensures ∙ c.in-Passed.is)
+scenes_of-requires c = passed_length _ _ (sym c.check_parameters-check.ensures ∙ c.in-Ok.is)
 
-pub returns-in-Passed : goal.returns-in-Passed
+pub returns-in-Ok : goal.returns-in-Ok
 unfolding fresh_call fresh_by check_alone
-returns-in-Passed c = record {
+returns-in-Ok c = record {
   whole =
       let told = c.form_alone-form.ensures in
-      let passed = sym c.check_parameters-check.ensures ∙ c.in-Passed.is in
+      let passed = sym c.check_parameters-check.ensures ∙ c.in-Ok.is in
       simp (← told, c.fresh_with-s.ensures, c.scenes_of.ensures, c.params_of.ensures, passed);
 }
 
-pub returns-in-Refused : goal.returns-in-Refused
+pub returns-in-Err : goal.returns-in-Err
 unfolding fresh_call fresh_by check_alone
-returns-in-Refused c = record {
+returns-in-Err c = record {
   whole =
       let told = c.form_alone-form.ensures in
-      simp (← told, c.number_of.ensures, c.own_state-s.ensures, sym c.check_parameters-check.ensures ∙ c.in-Refused.is);
+      simp (← told, c.number_of.ensures, c.own_state-s.ensures, sym c.check_parameters-check.ensures ∙ c.in-Err.is);
 }

@@ -5,13 +5,13 @@ use Rattle.live.proofs.single.single_input.Goals as goal
 pub stamped-requires : goal.stamped-requires
 stamped-requires c = sym c.is_sound.ensures ∙ c.if-is_sound.true
 
-pub returns-in-Meant : goal.returns-in-Meant
+pub returns-in-Some : goal.returns-in-Some
 unfolding single_call single_meant
-returns-in-Meant c = record { whole = simp (c.stamped.ensures, sym c.input_at-meant.ensures ∙ c.in-Meant.is, c.stamp_at-stamp.ensures, sym c.is_sound.ensures ∙ c.if-is_sound.true) }
+returns-in-Some c = record { whole = simp (c.stamped.ensures, sym c.input_at-meant.ensures ∙ c.in-Some.is, c.stamp_at-stamp.ensures, sym c.is_sound.ensures ∙ c.if-is_sound.true) }
 
-pub returns-in-Wrong : goal.returns-in-Wrong
+pub returns-in-None : goal.returns-in-None
 unfolding single_call single_meant
-returns-in-Wrong c = record { whole = simp (c.refused.ensures, sym c.input_at-meant.ensures ∙ c.in-Wrong.is, sym c.is_sound.ensures ∙ c.if-is_sound.true) }
+returns-in-None c = record { whole = simp (c.refused.ensures, sym c.input_at-meant.ensures ∙ c.in-None.is, sym c.is_sound.ensures ∙ c.if-is_sound.true) }
 
 pub returns-else-is_sound : goal.returns-else-is_sound
 unfolding single_call single_meant

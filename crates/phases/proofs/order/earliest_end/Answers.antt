@@ -1,10 +1,10 @@
 use Rattle.rules.specs.Orders.{earliest_end}
 use Rattle.phases.proofs.order.earliest_end.Goals as goal
 
-pub returns-in-Never : goal.returns-in-Never
+pub returns-in-None : goal.returns-in-None
 unfolding earliest_end
-returns-in-Never c = simp c.in-Never.is
+returns-in-None c = simp c.in-None.is
 
-pub returns-in-At : goal.returns-in-At
+pub returns-in-Some : goal.returns-in-Some
 unfolding earliest_end
-returns-in-At c = simp (c.earlier_of.ensures, c.in-At.is)
+returns-in-Some c = simp (c.earlier_of.ensures, c.in-Some.is)

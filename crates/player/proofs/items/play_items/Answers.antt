@@ -1,10 +1,10 @@
+use Rattle.std.specs.Prelude.{Some}
 use Prim.Native.Nat.{ℕ, ◌≤◌}
 use mathlib.Core.List.{List}
 use mathlib.Core.Path.{◌≡◌, refl, sym, ◌∙◌}
 use native.Mathlib.Omega.{arith}
 use Rattle.octets.specs.Groups.{stamp_at, kind_at, value_at}
 use Rattle.rules.specs.declared.input.Input.{Input}
-use Rattle.rules.specs.declared.input.Decoded.TheVariants.{Meant}
 use Rattle.rules.specs.Inputs.{decoded}
 use Rattle.rules.specs.Barriers.{barrier}
 use Rattle.rules.specs.Layout.{input_place}
@@ -18,7 +18,6 @@ use Rattle.lamps.specs.declared.lamp.Lamp.{Lamp}
 use Rattle.lamps.specs.Lamps.{lamp_of, state_of}
 use Rattle.records.proofs.Written.{listed_few}
 use Rattle.pairs.specs.declared.item.Item.{Item}
-use Rattle.pairs.specs.declared.item.Read.TheVariants.{Known}
 use Rattle.pairs.specs.Items.{item_at}
 use Rattle.pairs.specs.Pairs.{pair_of}
 use Rattle.pairs.proofs.Soundness.{sound_pair_exactly_when}
@@ -28,7 +27,7 @@ use Rattle.turns.proofs.Turning.{turned}
 use Rattle.player.specs.Playing.{Ready}
 use Rattle.player.proofs.Turns.{going_first, next_item, going_rests, going_asks, going_acts, going_dropped, going_last}
 use Rattle.player.proofs.items.play_items.Goals as goal
-use Rattle.player.proofs.items.play_items.Goals.{After-lamp_of-l, After-turn_at-turn, In-Order}
+use Rattle.player.proofs.items.play_items.Goals.{After-lamp_of-l, After-turn_at-turn, In-Some}
 
 -- the pair that the items are played from is ready for them
 is_ready : (inputs : List ℕ) (n : ℕ) (start : State) (z : Sensor) (l : Lamp) → l ≡ lamp_of start → Ready inputs n (pair_of start z) → Ready inputs n (pair_of (state_of start.params start.scenes l) z)
@@ -39,12 +38,12 @@ ready_to c = is_ready _ _ _ _ _ c.lamp_of-l.ensures c.requires.0
 
 -- the item's turn, where one stands
 takes : (inputs records : List ℕ) (i at t count heard : ℕ) (z : Sensor) (turn : Turn) → at ≡ input_place i → t ≡ stamp_at inputs at → heard ≤ count →
-    ((j : Item) → item_at inputs at ≡ Known j → turn ≡ turn_of j (kind_at inputs at) (value_at inputs at) t records count z heard) →
-    (j : Item) → item_at inputs (input_place i) ≡ Known j → Turned j (stamp_at inputs (input_place i)) records count z heard turn
+    ((j : Item) → item_at inputs at ≡ Some j → turn ≡ turn_of j (kind_at inputs at) (value_at inputs at) t records count z heard) →
+    (j : Item) → item_at inputs (input_place i) ≡ Some j → Turned j (stamp_at inputs (input_place i)) records count z heard turn
 takes inputs records i at t count heard z turn place stamped behind turns j e = rw (turns j (rw place e), stamped, place) (turned _ _ _ _ _ _ _ behind j e)
 
 took : (c : After-turn_at-turn) → let loop = c.loop-i in let inputs = c.args.inputs.now in let m = c.advance-m in
-    (j : Item) → item_at inputs (input_place loop.i) ≡ Known j → Turned j (stamp_at inputs (input_place loop.i)) m.new.records m.result.count loop.z loop.heard c.turn_at-turn.result
+    (j : Item) → item_at inputs (input_place loop.i) ≡ Some j → Turned j (stamp_at inputs (input_place loop.i)) m.new.records m.result.count loop.z loop.heard c.turn_at-turn.result
 took c =
     let loop = c.loop-i in
     takes c.args.inputs.now _ loop.i _ _ _ loop.heard loop.z _ c.input_place-at.ensures c.stamp_at-t.ensures (omega (arith, loop.invariant.1, (c.advance-m.ensures loop.k).count)) c.turn_at-turn.ensures
@@ -56,7 +55,7 @@ behind_still c =
     (took c f.input f.meant).behind
 
 -- an item that asks for something asks for an input
-asked : (c : In-Order) → (x : Input) × (decoded c.in-Order.kind c.in-Order.value ≡ Meant x)
+asked : (c : In-Some) → (x : Input) × (decoded c.in-Some.kind c.in-Some.value ≡ Some x)
 asked c =
     let ready = is_ready _ _ _ _ _ c.lamp_of-l.ensures c.requires.0 in
     let loop = c.loop-i in
@@ -67,7 +66,7 @@ asked c =
     let moves = c.advance-m in
     let two = a_move_writes_at_most_two (state_of c.args.start.params loop.k loop.l) c.stamp_at-t.result in
     let turns = takes c.args.inputs.now _ loop.i _ _ _ loop.heard loop.z _ place c.stamp_at-t.ensures (omega (arith, loop.invariant.1, (moves.ensures loop.k).count)) c.turn_at-turn.ensures in
-    going_asks _ _ _ _ _ _ ready c.args.start.params loop.k loop.l loop.z loop.heard _ _ _ _ g loop.invariant.1 within (omega (arith, c.requires.2)) c.requires.3 (omega (arith, within, g.stands.few, g.stands.room, c.requires.2)) _ _ (rw stamp at moves.ensures) moves.auto.records (omega (arith, within, two, (moves.ensures loop.k).count, moves.auto.records, g.stands.few, g.stands.room, c.requires.2)) _ turns _ _ c.in-Order.is
+    going_asks _ _ _ _ _ _ ready c.args.start.params loop.k loop.l loop.z loop.heard _ _ _ _ g loop.invariant.1 within (omega (arith, c.requires.2)) c.requires.3 (omega (arith, within, g.stands.few, g.stands.room, c.requires.2)) _ _ (rw stamp at moves.ensures) moves.auto.records (omega (arith, within, two, (moves.ensures loop.k).count, moves.auto.records, g.stands.few, g.stands.room, c.requires.2)) _ turns _ _ c.in-Some.is
 
 pub loop-i-init : goal.loop-i-init
 loop-i-init c = (going_first _ _ _ _ _ _ (ready_to (goal.at.loop-i-init c).After-lamp_of-l), omega arith)
@@ -122,10 +121,10 @@ loop-i-preserved-in-Nothing c =
 
 -- what is asked for is an input, of one of the eight kinds
 pub fate_of-f-requires : goal.fate_of-f-requires
-fate_of-f-requires c = let x = asked (goal.at.fate_of-f-requires c).In-Order in rw (← meant_kind _ _ x.0 x.1) (kind_range x.0)
+fate_of-f-requires c = let x = asked (goal.at.fate_of-f-requires c).In-Some in rw (← meant_kind _ _ x.0 x.1) (kind_range x.0)
 
 pub known_input-x-requires : goal.known_input-x-requires
-known_input-x-requires c = rw (asked (goal.at.known_input-x-requires c).In-Order).1 refl
+known_input-x-requires c = rw (asked (goal.at.known_input-x-requires c).In-Some).1 refl
 
 pub take-d-requires : goal.take-d-requires
 unfolding barrier
@@ -136,7 +135,7 @@ take-d-requires c =
     let s = state_of a.start.params loop.k loop.l in
     let g = loop.invariant.0 in
     let f = next_item _ _ _ _ _ _ ready _ _ _ _ _ g c.loop-i-test.true in
-    let counts = rw (← meant_kind _ _ _ c.known_input-x.ensures) at (sym c.fate_of-f.ensures ∙ c.in-Counts.is) in
+    let counts = rw (← meant_kind _ _ _ c.known_input-x.ensures) at (sym c.fate_of-f.ensures ∙ c.in-Ok.is) in
     (rw ((c.advance-m.ensures loop.k).lamp, c.stamp_at-t.ensures, c.input_place-at.ensures, move_clock s _) (moved_roomy s _ ((sound_pair_exactly_when _).0 g.safe).actuator f.risen f.timely), counts)
 
 pub put_note-count-requires : goal.put_note-count-requires
@@ -152,25 +151,25 @@ put_note-count-requires c =
     let own = listed_few c.take-d.result.note in
     (omega (arith, within, two, (moves.ensures loop.k).count, g.stands.few, ready.few), omega (arith, within, two, own, (moves.ensures loop.k).count, moves.auto.records, g.stands.few, g.stands.room, c.requires.2))
 
-pub overflow_cast-answers-in-Counts : goal.overflow_cast-answers-in-Counts
-overflow_cast-answers-in-Counts c = omega (arith, c.loop-i-test.true, (ready_to (goal.at.overflow_cast-answers-in-Counts c).After-lamp_of-l).few)
+pub overflow_cast-answers-in-Ok : goal.overflow_cast-answers-in-Ok
+overflow_cast-answers-in-Ok c = omega (arith, c.loop-i-test.true, (ready_to (goal.at.overflow_cast-answers-in-Ok c).After-lamp_of-l).few)
 
-pub bounds-answers-i-in-Counts : goal.bounds-answers-i-in-Counts
-bounds-answers-i-in-Counts c = omega (arith, c.loop-i-test.true, c.loop-i.invariant.0.stands.places, c.requires.3)
+pub bounds-answers-i-in-Ok : goal.bounds-answers-i-in-Ok
+bounds-answers-i-in-Ok c = omega (arith, c.loop-i-test.true, c.loop-i.invariant.0.stands.places, c.requires.3)
 
 pub scenes_after-table-requires : goal.scenes_after-table-requires
 unfolding barrier
-scenes_after-table-requires c = (c.in-Counts.noted, rw (← meant_kind _ _ _ c.known_input-x.ensures) at (sym c.fate_of-f.ensures ∙ c.in-Counts.is))
+scenes_after-table-requires c = (c.in-Ok.noted, rw (← meant_kind _ _ _ c.known_input-x.ensures) at (sym c.fate_of-f.ensures ∙ c.in-Ok.is))
 
-pub overflow_add-i-in-Counts : goal.overflow_add-i-in-Counts
-overflow_add-i-in-Counts c = omega (arith, c.loop-i-test.true, (ready_to (goal.at.overflow_add-i-in-Counts c).After-lamp_of-l).few)
+pub overflow_add-i-in-Ok : goal.overflow_add-i-in-Ok
+overflow_add-i-in-Ok c = omega (arith, c.loop-i-test.true, (ready_to (goal.at.overflow_add-i-in-Ok c).After-lamp_of-l).few)
 
-pub loop-i-smaller-in-Counts : goal.loop-i-smaller-in-Counts
-loop-i-smaller-in-Counts c = omega (arith, c.loop-i-test.true)
+pub loop-i-smaller-in-Ok : goal.loop-i-smaller-in-Ok
+loop-i-smaller-in-Ok c = omega (arith, c.loop-i-test.true)
 
-pub loop-i-preserved-in-Counts : goal.loop-i-preserved-in-Counts
-loop-i-preserved-in-Counts c =
-    let ready = ready_to (goal.at.loop-i-preserved-in-Counts c).After-lamp_of-l in
+pub loop-i-preserved-in-Ok : goal.loop-i-preserved-in-Ok
+loop-i-preserved-in-Ok c =
+    let ready = ready_to (goal.at.loop-i-preserved-in-Ok c).After-lamp_of-l in
     let loop = c.loop-i in
     let g = loop.invariant.0 in
     let within = c.loop-i-test.true in
@@ -180,17 +179,17 @@ loop-i-preserved-in-Counts c =
     let two = a_move_writes_at_most_two (state_of c.args.start.params loop.k loop.l) c.stamp_at-t.result in
     let put = c.put_note-count in
     let means = c.known_input-x.ensures in
-    let goes = going_acts _ _ _ _ _ _ ready c.args.start.params loop.k loop.l loop.z loop.heard _ _ _ _ g loop.invariant.1 within (omega (arith, c.requires.2)) c.requires.3 (omega (arith, within, g.stands.few, g.stands.room, c.requires.2)) _ _ (rw stamp at moves.ensures) moves.auto.records (omega (arith, within, two, (moves.ensures loop.k).count, moves.auto.records, g.stands.few, g.stands.room, c.requires.2)) _ (took (goal.at.loop-i-preserved-in-Counts c).After-turn_at-turn) _ _ c.in-Order.is _ means _ c.take-d.ensures _ put.ensures.0 _ put.ensures.1 (put.auto.buf ∙ moves.auto.records) _ c.scenes_after-table.ensures in
-    (goes, omega (arith, behind_still (goal.at.loop-i-preserved-in-Counts c).After-turn_at-turn, put.ensures.0))
+    let goes = going_acts _ _ _ _ _ _ ready c.args.start.params loop.k loop.l loop.z loop.heard _ _ _ _ g loop.invariant.1 within (omega (arith, c.requires.2)) c.requires.3 (omega (arith, within, g.stands.few, g.stands.room, c.requires.2)) _ _ (rw stamp at moves.ensures) moves.auto.records (omega (arith, within, two, (moves.ensures loop.k).count, moves.auto.records, g.stands.few, g.stands.room, c.requires.2)) _ (took (goal.at.loop-i-preserved-in-Ok c).After-turn_at-turn) _ _ c.in-Some.is _ means _ c.take-d.ensures _ put.ensures.0 _ put.ensures.1 (put.auto.buf ∙ moves.auto.records) _ c.scenes_after-table.ensures in
+    (goes, omega (arith, behind_still (goal.at.loop-i-preserved-in-Ok c).After-turn_at-turn, put.ensures.0))
 
-pub overflow_cast-answers-in-Dropped : goal.overflow_cast-answers-in-Dropped
-overflow_cast-answers-in-Dropped c = omega (arith, c.loop-i-test.true, (ready_to (goal.at.overflow_cast-answers-in-Dropped c).After-lamp_of-l).few)
+pub overflow_cast-answers-in-Err : goal.overflow_cast-answers-in-Err
+overflow_cast-answers-in-Err c = omega (arith, c.loop-i-test.true, (ready_to (goal.at.overflow_cast-answers-in-Err c).After-lamp_of-l).few)
 
-pub bounds-answers-i-in-Dropped : goal.bounds-answers-i-in-Dropped
-bounds-answers-i-in-Dropped c = omega (arith, c.loop-i-test.true, c.loop-i.invariant.0.stands.places, c.requires.3)
+pub bounds-answers-i-in-Err : goal.bounds-answers-i-in-Err
+bounds-answers-i-in-Err c = omega (arith, c.loop-i-test.true, c.loop-i.invariant.0.stands.places, c.requires.3)
 
-pub overflow_add-i-in-Dropped : goal.overflow_add-i-in-Dropped
-overflow_add-i-in-Dropped c = omega (arith, c.loop-i-test.true, (ready_to (goal.at.overflow_add-i-in-Dropped c).After-lamp_of-l).few)
+pub overflow_add-i-in-Err : goal.overflow_add-i-in-Err
+overflow_add-i-in-Err c = omega (arith, c.loop-i-test.true, (ready_to (goal.at.overflow_add-i-in-Err c).After-lamp_of-l).few)
 
 pub loop-i-smaller : goal.loop-i-smaller
 loop-i-smaller c = omega (arith, c.loop-i-test.true)
@@ -206,9 +205,9 @@ loop-i-preserved c =
     let stamp = rw place at c.stamp_at-t.ensures in
     let moves = c.advance-m in
     let two = a_move_writes_at_most_two (state_of c.args.start.params loop.k loop.l) c.stamp_at-t.result in
-    let x = asked (goal.at.loop-i-preserved c).In-Order in
-    let drops = rw (← meant_kind _ _ _ x.1) at (sym c.fate_of-f.ensures ∙ c.in-Dropped.is) in
-    let goes = going_dropped _ _ _ _ _ _ ready c.args.start.params loop.k loop.l loop.z loop.heard _ _ _ _ g loop.invariant.1 within (omega (arith, c.requires.2)) c.requires.3 (omega (arith, within, g.stands.few, g.stands.room, c.requires.2)) _ _ (rw stamp at moves.ensures) moves.auto.records (omega (arith, within, two, (moves.ensures loop.k).count, moves.auto.records, g.stands.few, g.stands.room, c.requires.2)) _ (took (goal.at.loop-i-preserved c).After-turn_at-turn) _ _ c.in-Order.is x.0 x.1 c.in-Dropped.answer drops in
+    let x = asked (goal.at.loop-i-preserved c).In-Some in
+    let drops = rw (← meant_kind _ _ _ x.1) at (sym c.fate_of-f.ensures ∙ c.in-Err.is) in
+    let goes = going_dropped _ _ _ _ _ _ ready c.args.start.params loop.k loop.l loop.z loop.heard _ _ _ _ g loop.invariant.1 within (omega (arith, c.requires.2)) c.requires.3 (omega (arith, within, g.stands.few, g.stands.room, c.requires.2)) _ _ (rw stamp at moves.ensures) moves.auto.records (omega (arith, within, two, (moves.ensures loop.k).count, moves.auto.records, g.stands.few, g.stands.room, c.requires.2)) _ (took (goal.at.loop-i-preserved c).After-turn_at-turn) _ _ c.in-Some.is x.0 x.1 c.in-Err.answer drops in
     (goes, behind_still (goal.at.loop-i-preserved c).After-turn_at-turn)
 
 pub shape_of-records : goal.shape_of-records

@@ -1,10 +1,10 @@
 use Rattle.records.specs.Notes.{added}
 use Rattle.records.proofs.notes.add.Goals as goal
 
-pub returns-in-Silent : goal.returns-in-Silent
+pub returns-in-None : goal.returns-in-None
 unfolding added
-returns-in-Silent c = simp c.in-Silent.is
+returns-in-None c = simp c.in-None.is
 
-pub returns-in-Wrote : goal.returns-in-Wrote
+pub returns-in-Some : goal.returns-in-Some
 unfolding added
-returns-in-Wrote c = simp c.in-Wrote.is
+returns-in-Some c = simp c.in-Some.is

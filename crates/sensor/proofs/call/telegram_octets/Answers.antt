@@ -3,10 +3,10 @@ use Rattle.base.proofs.Tests.{stored}
 use Rattle.sensor.specs.Calls.{telegram_octets}
 use Rattle.sensor.proofs.call.telegram_octets.Goals as goal
 
-pub returns-in-Silent : goal.returns-in-Silent
+pub returns-in-None : goal.returns-in-None
 unfolding telegram_octets
-returns-in-Silent c = simp c.in-Silent.is
+returns-in-None c = simp c.in-None.is
 
-pub returns-in-Switch : goal.returns-in-Switch
+pub returns-in-Some : goal.returns-in-Some
 unfolding telegram_octets octets32
-returns-in-Switch c = simp (c.in-Switch.is, stored)
+returns-in-Some c = simp (c.in-Some.is, stored)

@@ -2,10 +2,10 @@ use Rattle.sensor.specs.Reactions.{press}
 use mathlib.Core.Path.{sym, ◌∙◌}
 use Rattle.sensor.proofs.react.press.Goals as goal
 
-pub returns-in-Silent : goal.returns-in-Silent
+pub returns-in-None : goal.returns-in-None
 unfolding press
-returns-in-Silent c = simp (c.hear.ensures, sym c.sent_by-telegram.ensures ∙ c.in-Silent.is)
+returns-in-None c = simp (c.hear.ensures, sym c.sent_by-telegram.ensures ∙ c.in-None.is)
 
-pub returns-in-Switch : goal.returns-in-Switch
+pub returns-in-Some : goal.returns-in-Some
 unfolding press
-returns-in-Switch c = simp (c.hear-in-Switch.ensures, sym c.sent_by-telegram.ensures ∙ c.in-Switch.is)
+returns-in-Some c = simp (c.hear-in-Some.ensures, sym c.sent_by-telegram.ensures ∙ c.in-Some.is)
