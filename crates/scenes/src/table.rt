@@ -12,11 +12,7 @@ pub fn recalls(k: [Scene; 8], number: u8) -> Option<bool>
     while i < 8 {
         let e = k[i];
         if e.number == number {
-            return if e.taught {
-                Some(e.value)
-            } else {
-                None
-            };
+            return if e.taught { Some(e.value) } else { None };
         }
         i += 1;
     }
