@@ -23,6 +23,7 @@ use records::notes::Notes;
 use rules::barrier::{Barrier, Why};
 use rules::input::Input;
 use rules::parameters::{Params, Scene};
+use rules::record::Record;
 use rules::state::State;
 use scenes::same::same_scenes;
 use states::same::{same_lamp, same_phase};

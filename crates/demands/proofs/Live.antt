@@ -13,7 +13,7 @@ use Rattle.base.specs.declared.refusal.Refusal.{Refusal}
 use Rattle.base.specs.declared.refusal.Refusal.TheVariants.{WrongLength, BadParameter, BadStamp, ShortBuffer, UnsoundState}
 use Rattle.base.specs.Refusals.{number, code_of, place_of, stamp_in_range, if_not, or_else, Only, Then, Decides, Codes, Timely, Check, refused_with}
 use Rattle.base.proofs.Tests.{no}
-use Rattle.base.proofs.Codes.{some_number, codes_of_a_check, one_test_decides, then_decides, timely_exactly_when}
+use Rattle.base.proofs.Codes.{some_number, codes_of_a_check, one_test_decides, then_decides, timely_exactly_when, same_row}
 use Rattle.rules.specs.Layout.{form_alone, input_place, record_place}
 use Rattle.rules.specs.Parameters.{scenes_of, check_alone}
 use Rattle.rules.specs.declared.state.State.{State}
@@ -349,7 +349,7 @@ first_row_holds : {Good Fine : Type 0} {Next : Refusal → ℕ → Type 0} (row 
 first_row_holds row not =
     codes_of_a_check (refused_with row 0)
     (record {
-      refused = λ why p. (λ e. inl (sym cc, sym cc, not), λ g. ⊎_elim (λ f. rw (f.0, f.1) refl) (λ n. absurd (not n.0)) g);
+      refused = λ why p. (λ e. let same = same_row row why 0 p e in inl (sym same.0, sym same.1, not), λ g. ⊎_elim (λ f. rw (f.0, f.1) refl) (λ n. absurd (not n.0)) g);
       passed = (λ e. absurd (let z : ◌≡◌ {A = ℕ} 0 1 = cc in omega arith), λ g. absurd (not g.0));
     })
 

@@ -9,4 +9,3 @@ pub enum Item {
     Button1(Edge),
     Button2(Edge),
 }
-

@@ -178,7 +178,7 @@ module _ (p : Params) (table : List Scene) (l : Lamp) (z : Sensor) (heard t befo
     records_rest = rw rests.records (moves table).records
 
   -- an input is asked for
-  module _ (kind value : ℕ) (orders : u.asked ≡ Order kind value) where
+  module _ (kind value : ℕ) (orders : u.asked ≡ Some (record { kind = kind; value = value })) where
     pub asked_for : (x : Input) × (given_of i (decides (pair_move met t).pair.sensor i t).telegram ≡ Some x) × (decoded kind value ≡ Some x)
     asked_for = rw (orders, heard_there) at took.asks
 
@@ -246,7 +246,7 @@ module _ (inputs : List ℕ) (n : ℕ) (start : Pair) (before : ℕ) (r₀ a₀ 
       m.count (count_rests p table l z heard t k r r₁ m moves behind room item u turned silent)
       r₁ (records_rest p table l z heard t k r r₁ m moves behind room item u turned silent) long
 
-  module _ (kind value : ℕ) (orders : u.asked ≡ Order kind value) where
+  module _ (kind value : ℕ) (orders : u.asked ≡ Some (record { kind = kind; value = value })) where
     -- what is asked for is an input
     pub going_asks : (x : Input) × (decoded kind value ≡ Some x)
     going_asks = let x = asked_for p table l z heard t k r r₁ m moves behind room item u turned kind value orders in (x.0, x.2)

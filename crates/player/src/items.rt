@@ -16,7 +16,7 @@ use rules::parameters::Params;
 use rules::state::State;
 use sensor::state::Sensor;
 use timers::clock::{is_due, run_timer};
-use turns::turn::{Order, turn_at};
+use turns::turn::turn_at;
 
 // Where playing has come to: the state, the sensor, which has heard the first so many records, and how many records stand in the buffer.
 #[derive(Clone, Copy)]
@@ -93,11 +93,11 @@ pub fn play_items(
                 l = moved;
                 i += 1;
             }
-            Some(Order { kind, value }) => {
-                let f = fate_of(moved, kind);
+            Some(order) => {
+                let f = fate_of(moved, order.kind);
                 match f {
                     Ok(noted) => {
-                        let x = known_input(kind, value);
+                        let x = known_input(order.kind, order.value);
                         let d = take(p, k, moved, x, noted);
                         let note = d.note;
                         count = put_note(records, m.count, note);

@@ -15,6 +15,7 @@ use records::notes;
 use records::notes::Notes;
 use rules::parameters::Params;
 use rules::phase::Phase;
+use rules::record::Record;
 use rules::state::State;
 
 // What one timer leaves: a phase, and the record of it.

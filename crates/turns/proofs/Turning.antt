@@ -65,7 +65,7 @@ module _ (file : List ℕ) (at : ℕ) where
     its i = turn_of i (kind_at file at) (value_at file at) t records count z heard
 
     -- a kind up to 8: the item is an input
-    pub an_input_asks_for_itself : kind_at file at ≤ 8 → (i : Item) → item_at file at ≡ Some i → record { asked = Order (kind_at file at) (value_at file at); sensor = z; heard = heard } ≡ its i
+    pub an_input_asks_for_itself : kind_at file at ≤ 8 → (i : Item) → item_at file at ≡ Some i → record { asked = Some (record { kind = kind_at file at; value = value_at file at }); sensor = z; heard = heard } ≡ its i
     unfolding turn_of
     an_input_asks_for_itself small (Plain x) e = refl
     an_input_asks_for_itself small (Button1 edge) e = absurd (omega (arith, edge_kind (signal.Button1 edge) ((button1_exactly_when file at edge).0 e)))

@@ -55,7 +55,7 @@ behind_still c =
     (took c f.input f.meant).behind
 
 -- an item that asks for something asks for an input
-asked : (c : In-Some) → (x : Input) × (decoded c.in-Some.kind c.in-Some.value ≡ Some x)
+asked : (c : In-Some) → (x : Input) × (decoded c.in-Some.order.kind c.in-Some.order.value ≡ Some x)
 asked c =
     let ready = is_ready _ _ _ _ _ c.lamp_of-l.ensures c.requires.0 in
     let loop = c.loop-i in
@@ -104,12 +104,12 @@ bounds-answers-i c = omega (arith, c.loop-i-test.true, c.loop-i.invariant.0.stan
 pub overflow_add-i : goal.overflow_add-i
 overflow_add-i c = omega (arith, c.loop-i-test.true, (ready_to (goal.at.overflow_add-i c).After-lamp_of-l).few)
 
-pub loop-i-smaller-in-Nothing : goal.loop-i-smaller-in-Nothing
-loop-i-smaller-in-Nothing c = omega (arith, c.loop-i-test.true)
+pub loop-i-smaller-in-None : goal.loop-i-smaller-in-None
+loop-i-smaller-in-None c = omega (arith, c.loop-i-test.true)
 
-pub loop-i-preserved-in-Nothing : goal.loop-i-preserved-in-Nothing
-loop-i-preserved-in-Nothing c =
-    let ready = ready_to (goal.at.loop-i-preserved-in-Nothing c).After-lamp_of-l in
+pub loop-i-preserved-in-None : goal.loop-i-preserved-in-None
+loop-i-preserved-in-None c =
+    let ready = ready_to (goal.at.loop-i-preserved-in-None c).After-lamp_of-l in
     let loop = c.loop-i in
     let g = loop.invariant.0 in
     let within = c.loop-i-test.true in
@@ -117,7 +117,7 @@ loop-i-preserved-in-Nothing c =
     let stamp = rw place at c.stamp_at-t.ensures in
     let moves = c.advance-m in
     let two = a_move_writes_at_most_two (state_of c.args.start.params loop.k loop.l) c.stamp_at-t.result in
-    (going_rests _ _ _ _ _ _ ready c.args.start.params loop.k loop.l loop.z loop.heard _ _ _ _ g loop.invariant.1 within (omega (arith, c.requires.2)) c.requires.3 (omega (arith, within, g.stands.few, g.stands.room, c.requires.2)) _ _ (rw stamp at moves.ensures) moves.auto.records (omega (arith, within, two, (moves.ensures loop.k).count, moves.auto.records, g.stands.few, g.stands.room, c.requires.2)) _ (took (goal.at.loop-i-preserved-in-Nothing c).After-turn_at-turn) c.in-Nothing.is, behind_still (goal.at.loop-i-preserved-in-Nothing c).After-turn_at-turn)
+    (going_rests _ _ _ _ _ _ ready c.args.start.params loop.k loop.l loop.z loop.heard _ _ _ _ g loop.invariant.1 within (omega (arith, c.requires.2)) c.requires.3 (omega (arith, within, g.stands.few, g.stands.room, c.requires.2)) _ _ (rw stamp at moves.ensures) moves.auto.records (omega (arith, within, two, (moves.ensures loop.k).count, moves.auto.records, g.stands.few, g.stands.room, c.requires.2)) _ (took (goal.at.loop-i-preserved-in-None c).After-turn_at-turn) c.in-None.is, behind_still (goal.at.loop-i-preserved-in-None c).After-turn_at-turn)
 
 -- what is asked for is an input, of one of the eight kinds
 pub fate_of-f-requires : goal.fate_of-f-requires
