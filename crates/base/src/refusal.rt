@@ -5,7 +5,7 @@ ghost use Rattle.base.specs.Refusals.{number};
 // The rows of the table of refusal numbers, in its order: nine of document 01, then those that its requests add.
 #[derive(Clone, Copy)]
 pub enum Refusal {
-    WrongLength,
+    WrongLength = 1,
     WrongVersion,
     WrongActuators,
     WrongLayout,
@@ -14,7 +14,7 @@ pub enum Refusal {
     BadStamp,
     ShortBuffer,
     UnsoundState,
-    BadAction,
+    BadAction = 11,
     WrongGroups,
 }
 
@@ -26,20 +26,16 @@ pub struct Refused {
 }
 
 // The number of a row.
+impl From<Refusal> for u8 {
+    ghost from_gives = { λ why n. n ≡ number why };
+
+    fn from(why: Refusal) -> u8 {
+        why as u8
+    }
+}
+
 pub fn number_of(why: Refusal) -> u8
     ensures { result ≡ number why }
 {
-    match why {
-        Refusal::WrongLength => 1,
-        Refusal::WrongVersion => 2,
-        Refusal::WrongActuators => 3,
-        Refusal::WrongLayout => 4,
-        Refusal::BadParameter => 5,
-        Refusal::BadInput => 6,
-        Refusal::BadStamp => 7,
-        Refusal::ShortBuffer => 8,
-        Refusal::UnsoundState => 9,
-        Refusal::BadAction => 11,
-        Refusal::WrongGroups => 12,
-    }
+    u8::from(why)
 }

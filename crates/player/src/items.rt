@@ -44,8 +44,7 @@ fn advance(records: &mut [u8], count: u32, p: Params, l: Lamp, t: u32) -> Moment
     let mut n = count;
     while is_due(ph, t) {
         let timer = run_timer(p, l, ph);
-        let note = timer.note;
-        n = put_note(records, n, note);
+        n = put_note(records, n, timer.note);
         ph = timer.phase;
     }
     Moment {
@@ -75,50 +74,36 @@ pub fn play_items(
     let mut z = first;
     let mut heard: u32 = 0;
     let mut count = before;
-    let mut i: u32 = 0;
-    while i < n {
+    for i in 0..n {
         let at = input_place(i);
         let t = stamp_at(inputs, at);
         let m = advance(records, count, p, l, t);
-        let moved = m.lamp;
         let turn = turn_at(inputs, at, t, records, m.count, z, heard);
-        let sensor = turn.sensor;
-        let asked = turn.asked;
-        match asked {
+        z = turn.sensor;
+        heard = turn.heard;
+        match turn.asked {
             None => {
+                l = m.lamp;
                 count = m.count;
                 answers[i as usize] = 1;
-                z = sensor;
-                heard = turn.heard;
-                l = moved;
-                i += 1;
             }
-            Some(order) => {
-                let f = fate_of(moved, order.kind);
-                match f {
-                    Ok(noted) => {
-                        let x = known_input(order.kind, order.value);
-                        let d = take(p, k, moved, x, noted);
-                        let note = d.note;
-                        count = put_note(records, m.count, note);
-                        answers[i as usize] = d.answer;
-                        let table = scenes_after(p, k, moved, x);
-                        k = table;
-                        z = sensor;
-                        heard = turn.heard;
-                        l = d.lamp;
-                        i += 1;
-                    }
-                    Err(answer) => {
-                        count = m.count;
-                        answers[i as usize] = answer;
-                        z = sensor;
-                        heard = turn.heard;
-                        l = moved;
-                        i += 1;
-                    }
+            Some(order) => match fate_of(m.lamp, order.kind) {
+                Err(answer) => {
+                    l = m.lamp;
+                    count = m.count;
+                    answers[i as usize] = answer;
                 }
-            }
+                Ok(noted) => {
+                    let x = known_input(order.kind, order.value);
+                    let d = take(p, k, m.lamp, x, noted);
+                    // Stays: a call's result is not written straight over an array that it was lent.
+                    let table = scenes_after(p, k, m.lamp, x);
+                    k = table;
+                    l = d.lamp;
+                    count = put_note(records, m.count, d.note);
+                    answers[i as usize] = d.answer;
+                }
+            },
         }
     }
     Reached {

@@ -1,12 +1,14 @@
 use Rattle.std.specs.Prelude.{Some}
-use Prim.Native.Nat.{ℕ, ◌≤◌}
+use Prim.Native.Nat.{ℕ, ◌*◌, ◌≤◌}
 use mathlib.Core.List.{List}
+use lib.ListN.{length}
 use mathlib.Core.Path.{◌≡◌, refl, sym, ◌∙◌}
 use native.Mathlib.Omega.{arith}
 use Rattle.octets.specs.Groups.{stamp_at, kind_at, value_at}
 use Rattle.rules.specs.declared.input.Input.{Input}
 use Rattle.rules.specs.Inputs.{decoded}
 use Rattle.rules.specs.Barriers.{barrier}
+use Rattle.rules.specs.Steps.{clock_move}
 use Rattle.rules.specs.Layout.{input_place}
 use Rattle.rules.proofs.Laws.Inputs.{kind_range, meant_kind}
 use Rattle.rules.proofs.Laws.Soundness.{move_clock}
@@ -24,10 +26,10 @@ use Rattle.pairs.proofs.Soundness.{sound_pair_exactly_when}
 use Rattle.turns.specs.declared.turn.Turn.{Turn}
 use Rattle.turns.specs.Turns.{listened, turn_of, Turned}
 use Rattle.turns.proofs.Turning.{turned}
-use Rattle.player.specs.Playing.{Ready}
+use Rattle.player.specs.Playing.{Ready, Advanced}
 use Rattle.player.proofs.Turns.{going_first, next_item, going_rests, going_asks, going_acts, going_dropped, going_last}
 use Rattle.player.proofs.items.play_items.Goals as goal
-use Rattle.player.proofs.items.play_items.Goals.{After-lamp_of-l, After-turn_at-turn, In-Some}
+use Rattle.player.proofs.items.play_items.Goals.{After-lamp_of-l, After-turn_at-turn, in-None, in-Some+in-Err, in-Some+in-Ok}
 
 -- the pair that the items are played from is ready for them
 is_ready : (inputs : List ℕ) (n : ℕ) (start : State) (z : Sensor) (l : Lamp) → l ≡ lamp_of start → Ready inputs n (pair_of start z) → Ready inputs n (pair_of (state_of start.params start.scenes l) z)
@@ -42,31 +44,40 @@ takes : (inputs records : List ℕ) (i at t count heard : ℕ) (z : Sensor) (tur
     (j : Item) → item_at inputs (input_place i) ≡ Some j → Turned j (stamp_at inputs (input_place i)) records count z heard turn
 takes inputs records i at t count heard z turn place stamped behind turns j e = rw (turns j (rw place e), stamped, place) (turned _ _ _ _ _ _ _ behind j e)
 
-took : (c : After-turn_at-turn) → let loop = c.loop-i in let inputs = c.args.inputs.now in let m = c.advance-m in
-    (j : Item) → item_at inputs (input_place loop.i) ≡ Some j → Turned j (stamp_at inputs (input_place loop.i)) m.new.records m.result.count loop.z loop.heard c.turn_at-turn.result
-took c =
-    let loop = c.loop-i in
-    takes c.args.inputs.now _ loop.i _ _ _ loop.heard loop.z _ c.input_place-at.ensures c.stamp_at-t.ensures (omega (arith, loop.invariant.1, (c.advance-m.ensures loop.k).count)) c.turn_at-turn.ensures
+-- what is known of every turn, and what each of its three outcomes comes to
+module _ (c : After-turn_at-turn) where
+  ready : let a = c.args in Ready a.inputs.now a.n (pair_of (state_of a.start.params a.start.scenes c.lamp_of-l.result) (listened a.records.now a.before a.first 0))
+  ready = is_ready _ _ _ _ _ c.lamp_of-l.ensures c.requires.0
 
--- the sensor has heard no more than there is
-behind_still : (c : After-turn_at-turn) → c.turn_at-turn.result.heard ≤ c.advance-m.result.count
-behind_still c =
-    let f = next_item _ _ _ _ _ _ (is_ready _ _ _ _ _ c.lamp_of-l.ensures c.requires.0) _ _ _ _ _ c.loop-i.invariant.0 c.loop-i-test.true in
-    (took c f.input f.meant).behind
+  took : let loop = c.loop-i in let inputs = c.args.inputs.now in let m = c.advance-m in
+      (j : Item) → item_at inputs (input_place loop.i) ≡ Some j → Turned j (stamp_at inputs (input_place loop.i)) m.new.records m.result.count loop.z loop.heard c.turn_at-turn.result
+  took = takes c.args.inputs.now _ c.loop-i.i _ _ _ c.loop-i.heard c.loop-i.z _ c.input_place-at.ensures c.stamp_at-t.ensures (omega (arith, c.loop-i.invariant.1, (c.advance-m.ensures c.loop-i.k).count)) c.turn_at-turn.ensures
 
--- an item that asks for something asks for an input
-asked : (c : In-Some) → (x : Input) × (decoded c.in-Some.order.kind c.in-Some.order.value ≡ Some x)
-asked c =
-    let ready = is_ready _ _ _ _ _ c.lamp_of-l.ensures c.requires.0 in
-    let loop = c.loop-i in
-    let g = loop.invariant.0 in
-    let within = c.loop-i-test.true in
-    let place = c.input_place-at.ensures in
-    let stamp = rw place at c.stamp_at-t.ensures in
-    let moves = c.advance-m in
-    let two = a_move_writes_at_most_two (state_of c.args.start.params loop.k loop.l) c.stamp_at-t.result in
-    let turns = takes c.args.inputs.now _ loop.i _ _ _ loop.heard loop.z _ place c.stamp_at-t.ensures (omega (arith, loop.invariant.1, (moves.ensures loop.k).count)) c.turn_at-turn.ensures in
-    going_asks _ _ _ _ _ _ ready c.args.start.params loop.k loop.l loop.z loop.heard _ _ _ _ g loop.invariant.1 within (omega (arith, c.requires.2)) c.requires.3 (omega (arith, within, g.stands.few, g.stands.room, c.requires.2)) _ _ (rw stamp at moves.ensures) moves.auto.records (omega (arith, within, two, (moves.ensures loop.k).count, moves.auto.records, g.stands.few, g.stands.room, c.requires.2)) _ turns _ _ c.in-Some.is
+  -- the sensor has heard no more than there is
+  behind_still : c.turn_at-turn.result.heard ≤ c.advance-m.result.count
+  behind_still =
+      let f = next_item _ _ _ _ _ _ ready _ _ _ _ _ c.loop-i.invariant.0 c.loop-i-test.true in
+      (took f.input f.meant).behind
+
+  -- the clock has moved to the item's stamp
+  moves : Advanced c.args.start.params c.loop-i.l (stamp_at c.args.inputs.now (input_place c.loop-i.i)) c.loop-i.count c.loop-i.records c.advance-m.result c.advance-m.new.records
+  moves = rw (rw c.input_place-at.ensures at c.stamp_at-t.ensures) at c.advance-m.ensures
+
+  -- the records have room, before the clock moves and after
+  two : length (clock_move (state_of c.args.start.params c.loop-i.k c.loop-i.l) c.stamp_at-t.result).records ≤ 2
+  two = a_move_writes_at_most_two (state_of c.args.start.params c.loop-i.k c.loop-i.l) c.stamp_at-t.result
+
+  roomy : 8 * c.loop-i.count ≤ length c.loop-i.records
+  roomy = let g = c.loop-i.invariant.0.stands in omega (arith, c.loop-i-test.true, g.few, g.room, c.requires.2)
+
+  roomy_still : 8 * c.advance-m.result.count ≤ length c.advance-m.new.records
+  roomy_still = let g = c.loop-i.invariant.0.stands in omega (arith, c.loop-i-test.true, two, (c.advance-m.ensures c.loop-i.k).count, c.advance-m.auto.records, g.few, g.room, c.requires.2)
+
+  -- an item that asks for something asks for an input
+  asked : (kind value : ℕ) → c.turn_at-turn.result.asked ≡ Some (record { kind = kind; value = value }) → (x : Input) × (decoded kind value ≡ Some x)
+  asked kind value orders =
+      let loop = c.loop-i in
+      going_asks _ _ _ _ _ _ ready c.args.start.params loop.k loop.l loop.z loop.heard _ _ _ _ loop.invariant.0 loop.invariant.1 c.loop-i-test.true (omega (arith, c.requires.2)) c.requires.3 roomy _ _ moves c.advance-m.auto.records roomy_still _ took kind value orders
 
 pub loop-i-init : goal.loop-i-init
 loop-i-init c = (going_first _ _ _ _ _ _ (ready_to (goal.at.loop-i-init c).After-lamp_of-l), omega arith)
@@ -89,11 +100,9 @@ turn_at-turn-requires c =
     let loop = c.loop-i in
     let g = loop.invariant.0 in
     let within = c.loop-i-test.true in
-    let place = c.input_place-at.ensures in
-    let stamp = rw place at c.stamp_at-t.ensures in
     let moves = c.advance-m in
     let two = a_move_writes_at_most_two (state_of c.args.start.params loop.k loop.l) c.stamp_at-t.result in
-    (omega (arith, place, within, ready.whole), omega (arith, loop.invariant.1, (moves.ensures loop.k).count), (omega (arith, within, two, (moves.ensures loop.k).count, moves.auto.records, g.stands.few, g.stands.room, c.requires.2)))
+    (omega (arith, c.input_place-at.ensures, within, ready.whole), omega (arith, loop.invariant.1, (moves.ensures loop.k).count), (omega (arith, within, two, (moves.ensures loop.k).count, moves.auto.records, g.stands.few, g.stands.room, c.requires.2)))
 
 pub overflow_cast-answers : goal.overflow_cast-answers
 overflow_cast-answers c = omega (arith, c.loop-i-test.true, (ready_to (goal.at.overflow_cast-answers c).After-lamp_of-l).few)
@@ -101,30 +110,18 @@ overflow_cast-answers c = omega (arith, c.loop-i-test.true, (ready_to (goal.at.o
 pub bounds-answers-i : goal.bounds-answers-i
 bounds-answers-i c = omega (arith, c.loop-i-test.true, c.loop-i.invariant.0.stands.places, c.requires.3)
 
-pub overflow_add-i : goal.overflow_add-i
-overflow_add-i c = omega (arith, c.loop-i-test.true, (ready_to (goal.at.overflow_add-i c).After-lamp_of-l).few)
-
-pub loop-i-smaller-in-None : goal.loop-i-smaller-in-None
-loop-i-smaller-in-None c = omega (arith, c.loop-i-test.true)
-
-pub loop-i-preserved-in-None : goal.loop-i-preserved-in-None
-loop-i-preserved-in-None c =
-    let ready = ready_to (goal.at.loop-i-preserved-in-None c).After-lamp_of-l in
-    let loop = c.loop-i in
-    let g = loop.invariant.0 in
-    let within = c.loop-i-test.true in
-    let place = c.input_place-at.ensures in
-    let stamp = rw place at c.stamp_at-t.ensures in
-    let moves = c.advance-m in
-    let two = a_move_writes_at_most_two (state_of c.args.start.params loop.k loop.l) c.stamp_at-t.result in
-    (going_rests _ _ _ _ _ _ ready c.args.start.params loop.k loop.l loop.z loop.heard _ _ _ _ g loop.invariant.1 within (omega (arith, c.requires.2)) c.requires.3 (omega (arith, within, g.stands.few, g.stands.room, c.requires.2)) _ _ (rw stamp at moves.ensures) moves.auto.records (omega (arith, within, two, (moves.ensures loop.k).count, moves.auto.records, g.stands.few, g.stands.room, c.requires.2)) _ (took (goal.at.loop-i-preserved-in-None c).After-turn_at-turn) c.in-None.is, behind_still (goal.at.loop-i-preserved-in-None c).After-turn_at-turn)
-
 -- what is asked for is an input, of one of the eight kinds
-pub fate_of-f-requires : goal.fate_of-f-requires
-fate_of-f-requires c = let x = asked (goal.at.fate_of-f-requires c).In-Some in rw (← meant_kind _ _ x.0 x.1) (kind_range x.0)
+pub fate_of-requires : goal.fate_of-requires
+fate_of-requires c = let x = asked (goal.at.fate_of-requires c).After-turn_at-turn _ _ c.in-Some.is in rw (← meant_kind _ _ x.0 x.1) (kind_range x.0)
+
+pub overflow_cast-answers-in-Err : goal.overflow_cast-answers-in-Err
+overflow_cast-answers-in-Err c = omega (arith, c.loop-i-test.true, (ready_to (goal.at.overflow_cast-answers-in-Err c).After-lamp_of-l).few)
+
+pub bounds-answers-i-in-Err : goal.bounds-answers-i-in-Err
+bounds-answers-i-in-Err c = omega (arith, c.loop-i-test.true, c.loop-i.invariant.0.stands.places, c.requires.3)
 
 pub known_input-x-requires : goal.known_input-x-requires
-known_input-x-requires c = rw (asked (goal.at.known_input-x-requires c).In-Some).1 refl
+known_input-x-requires c = rw (asked (goal.at.known_input-x-requires c).After-turn_at-turn _ _ c.in-Some.is).1 refl
 
 pub take-d-requires : goal.take-d-requires
 unfolding barrier
@@ -135,8 +132,12 @@ take-d-requires c =
     let s = state_of a.start.params loop.k loop.l in
     let g = loop.invariant.0 in
     let f = next_item _ _ _ _ _ _ ready _ _ _ _ _ g c.loop-i-test.true in
-    let counts = rw (← meant_kind _ _ _ c.known_input-x.ensures) at (sym c.fate_of-f.ensures ∙ c.in-Ok.is) in
+    let counts = rw (← meant_kind _ _ _ c.known_input-x.ensures) at (sym c.fate_of.ensures ∙ c.in-Ok.is) in
     (rw ((c.advance-m.ensures loop.k).lamp, c.stamp_at-t.ensures, c.input_place-at.ensures, move_clock s _) (moved_roomy s _ ((sound_pair_exactly_when _).0 g.safe).actuator f.risen f.timely), counts)
+
+pub scenes_after-table-requires : goal.scenes_after-table-requires
+unfolding barrier
+scenes_after-table-requires c = (c.in-Ok.noted, rw (← meant_kind _ _ _ c.known_input-x.ensures) at (sym c.fate_of.ensures ∙ c.in-Ok.is))
 
 pub put_note-count-requires : goal.put_note-count-requires
 put_note-count-requires c =
@@ -144,8 +145,6 @@ put_note-count-requires c =
     let loop = c.loop-i in
     let g = loop.invariant.0 in
     let within = c.loop-i-test.true in
-    let place = c.input_place-at.ensures in
-    let stamp = rw place at c.stamp_at-t.ensures in
     let moves = c.advance-m in
     let two = a_move_writes_at_most_two (state_of c.args.start.params loop.k loop.l) c.stamp_at-t.result in
     let own = listed_few c.take-d.result.note in
@@ -157,58 +156,29 @@ overflow_cast-answers-in-Ok c = omega (arith, c.loop-i-test.true, (ready_to (goa
 pub bounds-answers-i-in-Ok : goal.bounds-answers-i-in-Ok
 bounds-answers-i-in-Ok c = omega (arith, c.loop-i-test.true, c.loop-i.invariant.0.stands.places, c.requires.3)
 
-pub scenes_after-table-requires : goal.scenes_after-table-requires
-unfolding barrier
-scenes_after-table-requires c = (c.in-Ok.noted, rw (← meant_kind _ _ _ c.known_input-x.ensures) at (sym c.fate_of-f.ensures ∙ c.in-Ok.is))
-
-pub overflow_add-i-in-Ok : goal.overflow_add-i-in-Ok
-overflow_add-i-in-Ok c = omega (arith, c.loop-i-test.true, (ready_to (goal.at.overflow_add-i-in-Ok c).After-lamp_of-l).few)
-
-pub loop-i-smaller-in-Ok : goal.loop-i-smaller-in-Ok
-loop-i-smaller-in-Ok c = omega (arith, c.loop-i-test.true)
-
-pub loop-i-preserved-in-Ok : goal.loop-i-preserved-in-Ok
-loop-i-preserved-in-Ok c =
-    let ready = ready_to (goal.at.loop-i-preserved-in-Ok c).After-lamp_of-l in
-    let loop = c.loop-i in
-    let g = loop.invariant.0 in
-    let within = c.loop-i-test.true in
-    let place = c.input_place-at.ensures in
-    let stamp = rw place at c.stamp_at-t.ensures in
-    let moves = c.advance-m in
-    let two = a_move_writes_at_most_two (state_of c.args.start.params loop.k loop.l) c.stamp_at-t.result in
-    let put = c.put_note-count in
-    let means = c.known_input-x.ensures in
-    let goes = going_acts _ _ _ _ _ _ ready c.args.start.params loop.k loop.l loop.z loop.heard _ _ _ _ g loop.invariant.1 within (omega (arith, c.requires.2)) c.requires.3 (omega (arith, within, g.stands.few, g.stands.room, c.requires.2)) _ _ (rw stamp at moves.ensures) moves.auto.records (omega (arith, within, two, (moves.ensures loop.k).count, moves.auto.records, g.stands.few, g.stands.room, c.requires.2)) _ (took (goal.at.loop-i-preserved-in-Ok c).After-turn_at-turn) _ _ c.in-Some.is _ means _ c.take-d.ensures _ put.ensures.0 _ put.ensures.1 (put.auto.buf ∙ moves.auto.records) _ c.scenes_after-table.ensures in
-    (goes, omega (arith, behind_still (goal.at.loop-i-preserved-in-Ok c).After-turn_at-turn, put.ensures.0))
-
-pub overflow_cast-answers-in-Err : goal.overflow_cast-answers-in-Err
-overflow_cast-answers-in-Err c = omega (arith, c.loop-i-test.true, (ready_to (goal.at.overflow_cast-answers-in-Err c).After-lamp_of-l).few)
-
-pub bounds-answers-i-in-Err : goal.bounds-answers-i-in-Err
-bounds-answers-i-in-Err c = omega (arith, c.loop-i-test.true, c.loop-i.invariant.0.stands.places, c.requires.3)
-
-pub overflow_add-i-in-Err : goal.overflow_add-i-in-Err
-overflow_add-i-in-Err c = omega (arith, c.loop-i-test.true, (ready_to (goal.at.overflow_add-i-in-Err c).After-lamp_of-l).few)
-
-pub loop-i-smaller : goal.loop-i-smaller
-loop-i-smaller c = omega (arith, c.loop-i-test.true)
-
+-- an item that asks for nothing, one that is dropped, and one that acts
 pub loop-i-preserved : goal.loop-i-preserved
 unfolding barrier
 loop-i-preserved c =
-    let ready = ready_to (goal.at.loop-i-preserved c).After-lamp_of-l in
+    let t = (goal.at.loop-i-preserved c).After-turn_at-turn in
     let loop = c.loop-i in
     let g = loop.invariant.0 in
     let within = c.loop-i-test.true in
-    let place = c.input_place-at.ensures in
-    let stamp = rw place at c.stamp_at-t.ensures in
-    let moves = c.advance-m in
-    let two = a_move_writes_at_most_two (state_of c.args.start.params loop.k loop.l) c.stamp_at-t.result in
-    let x = asked (goal.at.loop-i-preserved c).In-Some in
-    let drops = rw (← meant_kind _ _ _ x.1) at (sym c.fate_of-f.ensures ∙ c.in-Err.is) in
-    let goes = going_dropped _ _ _ _ _ _ ready c.args.start.params loop.k loop.l loop.z loop.heard _ _ _ _ g loop.invariant.1 within (omega (arith, c.requires.2)) c.requires.3 (omega (arith, within, g.stands.few, g.stands.room, c.requires.2)) _ _ (rw stamp at moves.ensures) moves.auto.records (omega (arith, within, two, (moves.ensures loop.k).count, moves.auto.records, g.stands.few, g.stands.room, c.requires.2)) _ (took (goal.at.loop-i-preserved c).After-turn_at-turn) _ _ c.in-Some.is x.0 x.1 c.in-Err.answer drops in
-    (goes, behind_still (goal.at.loop-i-preserved c).After-turn_at-turn)
+    let long = c.advance-m.auto.records in
+    elim c.match-turn.branch [
+      | in-None w ↦
+          rw (w.records-is, w.answers-is, w.k-is, w.l-is, w.count-is)
+          (going_rests _ _ _ _ _ _ (ready t) c.args.start.params loop.k loop.l loop.z loop.heard _ _ _ _ g loop.invariant.1 within (omega (arith, c.requires.2)) c.requires.3 (roomy t) _ _ (moves t) long (roomy_still t) _ (took t) w.in-None.is, behind_still t)
+      | in-Some+in-Err w ↦
+          let x = asked t _ _ w.in-Some.is in
+          let drops = rw (← meant_kind _ _ _ x.1) at (sym w.fate_of.ensures ∙ w.in-Err.is) in
+          rw (w.records-is, w.answers-is, w.k-is, w.l-is, w.count-is)
+          (going_dropped _ _ _ _ _ _ (ready t) c.args.start.params loop.k loop.l loop.z loop.heard _ _ _ _ g loop.invariant.1 within (omega (arith, c.requires.2)) c.requires.3 (roomy t) _ _ (moves t) long (roomy_still t) _ (took t) _ _ w.in-Some.is x.0 x.1 w.in-Err.answer drops, behind_still t)
+      | in-Some+in-Ok w ↦
+          let put = w.put_note-count in
+          rw (w.records-is, w.answers-is, w.k-is, w.l-is, w.count-is)
+          (going_acts _ _ _ _ _ _ (ready t) c.args.start.params loop.k loop.l loop.z loop.heard _ _ _ _ g loop.invariant.1 within (omega (arith, c.requires.2)) c.requires.3 (roomy t) _ _ (moves t) long (roomy_still t) _ (took t) _ _ w.in-Some.is _ w.known_input-x.ensures _ w.take-d.ensures _ put.ensures.0 _ put.ensures.1 (put.auto.buf ∙ long) _ w.scenes_after-table.ensures, omega (arith, behind_still t, put.ensures.0))
+    ]
 
 pub shape_of-records : goal.shape_of-records
 shape_of-records c = c.loop-i.invariant.0.stands.room
