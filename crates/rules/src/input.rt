@@ -1,7 +1,7 @@
 // An input is one of eight kinds, each with its own value.
 
 // What SwitchOnOffForced asks for, and the force that stands.
-#[derive(Clone, Copy)]
+#[derive(Clone, Copy, PartialEq, Eq)]
 pub enum Force {
     Free,
     Off,

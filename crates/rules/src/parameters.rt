@@ -17,7 +17,7 @@ pub struct Params {
 }
 
 // One of eight entries: the scene's number (255: unused), the output that it recalls, and whether it was taught in.
-#[derive(Clone, Copy)]
+#[derive(Clone, Copy, PartialEq, Eq)]
 pub struct Scene {
     pub number: u8,
     pub value: bool,

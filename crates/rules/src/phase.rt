@@ -1,5 +1,5 @@
 // The phases of the output. A phase that becomes another by itself carries the moment at which it does, its deadline.
-#[derive(Clone, Copy)]
+#[derive(Clone, Copy, PartialEq, Eq)]
 pub enum Phase {
     Dark,
     Lit,
@@ -9,4 +9,3 @@ pub enum Phase {
     Warning(u32),
     Ending(u32),
 }
-

@@ -5,7 +5,7 @@ use crate::input::Force;
 use crate::parameters::{Params, Scene};
 use crate::phase::Phase;
 
-#[derive(Clone, Copy)]
+#[derive(Clone, Copy, PartialEq, Eq)]
 pub enum Link {
     Up,
     BusDown,
