@@ -1,87 +1,95 @@
--- The scene table, one entry at a time: what the loops over it need.
-use Rattle.std.specs.Prelude.{Some, None}
-use Prim.Native.Nat.{ℕ, suc, ◌+◌, ◌<◌}
-use mathlib.Core.Bool.{Bool, true, false, not, ◌&&◌, ◌||◌, cond}
-use mathlib.Core.List.{List, [], ◌∷◌, ◌++◌, append_assoc}
-use mathlib.Core.Path.{◌≡◌, refl, ◌∙◌, ap, sym}
-use lib.ListN.{length, get_or, drop, set, take}
-use lib.Seq.{drop-cons, take-suc, set_split}
-use lib.Dec.{eqb}
-use native.Mathlib.Numerals.{add-one}
+-- The scene table as a list: what its definitions are of the list functions that the code calls.
+use Prim.Native.Nat.{ℕ, suc, ◌+◌, ◌<◌, ◌≤◌}
+use mathlib.Core.Bool.{Bool, true, false, not, cond}
+use mathlib.Core.List.{List, [], ◌∷◌}
+use mathlib.Core.Path.{◌≡◌, refl, ap, ◌∙◌}
 use native.Mathlib.Omega.{arith}
+use lib.ListN.{length, set, get_or}
+use lib.Dec.{eqb, ltb}
+use borrow.Author.Tests.{ltb-true, ltb-false}
+use lib.Pointwise.{pointwise}
+use Rattle.std.specs.List.{find, list_all, position, position_or_len}
+use Rattle.std.specs.declared.option.Option.{Option}
+use Rattle.std.specs.declared.option.Option.TheVariants.{Some, None}
 use Rattle.rules.specs.declared.parameters.Scene.{Scene}
-use Rattle.rules.specs.Scenes.{entry_in_range, absent, scenes_in_range, recalled, learnt}
+use Rattle.rules.specs.Scenes.{absent, recalled, learnt}
 use Rattle.rules.specs.Answers.{same_scene, same_scenes}
+use Rattle.rules.specs.declared.parameters.Recalled.{Recalled}
+use Rattle.rules.specs.declared.parameters.Recalled.TheVariants.{Nothing, Output}
 
 -- what an array of scenes is read with past its end
 abbrev pub past : Scene
 past = record { number = 0; value = false; taught = false }
 
-module _ (k : List Scene) (n i : ℕ) (within : i < length k) where
-  pub recalled_step : recalled (drop i k) n ≡ cond (eqb (get_or k i past).number n) (cond (get_or k i past).taught (Some (get_or k i past).value) None) (recalled (drop (suc i) k) n)
-  unfolding recalled
-  recalled_step = rw (drop-cons k i past within)
+-- tables are the same where their entries are, pair by pair
+pub same_by_pairs : (E : Scene → Scene → Bool) → ((x y : Scene) → E x y ≡ same_scene x y) → (a b : List Scene) → pointwise E a b ≡ same_scenes a b
+unfolding same_scenes
+same_by_pairs E each [] [] = refl
+same_by_pairs E each [] (y ∷ b) = refl
+same_by_pairs E each (x ∷ a) [] = refl
+same_by_pairs E each (x ∷ a) (y ∷ b) = rw (each x y, same_by_pairs E each a b)
 
-  learnt_step : (on : Bool) → learnt (drop i k) n on ≡ cond (eqb (get_or k i past).number n) (record { number = (get_or k i past).number; value = on; taught = true } ∷ drop (suc i) k) (get_or k i past ∷ learnt (drop (suc i) k) n on)
-  unfolding learnt
-  learnt_step on = rw (drop-cons k i past within)
+-- no entry has the number where each has another
+pub absent_is_all : (k : List Scene) (number : ℕ) → list_all (λ e. not (eqb e.number number)) k ≡ absent k number
+unfolding absent
+absent_is_all [] number = refl
+absent_is_all (e ∷ k) number = rw (absent_is_all k number)
 
-  -- the entry at i has the number: it is the one that learns
-  pub learnt_here : (on : Bool) → eqb (get_or k i past).number n ≡ true → take i k ++ learnt (drop i k) n on ≡ set k i (record { number = (get_or k i past).number; value = on; taught = true })
-  learnt_here on hit = rw (learnt_step on, hit, set_split k i (record { number = (get_or k i past).number; value = on; taught = true }) within)
+-- what the entry that is found tells
+abbrev pub told : Option Scene → Recalled
+told None = Nothing
+told (Some e) = cond e.taught (Output e.value) Nothing
 
-  -- it has another: the rest learns
-  pub learnt_later : (on : Bool) → eqb (get_or k i past).number n ≡ false → take i k ++ learnt (drop i k) n on ≡ take (suc i) k ++ learnt (drop (suc i) k) n on
-  learnt_later on miss = rw (learnt_step on, miss, take-suc k i past within) (sym (append_assoc (take i k) (get_or k i past ∷ []) (learnt (drop (suc i) k) n on)))
+abbrev pub has : ℕ → Scene → Bool
+has number e = eqb e.number number
 
--- past the last entry
-pub recalled_none : (k : List Scene) (n : ℕ) → length k ≡ 0 → recalled k n ≡ None
+recalled_is_found : (k : List Scene) (number : ℕ) → told (find (has number) k) ≡ recalled k number
 unfolding recalled
-recalled_none [] n none = refl
-recalled_none (e ∷ k) n none = absurd (omega arith)
+recalled_is_found [] number = refl
+recalled_is_found (e ∷ k) number =
+    elim (eqb e.number number) as (λ b. told (cond b (Some e) (find (has number) k)) ≡ cond b (cond e.taught (Output e.value) Nothing) (recalled k number))
+    [ true ↦ refl | false ↦ recalled_is_found k number ]
 
-pub learnt_none : (k : List Scene) (n : ℕ) (on : Bool) → length k ≡ 0 → learnt k n on ≡ []
+pub recalled_if_found : (k : List Scene) (number : ℕ) (found : Option Scene) → found ≡ find (has number) k → told found ≡ recalled k number
+recalled_if_found k number found is = ap told is ∙ recalled_is_found k number
+
+abbrev knows : Scene → Bool → Scene
+knows e on = record { number = e.number; value = on; taught = true }
+
+-- the first entry of the number learns
+learnt_at_first : (k : List Scene) (number i : ℕ) (on : Bool) → i ≡ position_or_len (has number) k → i < length k → set k i (knows (get_or k i past) on) ≡ learnt k number on
 unfolding learnt
-learnt_none [] n on none = refl
-learnt_none (e ∷ k) n on none = absurd (omega arith)
+learnt_at_first [] number i on first within = absurd (omega arith)
+learnt_at_first (e ∷ k) number i on first within =
+    elim (eqb e.number number)
+    as (λ b. i ≡ cond (not b) (1 + position_or_len (has number) k) 0 → set (e ∷ k) i (knows (get_or (e ∷ k) i past) on) ≡ cond b (knows e on ∷ k) (e ∷ learnt k number on)) [
+      | true ↦ λ here. rw here
+      | false ↦ λ later. let next : i ≡ suc (position_or_len (has number) k) = omega arith in
+          rw next (ap (λ (l : List Scene). e ∷ l) (learnt_at_first k number (position_or_len (has number) k) on refl (omega arith)))
+    ] first
 
--- ---- whether two tables are the same, and whether one is in range
+-- an entry learns only where one has the number
+learnt_nowhere : (k : List Scene) (number : ℕ) (on : Bool) → length k ≤ position_or_len (has number) k → k ≡ learnt k number on
+unfolding learnt
+learnt_nowhere [] number on none = refl
+learnt_nowhere (e ∷ k) number on none =
+    elim (eqb e.number number)
+    as (λ b. suc (length k) ≤ cond (not b) (1 + position_or_len (has number) k) 0 → e ∷ k ≡ cond b (knows e on ∷ k) (e ∷ learnt k number on))
+    [ true ↦ λ here. absurd (omega arith) | false ↦ λ later. ap (λ (l : List Scene). e ∷ l) (learnt_nowhere k number on (omega arith)) ] none
 
-pub same_step : (a b : List Scene) (i : ℕ) → i < length a → i < length b → same_scenes (drop i a) (drop i b) ≡ (same_scene (get_or a i past) (get_or b i past) && same_scenes (drop (suc i) a) (drop (suc i) b))
-unfolding same_scenes
-same_step a b i h g = rw (drop-cons a i past h, drop-cons b i past g)
+-- where an entry is placed, it is the first; where none is, no entry has the number
+first_place : (here : Bool) (p i : ℕ) → cond here (Some p) None ≡ Some i → (i ≡ p) × (here ≡ true)
+first_place true p i is = (cc, refl)
+first_place false p i is = cc
 
-pub same_none : (a b : List Scene) → length a ≡ 0 → length b ≡ 0 → same_scenes a b ≡ true
-unfolding same_scenes
-same_none [] [] h g = refl
-same_none [] (y ∷ b) h g = absurd (omega arith)
-same_none (x ∷ a) b h g = absurd (omega arith)
+no_place : (here : Bool) (p : ℕ) → cond here (Some p) None ≡ None → here ≡ false
+no_place true p is = cc
+no_place false p is = refl
 
-pub absent_step : (k : List Scene) (number i : ℕ) → i < length k → absent (drop i k) number ≡ (not (eqb (get_or k i past).number number) && absent (drop (suc i) k) number)
-unfolding absent
-absent_step k number i h = rw (drop-cons k i past h)
+pub learnt_at : (k : List Scene) (number i : ℕ) (on : Bool) → position (has number) k ≡ Some i → set k i (knows (get_or k i past) on) ≡ learnt k number on
+learnt_at k number i on is =
+    let found = first_place (ltb (position_or_len (has number) k) (length k)) _ i is in
+    learnt_at_first k number i on found.0 (omega (arith, ltb-true _ _ found.1))
 
-pub absent_none : (k : List Scene) (number : ℕ) → length k ≡ 0 → absent k number ≡ true
-unfolding absent
-absent_none [] number h = refl
-absent_none (e ∷ k) number h = absurd (omega arith)
-
--- the entry at i decides, by whether it is in range and its number does not come again
-module _ (k : List Scene) (i : ℕ) (within : i < length k) where
-  abbrev fits : Bool
-  fits = entry_in_range (get_or k i past) && (eqb (get_or k i past).number 255 || absent (drop (i + 1) k) (get_or k i past).number)
-
-  range_step : scenes_in_range (drop i k) ≡ (fits && scenes_in_range (drop (i + 1) k))
-  unfolding scenes_in_range
-  range_step = rw (drop-cons k i past within, add-one i)
-
-  pub range_goes_on : fits ≡ true → scenes_in_range (drop i k) ≡ scenes_in_range (drop (i + 1) k)
-  range_goes_on h = range_step ∙ ap (λ (b : Bool). b && scenes_in_range (drop (i + 1) k)) h
-
-  pub range_ends : fits ≡ false → scenes_in_range (drop i k) ≡ false
-  range_ends h = range_step ∙ ap (λ (b : Bool). b && scenes_in_range (drop (i + 1) k)) h
-
-pub range_none : (k : List Scene) → length k ≡ 0 → scenes_in_range k ≡ true
-unfolding scenes_in_range
-range_none [] h = refl
-range_none (e ∷ k) h = absurd (omega arith)
+pub learnt_by_none : (k : List Scene) (number : ℕ) (on : Bool) → position (has number) k ≡ None → k ≡ learnt k number on
+learnt_by_none k number on is = learnt_nowhere k number on (ltb-false _ _ (no_place (ltb (position_or_len (has number) k) (length k)) _ is))

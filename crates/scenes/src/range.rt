@@ -2,49 +2,33 @@
 ghost use Rattle.std.specs.Prelude.{◌≡◌, ◌&&◌, ◌||◌, ◌≤◌, eqb, drop};
 ghost use Rattle.rules.specs.Scenes.{entry_in_range, absent, scenes_in_range};
 
-use base::logic::{either, negated};
 use rules::parameters::Scene;
 
-// No entry from a place on has this number.
-fn absent_from(k: [Scene; 8], from: usize, number: u8) -> bool
-    requires { from ≤ 8 }
-    ensures { result ≡ absent (drop from k) number }
+// None of these entries has this number.
+fn is_absent(entries: &[Scene], number: u8) -> bool
+    ensures { result ≡ absent entries.now number }
 {
-    let mut i = from;
-    while i < 8 {
-        let e = k[i];
-        if e.number == number {
-            return false;
-        }
-        i += 1;
-    }
-    true
+    entries.iter().all(|e| e.number != number)
 }
 
-// The entry at a place is in range, and its number does not come again. An unused entry is done with at once: others may be unused too.
-fn entry_fits(k: [Scene; 8], e: Scene, next: usize) -> bool
-    requires { next ≤ 8 }
-    ensures { result ≡ (entry_in_range e && (eqb e.number 255 || absent (drop next k) e.number)) }
+// An entry is in range, and its number does not come again in those after it. An unused entry is done with at once: others may be unused too.
+#[tactic(auto, unfolding(rules::specs::Scenes::entry_in_range))]
+fn entry_fits(e: Scene, later: &[Scene]) -> bool
+    ensures { result ≡ (entry_in_range e && (eqb e.number 255 || absent later.now e.number)) }
 {
     if e.number == 255 {
-        return negated(either(e.value, e.taught));
-    }
-    if e.number <= 63 {
-        absent_from(k, next, e.number)
+        !(e.value || e.taught)
     } else {
-        false
+        e.number <= 63 && is_absent(later, e.number)
     }
 }
 
+#[tactic(auto, using(std::proofs::lemmas::List::drop_more), unfolding(rules::specs::Scenes::scenes_in_range))]
 pub fn scenes_in_range(k: [Scene; 8]) -> bool
     ensures { result ≡ scenes_in_range k }
 {
-    let mut i: usize = 0;
-    while i < 8 {
-        let e = k[i];
-        if entry_fits(k, e, i + 1) {
-            i += 1;
-        } else {
+    for (i, e) in k.iter().enumerate() {
+        if !entry_fits(*e, &k[i + 1..]) {
             return false;
         }
     }

@@ -1,34 +1,19 @@
-use mathlib.Core.List.{append-nil}
 use mathlib.Core.Path.{sym, ◌∙◌}
-use lib.ListN.{take, drop, length-drop}
-use lib.Seq.{take_all}
-use native.Mathlib.Numerals.{add-one}
-use native.Mathlib.Omega.{arith}
-use borrow.Author.Tests.{eq-eqb, ne_eqb}
 use borrow.Author.Rules.{rules}
-use Rattle.scenes.proofs.Tables.{learnt_here, learnt_later, learnt_none}
+use borrow.Author.Tests.{tests}
+use Rattle.std.proofs.lemmas.Iterator.{YieldsList-from_slice}
+use Rattle.std.proofs.lemmas.Iterator.Search.{position_from_yields_List}
+use Rattle.scenes.proofs.Tables.{has, learnt_at, learnt_by_none}
 use Rattle.scenes.proofs.table.learns.Goals as goal
 
-pub returns-then-e-number : goal.returns-then-e-number
-returns-then-e-number c =
+pub returns-in-Some : goal.returns-in-Some
+returns-in-Some c =
     let a = c.args in
-    let l = c.loop-i in
-    sym (l.invariant.2 ∙ learnt_here a.k a.number l.i (omega arith) a.on (eq-eqb _ _ c.if-e-number.true))
+    let found = position_from_yields_List (has a.number) _ _ c.position.result c.position.ensures.ran (YieldsList-from_slice a.k cc) (λ x b q h. search (rules, tests)) in
+    learnt_at a.k a.number c.in-Some.i a.on (sym found ∙ c.in-Some.is)
 
-pub loop-i-preserved : goal.loop-i-preserved
-loop-i-preserved c =
+pub returns-in_default : goal.returns-in_default
+returns-in_default c =
     let a = c.args in
-    let l = c.loop-i in (
-      search rules,
-      search rules,
-      simp (add-one l.i) (l.invariant.2 ∙ learnt_later a.k a.number l.i (omega arith) a.on (ne_eqb _ _ c.if-e-number.false)),
-    )
-
-pub returns : goal.returns
-returns c =
-    let a = c.args in
-    let l = c.loop-i in
-    sym
-    (l.invariant.2 ∙
-    (rw (learnt_none (drop l.i a.k) a.number a.on (omega (arith, length-drop l.i a.k)))
-    (append-nil (take l.i a.k) ∙ take_all l.i a.k (omega arith))))
+    let found = position_from_yields_List (has a.number) _ _ c.position.result c.position.ensures.ran (YieldsList-from_slice a.k cc) (λ x b q h. search (rules, tests)) in
+    learnt_by_none a.k a.number a.on (sym found ∙ c.in_default.is)

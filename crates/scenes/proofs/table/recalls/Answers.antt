@@ -1,35 +1,24 @@
-use mathlib.Core.Path.{sym, ◌∙◌}
-use lib.ListN.{drop, length-drop}
-use native.Mathlib.Numerals.{add-one}
-use native.Mathlib.Omega.{arith}
-use borrow.Author.Tests.{eq-eqb, ne_eqb}
 use borrow.Author.Rules.{rules}
-use Rattle.scenes.proofs.Tables.{recalled_step, recalled_none}
+use borrow.Author.Tests.{tests}
+use Rattle.std.proofs.lemmas.Iterator.{YieldsList-from_slice}
+use Rattle.std.proofs.lemmas.Iterator.Search.{find_from_yields_List}
+use Rattle.scenes.proofs.Tables.{has, recalled_if_found}
 use Rattle.scenes.proofs.table.recalls.Goals as goal
 
-pub returns-then-e : goal.returns-then-e
-returns-then-e c =
+pub returns-in-Some : goal.returns-in-Some
+returns-in-Some c =
     let a = c.args in
-    let l = c.loop-i in
-    sym (l.invariant.2 ∙ (simp (eq-eqb _ _ c.if-e-number.true, c.if-e.true) at (recalled_step a.k a.number l.i (omega arith))))
+    let found = find_from_yields_List (has a.number) _ _ c.find.result c.find.ensures.ran (YieldsList-from_slice a.k cc) (λ x b q h. search (rules, tests)) in
+    rw (c.in-Some.is, c.if-e.true) at (recalled_if_found a.k a.number _ found)
 
-pub returns-else-e : goal.returns-else-e
-returns-else-e c =
+pub returns-in_default : goal.returns-in_default
+returns-in_default c =
     let a = c.args in
-    let l = c.loop-i in
-    sym (l.invariant.2 ∙ (simp (eq-eqb _ _ c.if-e-number.true, c.if-e.false) at (recalled_step a.k a.number l.i (omega arith))))
+    let found = find_from_yields_List (has a.number) _ _ c.find.result c.find.ensures.ran (YieldsList-from_slice a.k cc) (λ x b q h. search (rules, tests)) in
+    rw (c.in-Some.is, c.if-e.false) at (recalled_if_found a.k a.number _ found)
 
-pub loop-i-preserved : goal.loop-i-preserved
-loop-i-preserved c =
+pub returns-in_default-2 : goal.returns-in_default-2
+returns-in_default-2 c =
     let a = c.args in
-    let l = c.loop-i in (
-      search rules,
-      search rules,
-      simp (add-one l.i) (l.invariant.2 ∙ (simp (ne_eqb _ _ c.if-e-number.false) at (recalled_step a.k a.number l.i (omega arith)))),
-    )
-
-pub returns : goal.returns
-returns c =
-    let a = c.args in
-    let l = c.loop-i in
-    sym (l.invariant.2 ∙ recalled_none (drop l.i a.k) a.number (omega (arith, length-drop l.i a.k)))
+    let found = find_from_yields_List (has a.number) _ _ c.find.result c.find.ensures.ran (YieldsList-from_slice a.k cc) (λ x b q h. search (rules, tests)) in
+    rw c.in_default.is at (recalled_if_found a.k a.number _ found)
