@@ -1,5 +1,5 @@
 -- The tests of the code are enough to know an image: they are passed exactly by octets that say nothing but what a state holds.
-use Prim.Native.Nat.{ℕ, zero, suc, ◌+◌, ◌-◌, ◌*◌, ◌≤◌, ◌<◌}
+use Prim.Native.Nat.{ℕ, zero, suc, ◌+◌, ◌*◌, ◌≤◌, ◌<◌}
 use mathlib.Core.Bool.{Bool, true, false, not, ◌&&◌}
 use mathlib.Core.List.{List}
 use mathlib.Core.Logic.{◌↔◌}
@@ -7,7 +7,7 @@ use mathlib.Core.Path.{◌≡◌, refl, sym}
 use native.Mathlib.Omega.{arith}
 use lib.ListN.{length}
 use lib.Dec.{eqb, leb}
-use borrow.Author.Tests.{leb-true, eqb-true, eqb-false, le-leb, lt-leb, eq-eqb, ne_eqb, not-true}
+use borrow.Author.Tests.{leb-true, eqb-true, eqb-false, le-leb, eq-eqb, ne_eqb, not-true}
 use Rattle.base.proofs.Tests.{both, cond_case, by_order}
 use Rattle.octets.specs.BigEndian.{octet}
 use Rattle.rules.specs.Soundness.{sound}
@@ -16,23 +16,7 @@ use Rattle.rules.specs.Facts.{OnlyMeant}
 use Rattle.rules.proofs.Laws.Images.{only_meant_exactly_when}
 use Rattle.images.specs.Plain.{plain_modes, plain_flags, plain_bits, plain_numbers, plain_deadline, is_plain}
 
--- ---- the loop over the flags
-
-pub flags_go_on : (octets : List ℕ) (n : ℕ) → n < 8 → octet octets (25 + 2 * n) ≤ 3 → plain_flags octets (8 - n) n ≡ plain_flags octets (8 - (n + 1)) (n + 1)
-unfolding plain_flags
-flags_go_on octets n within few =
-    let one : 8 - n ≡ suc (8 - (n + 1)) = omega arith in
-    rw (one, le-leb (octet octets (25 + 2 * n)) 3 few)
-
-pub flags_end : (octets : List ℕ) (n : ℕ) → n < 8 → 3 < octet octets (25 + 2 * n) → plain_flags octets (8 - n) n ≡ false
-unfolding plain_flags
-flags_end octets n within more =
-    let one : 8 - n ≡ suc (8 - (n + 1)) = omega arith in
-    rw (one, lt-leb (octet octets (25 + 2 * n)) 3 more)
-
-pub flags_none : (octets : List ℕ) (n : ℕ) → n ≡ 8 → plain_flags octets (8 - n) n ≡ true
-unfolding plain_flags
-flags_none octets n all = rw all
+-- ---- the flags
 
 -- they are tested one by one
 flags_exactly_when : (octets : List ℕ) (left n : ℕ) → (plain_flags octets left n ≡ true) ↔ ((m : ℕ) → n ≤ m → m < n + left → octet octets (25 + 2 * m) ≤ 3)

@@ -1,8 +1,9 @@
 // The state that the octets of an image say.
-ghost use Rattle.std.specs.Prelude.{◌≡◌, length};
+ghost use Rattle.std.specs.Prelude.{◌≡◌};
 ghost use Rattle.rules.specs.Answers.{phase_of, link_of};
-ghost use Rattle.rules.specs.Images.{image_size, state_in};
+ghost use Rattle.rules.specs.Images.{state_in};
 
+use crate::IMAGE_SIZE;
 use inputs::known_force;
 use octets::read32;
 use parameters::read::{params_of, scenes_of};
@@ -12,6 +13,7 @@ use rules::state::{Link, State};
 
 const PARAMETERS_END: usize = 40;
 
+#[tactic(auto, unfolding(rules::specs::Answers::link_of))]
 fn link_of(number: u8) -> Link
     ensures { result ≡ link_of number }
 {
@@ -22,6 +24,7 @@ fn link_of(number: u8) -> Link
     }
 }
 
+#[tactic(auto, unfolding(rules::specs::Answers::phase_of))]
 fn phase_of(number: u8, deadline: u32) -> Phase
     ensures { result ≡ phase_of number deadline }
 {
@@ -37,30 +40,25 @@ fn phase_of(number: u8, deadline: u32) -> Phase
 }
 
 // The state that octets say, an image or not.
-pub fn state_in(octets: &[u8]) -> State
-    requires { length octets.now ≡ image_size }
+#[tactic(auto, unfolding(rules::specs::Images::state_in))]
+pub fn state_in(octets: &[u8; IMAGE_SIZE]) -> State
     ensures { result ≡ state_in octets.now }
 {
     let form = Form {
         version: octets[40],
         scale: Scale::Tenths,
     };
-    let written = &octets[0..PARAMETERS_END];
-    let p = params_of(written, form);
-    let k = scenes_of(written, form);
-    let force = known_force(octets[43]);
-    let link = link_of(octets[44]);
-    let phase = phase_of(octets[47], read32(octets, 52));
+    let written = &octets[..PARAMETERS_END];
     State {
-        params: p,
-        scenes: k,
+        params: params_of(written, form),
+        scenes: scenes_of(written, form),
         clock: read32(octets, 48),
         night: octets[41] == 1,
         lock: octets[42] == 1,
-        force,
-        link,
+        force: known_force(octets[43]),
+        link: link_of(octets[44]),
         atlocking: octets[45] == 1,
         atfailure: octets[46] == 1,
-        phase,
+        phase: phase_of(octets[47], read32(octets, 52)),
     }
 }

@@ -7,12 +7,18 @@ use native.Mathlib.Numerals.{add-one}
 use native.Mathlib.Omega.{arith}
 use lib.ListN.{length, take, drop, get_or, set, length-append, take-append-drop, get_or-append}
 use lib.Seq.{sets, sets-eq, take_at, drop_at, drop-drop, length-take-le, set_at, drop-cons, append_snoc, get_or-append-add}
+use borrow.Rule.Slice.PartMut.{put_mid}
 use Rattle.octets.specs.BigEndian.{octet}
 use Rattle.octets.specs.Splice.{splice}
 
 pub splice_none : (b : List ℕ) (at : ℕ) → b ≡ splice b at []
 unfolding splice
 splice_none b at = simp (add-zero, append-nil, take-append-drop)
+
+-- a part of a slice is written: k octets from a place on, which are these now
+pub write_splices : (b : List ℕ) (at k : ℕ) (now xs : List ℕ) → now ≡ xs → k ≡ length xs → put_mid at k b now ≡ splice b at xs
+unfolding splice
+write_splices b at k now xs is all = rw (is, all, drop-drop) (sym (append_assoc (take at b) xs (drop (at + length xs) b)))
 
 -- what was put is found there
 pub splice_octet : (b : List ℕ) (at : ℕ) (xs : List ℕ) (j : ℕ) → at ≤ length b → j < length xs → octet (splice b at xs) (at + j) ≡ octet xs j

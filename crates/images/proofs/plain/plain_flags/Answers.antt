@@ -1,23 +1,16 @@
-use mathlib.Core.Path.{refl, sym, ◌∙◌}
-use native.Mathlib.Omega.{arith}
-use Rattle.images.proofs.Tests.{flags_go_on, flags_end, flags_none}
+use Prim.Native.Nat.{◌+◌, ◌*◌}
+use mathlib.Core.Path.{refl}
+use lib.Dec.{leb}
 use borrow.Author.Rules.{rules}
+use borrow.Author.Tests.{tests}
+use Rattle.octets.specs.BigEndian.{octet}
+use Rattle.std.proofs.lemmas.Iterator.{YieldsList-from_range}
+use Rattle.std.proofs.lemmas.Iterator.Search.{all_from_yields_List}
+use Rattle.images.specs.Plain.{plain_flags}
 use Rattle.images.proofs.plain.plain_flags.Goals as goal
 
-pub loop-n-init : goal.loop-n-init
-loop-n-init c = (search rules, refl, search rules)
-
-pub loop-n-preserved : goal.loop-n-preserved
-loop-n-preserved c =
-    let l = c.loop-n in
-    (search rules, l.invariant.1 ∙ flags_go_on _ l.n (omega arith) c.if-octets-n-le3.true, l.invariant.2)
-
-pub returns-else-octets-n-le3 : goal.returns-else-octets-n-le3
-returns-else-octets-n-le3 c =
-    let l = c.loop-n in
-    sym (l.invariant.1 ∙ flags_end _ l.n (omega arith) c.if-octets-n-le3.false)
-
 pub returns : goal.returns
+unfolding plain_flags
 returns c =
-    let l = c.loop-n in
-    sym (l.invariant.1 ∙ flags_none _ l.n (omega arith))
+    let octets = c.args.octets.now in
+    all_from_yields_List (λ n. leb (octet octets (25 + 2 * n)) 3) _ _ c.all.result c.all.ensures.ran (YieldsList-from_range 0 8 8 refl refl) (λ x b q k. search (rules, tests))
