@@ -17,7 +17,7 @@ use rules::state::State;
 // As far as the inputs go, to an accepted image, which says this state: it is replaced.
 fn play_image(
     s: State,
-    state: &mut [u8],
+    state: &mut [u8; IMAGE_SIZE],
     inputs: &[u8],
     records: &mut [u8],
     answers: &mut [u8],
@@ -36,9 +36,9 @@ fn play_image(
 pub fn house_change(state: &mut [u8], inputs: &[u8], records: &mut [u8], answers: &mut [u8]) -> u64
     ensures { imaged_run_by result state.new records.new answers.new ≡ house_change state.old inputs.now records.old answers.old }
 {
-    if state.len() != IMAGE_SIZE {
+    let Some(state) = state.as_mut_array::<IMAGE_SIZE>() else {
         return refused(Refusal::UnsoundState, 0);
-    }
+    };
     let s = state_in(state);
     if is_image_of(state, s) {
         let met = check_lent(inputs, records, answers);

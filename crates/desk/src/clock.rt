@@ -18,7 +18,7 @@ use timers::clock::move_clock;
 const MOVE_ROOM: usize = 16;
 
 // Of an accepted image, which says this state: 7, then 8, then the timers due by then run.
-fn move_state(s: State, state: &mut [u8], stamp: u32, records: &mut [u8]) -> u64
+fn move_state(s: State, state: &mut [u8; IMAGE_SIZE], stamp: u32, records: &mut [u8]) -> u64
     requires { (is_image state.old ≡ true) × (s ≡ state_in state.old) }
     ensures { imaged_move_by result state.new records.new ≡ house_move state.old stamp records.old }
 {
@@ -41,9 +41,9 @@ fn move_state(s: State, state: &mut [u8], stamp: u32, records: &mut [u8]) -> u64
 pub fn house_move(state: &mut [u8], stamp: u32, records: &mut [u8]) -> u64
     ensures { imaged_move_by result state.new records.new ≡ house_move state.old stamp records.old }
 {
-    if state.len() != IMAGE_SIZE {
+    let Some(state) = state.as_mut_array::<IMAGE_SIZE>() else {
         return refused(Refusal::UnsoundState, 0);
-    }
+    };
     let s = state_in(state);
     if is_image_of(state, s) {
         move_state(s, state, stamp, records)

@@ -18,11 +18,9 @@ pub fn house_fresh(parameters: &[u8], state: &mut [u8]) -> u64
     if f.code != 0 {
         return pack(f.code, f.place, 0);
     }
-    if state.len() == IMAGE_SIZE {
-        let s = f.state;
-        put_image(state, s);
-        pack(0, 0, 0)
-    } else {
-        refused(Refusal::ShortBuffer, 0)
-    }
+    let Some(state) = state.as_mut_array::<IMAGE_SIZE>() else {
+        return refused(Refusal::ShortBuffer, 0);
+    };
+    put_image(state, f.state);
+    pack(0, 0, 0)
 }

@@ -27,9 +27,9 @@ fn no_room(file: &[u8]) -> u64
 pub fn house_run_to(file: &[u8], state: &mut [u8], records: &mut [u8], answers: &mut [u8]) -> u64
     ensures { imaged_run_by result state.new records.new answers.new ≡ house_run_to file.now state.old records.old answers.old }
 {
-    if state.len() != IMAGE_SIZE {
+    let Some(state) = state.as_mut_array::<IMAGE_SIZE>() else {
         return no_room(file);
-    }
+    };
     let r = run(file, records, answers);
     let stopped = r.code != 0;
     if stopped {

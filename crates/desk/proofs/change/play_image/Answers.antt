@@ -1,15 +1,12 @@
 use Rattle.rules.specs.Runs.{packed}
 use Rattle.rules.specs.Changes.{check_change}
-use Rattle.rules.proofs.Laws.Images.{accepted_is_long, accepted_is_sound}
+use Rattle.rules.proofs.Laws.Images.{accepted_is_sound}
 use Rattle.desk.proofs.Lives.{change_done}
 use Rattle.desk.proofs.change.play_image.Goals as goal
 
 pub play_inputs-r-requires : goal.play_inputs-r-requires
 unfolding check_change
 play_inputs-r-requires c = let pre = c.requires in rw (pre.1, accepted_is_sound _ pre.0, pre.2)
-
-pub put_image-requires : goal.put_image-requires
-put_image-requires c = accepted_is_long _ c.requires.0
 
 pub returns : goal.returns
 unfolding packed

@@ -2,7 +2,7 @@ use mathlib.Core.Path.{sym, ◌∙◌}
 use native.Mathlib.Omega.{arith}
 use Rattle.base.proofs.Codes.{timely_exactly_when}
 use Rattle.phases.proofs.Rooms.{sound_room}
-use Rattle.rules.proofs.Laws.Images.{accepted_is_long, accepted_is_sound}
+use Rattle.rules.proofs.Laws.Images.{accepted_is_sound}
 use Rattle.timers.proofs.Moves.{moved_few}
 use Rattle.desk.proofs.Lives.{move_late, move_short, move_made}
 use Rattle.desk.proofs.clock.move_state.Goals as goal
@@ -20,9 +20,6 @@ pub put_notes-requires : goal.put_notes-requires
 put_notes-requires c =
     let few = moved_few _ _ _ c.move_clock-m.ensures in
     (omega arith, omega (arith, few), omega (arith, few, c.if-records-lt-MOVE_ROOM.false))
-
-pub put_image-requires : goal.put_image-requires
-put_image-requires c = accepted_is_long _ c.requires.0
 
 pub returns-else-records-lt-MOVE_ROOM : goal.returns-else-records-lt-MOVE_ROOM
 returns-else-records-lt-MOVE_ROOM c =
