@@ -1,11 +1,10 @@
 // Records as octets, each at its place in a lent buffer.
 ghost use Rattle.std.specs.Prelude.{◌≡◌, ◌&&◌, ◌+◌, ◌*◌, ◌≤◌, length, take, leb};
 ghost use Rattle.octets.specs.Splice.{splice};
-ghost use Rattle.rules.specs.Layout.{most_inputs, record_size, record_place, records_room};
+ghost use Rattle.rules.specs.Layout.{most_inputs, record_place, records_room};
 ghost use Rattle.rules.specs.Runs.{record_octets, records_octets};
 ghost use Rattle.records.specs.Notes.{listed};
 
-use base::logic::both;
 use octets::write32;
 use records::notes::Notes;
 use rules::record::Record;
@@ -16,7 +15,7 @@ const RECORD_SIZE: usize = 8;
 pub fn record_place(count: u32) -> usize
     ensures { result ≡ record_place count }
 {
-    RECORD_SIZE * (count as usize)
+    RECORD_SIZE * count as usize
 }
 
 // How many octets the records of n inputs can take: a start record, three for each input, two for the move to the end.
@@ -32,52 +31,29 @@ pub fn is_roomy(n: u32, records: usize, answers: usize) -> bool
     requires { n ≤ most_inputs }
     ensures { result ≡ (leb (records_room n) records && leb n answers) }
 {
-    let wide = records_room(n) <= records;
-    let long = n as usize <= answers;
-    both(wide, long)
+    records_room(n) <= records && n as usize <= answers
 }
 
-// One record, at an octet: the stamp most significant octet first, value, attributes, cause, zero.
-fn put_at(buf: &mut [u8], at: usize, r: Record)
-    requires { at + record_size ≤ length buf.old }
-    ensures { buf.new ≡ splice buf.old at (record_octets r) }
-{
-    write32(buf, at, r.stamp);
-    buf[at + 4] = r.value;
-    buf[at + 5] = r.attributes;
-    buf[at + 6] = r.cause;
-    buf[at + 7] = 0;
-}
-
-// One record, after so many.
+// One record, after so many: the stamp most significant octet first, value, attributes, cause, zero.
+#[tactic(auto, unfolding(octets::specs::Splice::splice, octets::specs::BigEndian::octets32, rules::specs::Runs::record_octets))]
 pub fn put_record(buf: &mut [u8], count: u32, r: Record)
     requires { record_place (count + 1) ≤ length buf.old }
     ensures { buf.new ≡ splice buf.old (record_place count) (record_octets r) }
 {
-    put_at(buf, record_place(count), r);
+    let at = record_place(count);
+    write32(buf, at, r.stamp);
+    buf[at + 4..at + RECORD_SIZE].copy_from_slice(&[r.value, r.attributes, r.cause, 0]);
 }
 
-// The first so many of three records, one after the other, after those before. The room is asked for these alone: the clock
-// move at the end of a run stands where three would not fit.
-fn put_first(buf: &mut [u8], before: u32, k: [Record; 3], count: u8)
-    requires { (before ≤ 3 * most_inputs + 2) × (count ≤ 3) × (record_place (before + count) ≤ length buf.old) }
-    ensures { buf.new ≡ splice buf.old (record_place before) (records_octets (take count k)) }
-{
-    let mut j: u8 = 0;
-    while j < count {
-        let r = k[j as usize];
-        put_record(buf, before + (j as u32), r);
-        j += 1;
-    }
-}
-
-// The used records of one call, after so many.
+// The used records of one call, one after the other, after so many. The room is asked for these alone: the clock move at the end of a run stands where
+// three would not fit.
 pub fn put_notes(buf: &mut [u8], before: u32, n: Notes)
     requires { (before ≤ 3 * most_inputs + 2) × (n.count ≤ 3) × (record_place (before + n.count) ≤ length buf.old) }
     ensures { buf.new ≡ splice buf.old (record_place before) (records_octets (take n.count n.records)) }
 {
-    let k = n.records;
-    put_first(buf, before, k, n.count);
+    for (j, r) in n.records[..n.count as usize].iter().enumerate() {
+        put_record(buf, before + j as u32, *r);
+    }
 }
 
 // The record of a timer or an input, where it wrote one, after so many; how many records stand in the buffer then.

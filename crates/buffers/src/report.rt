@@ -5,5 +5,5 @@ ghost use Rattle.std.specs.Prelude.{◌≡◌, ◌+◌, ◌*◌, ◌^◌};
 pub fn pack(code: u8, place: u16, count: u32) -> u64
     ensures { result ≡ code * 2 ^ 48 + place * 2 ^ 32 + count }
 {
-    (code as u64) * 281474976710656 + (place as u64) * 4294967296 + (count as u64)
+    (u64::from(code) << 48) + (u64::from(place) << 32) + u64::from(count)
 }
