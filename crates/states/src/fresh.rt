@@ -9,6 +9,7 @@ use rules::phase::Phase;
 use rules::state::{Link, State};
 
 // The fresh state of these parameters and scenes.
+#[tactic(auto, unfolding(rules::specs::Steps::fresh))]
 pub fn fresh_with(p: Params, k: [Scene; 8]) -> State
     ensures { result ≡ fresh p k }
 {
@@ -27,6 +28,7 @@ pub fn fresh_with(p: Params, k: [Scene; 8]) -> State
 }
 
 // The state of a refusal where none was handed in: version 1, TimedOn 1 second, all else 0, no scenes.
+#[tactic(auto, unfolding(rules::specs::Calls::own_state, rules::specs::Calls::least_params, rules::specs::Calls::no_scenes, rules::specs::Calls::unused))]
 pub fn own_state() -> State
     ensures { result ≡ own_state }
 {
@@ -48,10 +50,5 @@ pub fn own_state() -> State
         value: false,
         taught: false,
     };
-    fresh_with(
-        p,
-        [
-            unused, unused, unused, unused, unused, unused, unused, unused,
-        ],
-    )
+    fresh_with(p, [unused; 8])
 }

@@ -1,10 +1,10 @@
 // Whether a state that a caller hands in is sound: one test for each rule.
-ghost use Rattle.std.specs.Prelude.{◌≡◌, ◌≤◌, ◌%◌, eqb};
+ghost use Rattle.std.specs.Prelude.{◌≡◌, ◌||◌, ◌≤◌, ◌%◌, eqb};
 ghost use Rattle.rules.specs.Forms.{unit};
 ghost use Rattle.rules.specs.Parameters.{time_in_range, times_in_range, modes_in_range, params_in_range};
-ghost use Rattle.rules.specs.Soundness.{soon, is_dark, is_lit, agrees, held_is_steady, force_decides, night_ends, power_down_is_clear, consistent, sound};
+ghost use Rattle.rules.specs.Soundness.{soon, agrees, held_is_steady, force_decides, night_ends, power_down_is_clear, consistent, sound};
+ghost use Rattle.rules.specs.Orders.{standing};
 
-use base::logic::{both, either, negated};
 use base::moment::{LAST_STAMP, LONGEST_DELAY};
 use lamps::flags::{power_is_down, stands};
 use layout::{form_of, is_version};
@@ -12,8 +12,8 @@ use phases::phase::deadline_of;
 use rules::form::Scale;
 use rules::input::Force;
 use rules::parameters::Params;
-use rules::phase::Phase;
-use rules::state::{Link, State};
+use rules::phase::{Deadline, Phase};
+use rules::state::State;
 use scenes::range::scenes_in_range;
 
 // The tenths that 1 lasts.
@@ -37,91 +37,59 @@ fn is_whole(scale: Scale, t: u32) -> bool
 }
 
 // A time that this scale can write.
+#[tactic(auto, unfolding(rules::specs::Parameters::time_in_range))]
 fn time_in_range(scale: Scale, t: u32) -> bool
     ensures { result ≡ time_in_range scale t }
 {
-    let short = t <= LONGEST_DELAY;
-    both(short, is_whole(scale, t))
+    t <= LONGEST_DELAY && is_whole(scale, t)
 }
 
+#[tactic(auto, unfolding(rules::specs::Parameters::times_in_range))]
 fn times_in_range(scale: Scale, p: Params) -> bool
     ensures { result ≡ times_in_range scale p }
 {
-    let switched = both(
-        time_in_range(scale, p.ondelay),
-        time_in_range(scale, p.offdelay),
-    );
-    let staged = both(
-        time_in_range(scale, p.timedon),
-        time_in_range(scale, p.prewarning),
-    );
-    let some = unit_of(scale) <= p.timedon;
-    both(both(switched, staged), some)
+    time_in_range(scale, p.ondelay)
+        && time_in_range(scale, p.offdelay)
+        && time_in_range(scale, p.timedon)
+        && time_in_range(scale, p.prewarning)
+        && unit_of(scale) <= p.timedon
 }
 
+#[tactic(auto, unfolding(rules::specs::Parameters::modes_in_range))]
 fn modes_in_range(p: Params) -> bool
     ensures { result ≡ modes_in_range p }
 {
-    let locking = p.locking <= 2;
-    let unlocking = p.unlocking <= 3;
-    let failure = p.busfailure <= 2;
-    let back = p.busreturn <= 2;
-    let power = p.powerreturn <= 2;
-    both(both(both(locking, unlocking), both(failure, back)), power)
+    p.locking <= 2
+        && p.unlocking <= 3
+        && p.busfailure <= 2
+        && p.busreturn <= 2
+        && p.powerreturn <= 2
 }
 
 // In range for the version that the state keeps.
+#[tactic(auto, unfolding(rules::specs::Parameters::params_in_range))]
 fn params_in_range(p: Params) -> bool
     ensures { result ≡ params_in_range p }
 {
-    let version = p.version as u32;
-    let form = form_of(version);
-    let scale = form.scale;
-    both(
-        both(is_version(version), times_in_range(scale, p)),
-        modes_in_range(p),
-    )
+    let version = u32::from(p.version);
+    is_version(version) && times_in_range(form_of(version).scale, p) && modes_in_range(p)
 }
 
-fn is_soon(clock: u32, deadline: Option<u32>) -> bool
+#[tactic(auto, unfolding(rules::specs::Soundness::soon))]
+fn is_soon(clock: u32, deadline: Deadline) -> bool
     ensures { result ≡ soon clock deadline }
 {
     match deadline {
-        None => true,
-        Some(d) => {
-            if clock < d {
-                d - clock <= LONGEST_DELAY
-            } else {
-                false
-            }
-        }
+        Deadline::Never => true,
+        Deadline::At(d) => clock < d && d - clock <= LONGEST_DELAY,
     }
 }
 
-fn is_dark(phase: Phase) -> bool
-    ensures { result ≡ is_dark phase }
+// Whether lock or force stands.
+fn is_held(s: &State) -> bool
+    ensures { result ≡ (s.now.lock || standing s.now.force) }
 {
-    match phase {
-        Phase::Dark => true,
-        Phase::Lit => false,
-        Phase::Starting(_, _) => false,
-        Phase::Timed(_) => false,
-        Phase::Warning(_) => false,
-        Phase::Ending(_) => false,
-    }
-}
-
-fn is_lit(phase: Phase) -> bool
-    ensures { result ≡ is_lit phase }
-{
-    match phase {
-        Phase::Dark => false,
-        Phase::Lit => true,
-        Phase::Starting(_, _) => false,
-        Phase::Timed(_) => false,
-        Phase::Warning(_) => false,
-        Phase::Ending(_) => false,
-    }
+    s.lock || stands(s.force)
 }
 
 fn force_agrees(force: Force, phase: Phase) -> bool
@@ -129,83 +97,53 @@ fn force_agrees(force: Force, phase: Phase) -> bool
 {
     match force {
         Force::Free => true,
-        Force::Off => is_dark(phase),
-        Force::On => is_lit(phase),
+        Force::Off => phase == Phase::Dark,
+        Force::On => phase == Phase::Lit,
     }
 }
 
-fn held_is_steady(lock: bool, force: Force, phase: Phase) -> bool
-    ensures { result ≡ held_is_steady lock force phase }
+#[tactic(auto, unfolding(rules::specs::Soundness::held_is_steady))]
+fn held_is_steady(s: &State) -> bool
+    ensures { result ≡ held_is_steady s.now.lock s.now.force s.now.phase }
 {
-    if either(lock, stands(force)) {
-        either(is_dark(phase), is_lit(phase))
-    } else {
-        true
-    }
+    !is_held(s) || s.phase == Phase::Dark || s.phase == Phase::Lit
 }
 
-fn force_decides(lock: bool, force: Force, phase: Phase) -> bool
-    ensures { result ≡ force_decides lock force phase }
+#[tactic(auto, unfolding(rules::specs::Soundness::force_decides))]
+fn force_decides(s: &State) -> bool
+    ensures { result ≡ force_decides s.now.lock s.now.force s.now.phase }
 {
-    if lock {
-        true
-    } else {
-        force_agrees(force, phase)
-    }
+    s.lock || force_agrees(s.force, s.phase)
 }
 
-fn night_ends(night: bool, lock: bool, force: Force, phase: Phase) -> bool
-    ensures { result ≡ night_ends night lock force phase }
+#[tactic(auto, unfolding(rules::specs::Soundness::night_ends))]
+fn night_ends(s: &State) -> bool
+    ensures { result ≡ night_ends s.now.night s.now.lock s.now.force s.now.phase }
 {
-    if both(night, is_lit(phase)) {
-        either(lock, stands(force))
-    } else {
-        true
-    }
+    !(s.night && s.phase == Phase::Lit) || is_held(s)
 }
 
-fn power_down_is_clear(link: Link, night: bool, lock: bool, force: Force, phase: Phase) -> bool
-    ensures { result ≡ power_down_is_clear link night lock force phase }
+#[tactic(auto, unfolding(rules::specs::Soundness::power_down_is_clear))]
+fn power_down_is_clear(s: &State) -> bool
+    ensures { result ≡ power_down_is_clear s.now.link s.now.night s.now.lock s.now.force s.now.phase }
 {
-    if power_is_down(link) {
-        both(
-            is_dark(phase),
-            negated(either(either(night, lock), stands(force))),
-        )
-    } else {
-        true
-    }
+    !power_is_down(s.link) || s.phase == Phase::Dark && !(s.night || is_held(s))
 }
 
-fn is_consistent(night: bool, lock: bool, force: Force, link: Link, phase: Phase) -> bool
-    ensures { result ≡ consistent night lock force link phase }
+#[tactic(auto, unfolding(rules::specs::Soundness::consistent))]
+fn is_consistent(s: &State) -> bool
+    ensures { result ≡ consistent s.now.night s.now.lock s.now.force s.now.link s.now.phase }
 {
-    let steady = both(
-        held_is_steady(lock, force, phase),
-        force_decides(lock, force, phase),
-    );
-    both(
-        steady,
-        both(
-            night_ends(night, lock, force, phase),
-            power_down_is_clear(link, night, lock, force, phase),
-        ),
-    )
+    held_is_steady(s) && force_decides(s) && night_ends(s) && power_down_is_clear(s)
 }
 
+#[tactic(auto, unfolding(rules::specs::Soundness::sound))]
 pub fn is_sound(s: State) -> bool
     ensures { result ≡ sound s }
 {
-    let p = s.params;
-    let k = s.scenes;
-    let f = s.force;
-    let l = s.link;
-    let ph = s.phase;
-    let timely = s.clock <= LAST_STAMP;
-    let ranges = both(params_in_range(p), scenes_in_range(k));
-    let clock = both(timely, is_soon(s.clock, deadline_of(ph)));
-    both(
-        both(ranges, clock),
-        is_consistent(s.night, s.lock, f, l, ph),
-    )
+    params_in_range(s.params)
+        && scenes_in_range(s.scenes)
+        && s.clock <= LAST_STAMP
+        && is_soon(s.clock, deadline_of(s.phase))
+        && is_consistent(&s)
 }
