@@ -1,12 +1,12 @@
 -- The laws of what is put into a lent buffer.
 use Prim.Native.Nat.{ℕ, suc, ◌+◌, ◌≤◌, ◌<◌}
 use mathlib.Core.List.{List, [], ◌∷◌, ◌++◌, append_assoc, append-nil}
-use mathlib.Core.Path.{◌≡◌, refl, sym, ap, ◌∙◌}
+use mathlib.Core.Path.{◌≡◌, sym, ap, ◌∙◌}
 use native.Mathlib.Nat.{add-zero, add_assoc}
 use native.Mathlib.Numerals.{add-one}
 use native.Mathlib.Omega.{arith}
 use lib.ListN.{length, take, drop, get_or, set, length-append, take-append-drop, get_or-append}
-use lib.Seq.{sets, sets-eq, take_at, drop_at, drop-drop, length-take-le, set_at, drop-cons, append_snoc, get_or-append-add}
+use lib.Seq.{take_at, drop_at, drop-drop, length-take-le, set_at, drop-cons, append_snoc, get_or-append-add}
 use borrow.Rule.Slice.PartMut.{put_mid}
 use Rattle.octets.specs.BigEndian.{octet}
 use Rattle.octets.specs.Splice.{splice}
@@ -49,9 +49,3 @@ set_splice b i x h =
 -- one octet more after the front that was replaced
 pub octet_more : (b c : List ℕ) (i x : ℕ) (xs : List ℕ) → c ≡ splice b 0 xs → length xs ≡ i → i < length c → set c i x ≡ splice b 0 (xs ++ (x ∷ []))
 octet_more b c i x xs p e h = set_splice c i x h ∙ rw p (splice_splice b 0 i xs (x ∷ []) (omega arith) (omega arith))
-
--- octets stored one after the other, right after others that were put
-pub sets_after : (b c : List ℕ) (at : ℕ) (xs ys : List ℕ) → c ≡ splice b at xs → at ≤ length b → at + length xs + length ys ≤ length c → sets c (at + length xs) ys ≡ splice b at (xs ++ ys)
-sets_after b c at xs ys e within room =
-    let put : sets c (at + length xs) ys ≡ splice c (at + length xs) ys = unfold splice in sets-eq ys c (at + length xs) room in
-    put ∙ rw e (splice_splice b at (at + length xs) xs ys within refl)
