@@ -13,6 +13,8 @@ use rules::state::{Link, State};
 
 const PARAMETERS_END: usize = 40;
 
+// The link of a number in an image.
+// Stays: a `From` would have to stand in `rules`, which has types and rules and no code.
 #[tactic(auto, unfolding(rules::specs::Answers::link_of))]
 fn link_of(number: u8) -> Link
     ensures { result ≡ link_of number }
@@ -24,6 +26,8 @@ fn link_of(number: u8) -> Link
     }
 }
 
+// The phase of a number in an image, with this deadline if it has one.
+// Stays: for the reason of `link_of`.
 #[tactic(auto, unfolding(rules::specs::Answers::phase_of))]
 fn phase_of(number: u8, deadline: u32) -> Phase
     ensures { result ≡ phase_of number deadline }

@@ -8,6 +8,7 @@ ghost use Rattle.octets.specs.Splice.{splice};
 pub mod group;
 
 // The number in the two octets from a place on.
+// Stays: `from_be_bytes` is a method of each number type and of no trait, so that one function for both sizes would need a trait of its own.
 pub fn read16(s: &[u8], at: usize) -> u32
     requires { at + 2 ≤ length s.now }
     ensures { (result ≡ be16 s.now at) × (result < 65536) }

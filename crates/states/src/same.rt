@@ -9,6 +9,8 @@ use rules::input::Force;
 use rules::phase::Phase;
 use rules::state::Link;
 
+// The number of a phase in an image.
+// Stays: a `From` would have to stand in `rules`, which has types and rules and no code.
 pub fn phase_number(phase: Phase) -> u8
     ensures { result ≡ phase_number phase }
 {
@@ -30,6 +32,8 @@ pub fn same_phase(a: Phase, b: Phase) -> bool
     a == b
 }
 
+// The same for a force.
+// Stays: for the reason of `phase_number`.
 pub fn force_number(force: Force) -> u8
     ensures { result ≡ force_number force }
 {
@@ -40,12 +44,15 @@ pub fn force_number(force: Force) -> u8
     }
 }
 
+// The same for a link: they stand in this order.
 pub fn link_number(link: Link) -> u8
     ensures { result ≡ link_number link }
 {
     link as u8
 }
 
+// What lamps hold beside clock and phase.
+// Stays: a derived == would compare the clock too.
 #[tactic(auto, unfolding(rules::specs::Answers::same_flags))]
 fn same_flags(a: Lamp, b: Lamp) -> bool
     ensures { result ≡ same_flags (alone a) (alone b) }
