@@ -1,4 +1,5 @@
 -- The scene table as a list: what its definitions are of the list functions that the code calls.
+use Rattle.std.specs.Prelude.{Some, None, Option}
 use Prim.Native.Nat.{ℕ, suc, ◌+◌, ◌<◌, ◌≤◌}
 use mathlib.Core.Bool.{Bool, true, false, not, cond}
 use mathlib.Core.List.{List, [], ◌∷◌}
@@ -9,13 +10,9 @@ use lib.Dec.{eqb, ltb}
 use borrow.Author.Tests.{ltb-true, ltb-false}
 use lib.Pointwise.{pointwise}
 use Rattle.std.specs.List.{find, list_all, position, position_or_len}
-use Rattle.std.specs.declared.option.Option.{Option}
-use Rattle.std.specs.declared.option.Option.TheVariants.{Some, None}
 use Rattle.rules.specs.declared.parameters.Scene.{Scene}
 use Rattle.rules.specs.Scenes.{absent, recalled, learnt}
 use Rattle.rules.specs.Answers.{same_scene, same_scenes}
-use Rattle.rules.specs.declared.parameters.Recalled.{Recalled}
-use Rattle.rules.specs.declared.parameters.Recalled.TheVariants.{Nothing, Output}
 
 -- what an array of scenes is read with past its end
 abbrev pub past : Scene
@@ -36,9 +33,9 @@ absent_is_all [] number = refl
 absent_is_all (e ∷ k) number = rw (absent_is_all k number)
 
 -- what the entry that is found tells
-abbrev pub told : Option Scene → Recalled
-told None = Nothing
-told (Some e) = cond e.taught (Output e.value) Nothing
+abbrev pub told : Option Scene → Option Bool
+told None = None
+told (Some e) = cond e.taught (Some e.value) None
 
 abbrev pub has : ℕ → Scene → Bool
 has number e = eqb e.number number
@@ -47,7 +44,7 @@ recalled_is_found : (k : List Scene) (number : ℕ) → told (find (has number) 
 unfolding recalled
 recalled_is_found [] number = refl
 recalled_is_found (e ∷ k) number =
-    elim (eqb e.number number) as (λ b. told (cond b (Some e) (find (has number) k)) ≡ cond b (cond e.taught (Output e.value) Nothing) (recalled k number))
+    elim (eqb e.number number) as (λ b. told (cond b (Some e) (find (has number) k)) ≡ cond b (cond e.taught (Some e.value) None) (recalled k number))
     [ true ↦ refl | false ↦ recalled_is_found k number ]
 
 pub recalled_if_found : (k : List Scene) (number : ℕ) (found : Option Scene) → found ≡ find (has number) k → told found ≡ recalled k number

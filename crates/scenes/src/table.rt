@@ -2,15 +2,15 @@
 ghost use Rattle.std.specs.Prelude.{◌≡◌};
 ghost use Rattle.rules.specs.Scenes.{recalled, learnt};
 
-use rules::parameters::{Recalled, Scene};
+use rules::parameters::Scene;
 
 // What recalling a number asks for: the first entry of that number tells, where it was taught.
-pub fn recalls(k: [Scene; 8], number: u8) -> Recalled
+pub fn recalls(k: [Scene; 8], number: u8) -> Option<bool>
     ensures { result ≡ recalled k number }
 {
     match k.iter().find(|e| e.number == number) {
-        Some(e) if e.taught => Recalled::Output(e.value),
-        _ => Recalled::Nothing,
+        Some(e) if e.taught => Some(e.value),
+        _ => None,
     }
 }
 

@@ -12,7 +12,7 @@ use phases::phase::deadline_of;
 use rules::form::Scale;
 use rules::input::Force;
 use rules::parameters::Params;
-use rules::phase::{Deadline, Phase};
+use rules::phase::Phase;
 use rules::state::State;
 use scenes::range::scenes_in_range;
 
@@ -76,12 +76,12 @@ fn params_in_range(p: Params) -> bool
 }
 
 #[tactic(auto, unfolding(rules::specs::Soundness::soon))]
-fn is_soon(clock: u32, deadline: Deadline) -> bool
+fn is_soon(clock: u32, deadline: Option<u32>) -> bool
     ensures { result ≡ soon clock deadline }
 {
     match deadline {
-        Deadline::Never => true,
-        Deadline::At(d) => clock < d && d - clock <= LONGEST_DELAY,
+        None => true,
+        Some(d) => clock < d && d - clock <= LONGEST_DELAY,
     }
 }
 

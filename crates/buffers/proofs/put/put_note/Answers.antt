@@ -4,8 +4,8 @@ use native.Mathlib.Omega.{arith}
 use mathlib.Core.Path.{sym, ◌∙◌, ap}
 use Rattle.buffers.proofs.put.put_note.Goals as goal
 
-pub returns-in-Silent : goal.returns-in-Silent
-returns-in-Silent c = rw c.in-Silent.is (omega arith, records_none _ _)
+pub returns-in-None : goal.returns-in-None
+returns-in-None c = rw c.in-None.is (omega arith, records_none _ _)
 
-pub returns-in-Wrote : goal.returns-in-Wrote
-returns-in-Wrote c = rw c.in-Wrote.is (omega arith, c.put_record.ensures ∙ ap (splice _ _) (sym (records_one _)))
+pub returns-in-Some : goal.returns-in-Some
+returns-in-Some c = rw c.in-Some.is (omega arith, c.put_record.ensures ∙ ap (splice _ _) (sym (records_one _)))
