@@ -6,90 +6,72 @@ use states::same::phase_number;
 use std::io;
 use std::io::Write;
 
-// A word, and numbers, each after a space.
-fn print_line<W: Write>(out: &mut W, word: &[u8], numbers: &[u64]) -> io::Result<()> {
-    out.write_all(word)?;
-    for number in numbers {
-        write!(out, " {number}")?;
+// What writes the lines, those of the phase only where they are wanted.
+#[derive(Drop)]
+pub(crate) struct Printout<W> {
+    pub out: W,
+    pub phases: bool,
+}
+
+impl<W: Write> Printout<W> {
+    // OK: count of inputs.
+    pub fn accepted(&mut self, inputs: usize) -> io::Result<()> {
+        writeln!(self.out, "OK {inputs}")
     }
-    out.write_all(b"\n")
-}
 
-// The last line; a writer that holds lines back writes them with it.
-fn print_last<W: Write>(out: &mut W, word: &[u8], numbers: &[u64]) -> io::Result<()> {
-    print_line(out, word, numbers)?;
-    out.flush()
-}
-
-// OK: count of inputs.
-pub fn print_accepted<W: Write>(out: &mut W, inputs: u32) -> io::Result<()> {
-    print_line(out, b"OK", &[inputs as u64])
-}
-
-// NO: code, place.
-pub fn print_refused<W: Write>(out: &mut W, code: u8, place: u16) -> io::Result<()> {
-    print_last(out, b"NO", &[code as u64, place as u64])
-}
-
-// E: count of records.
-pub fn print_end<W: Write>(out: &mut W, records: u64) -> io::Result<()> {
-    print_last(out, b"E", &[records])
-}
-
-// A: input index from 0, answer.
-pub fn print_answer<W: Write>(out: &mut W, index: u32, answer: u8) -> io::Result<()> {
-    print_line(out, b"A", &[index as u64, answer as u64])
-}
-
-// S: input index from 0, value; only where something was sent, and then the kind of it is 1.
-pub fn print_sent<W: Write>(out: &mut W, index: u32, sent: [u8; 8]) -> io::Result<()> {
-    if sent[4] == 1 {
-        print_line(out, b"S", &[index as u64, sent[5] as u64])?;
+    // NO: code, place. It is the last line; a writer that holds lines back writes them with it.
+    pub fn refused(&mut self, code: u8, place: u16) -> io::Result<()> {
+        writeln!(self.out, "NO {code} {place}")?;
+        self.out.flush()
     }
-    Ok(())
-}
 
-// R: stamp, value, attributes, cause.
-pub fn print_record<W: Write>(out: &mut W, r: Record) -> io::Result<()> {
-    print_line(
-        out,
-        b"R",
-        &[
-            r.stamp as u64,
-            r.value as u64,
-            r.attributes as u64,
-            r.cause as u64,
-        ],
-    )
-}
+    // E: count of records. It is the last line, as NO is.
+    pub fn end(&mut self, records: u32) -> io::Result<()> {
+        writeln!(self.out, "E {records}")?;
+        self.out.flush()
+    }
 
-// The first n of three records.
-pub fn print_records<W: Write>(out: &mut W, k: [Record; 3], n: u8) -> io::Result<()> {
-    if n > 0 {
-        print_record(out, k[0])?;
+    // A: input index from 0, answer.
+    pub fn answer(&mut self, index: usize, answer: u8) -> io::Result<()> {
+        writeln!(self.out, "A {index} {answer}")
     }
-    if n > 1 {
-        print_record(out, k[1])?;
-    }
-    if n > 2 {
-        print_record(out, k[2])?;
-    }
-    Ok(())
-}
 
-// P: clock, number of the phase as in an image, its deadline, 0 where it has none; only where it is asked for.
-pub fn print_phase<W: Write>(out: &mut W, s: State, wanted: bool) -> io::Result<()> {
-    let phase = s.phase;
-    if wanted {
-        print_line(
-            out,
-            b"P",
-            &[
-                s.clock as u64,
-                phase_number(phase) as u64,
-                due_at(phase) as u64,
-            ],
-        )?;
+    // S: input index from 0, value; only where something was sent, and then the kind of it is 1.
+    pub fn sent(&mut self, index: usize, sent: [u8; 8]) -> io::Result<()> {
+        match sent {
+            [_, _, _, _, 1, value, _, _] => writeln!(self.out, "S {index} {value}"),
+            _ => Ok(()),
+        }
     }
-    Ok(())
+
+    // R: stamp, value, attributes, cause.
+    pub fn record(&mut self, r: Record) -> io::Result<()> {
+        writeln!(
+            self.out,
+            "R {} {} {} {}",
+            r.stamp, r.value, r.attributes, r.cause
+        )
+    }
+
+    // The first of some records.
+    pub fn records(&mut self, records: &[Record], count: u8) -> io::Result<()> {
+        for r in records.iter().take(count as usize) {
+            self.record(*r)?;
+        }
+        Ok(())
+    }
+
+    // P: clock, number of the phase as in an image, its deadline, 0 where it has none.
+    pub fn phase(&mut self, s: State) -> io::Result<()> {
+        if self.phases {
+            writeln!(
+                self.out,
+                "P {} {} {}",
+                s.clock,
+                phase_number(s.phase),
+                due_at(s.phase)
+            )?;
+        }
+        Ok(())
+    }
 }

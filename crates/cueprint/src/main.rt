@@ -9,38 +9,17 @@
 mod lines;
 mod play;
 mod read;
+mod show;
 
 use anyhow::Context;
-use base::refusal::{Refused, number_of};
-use cues::check::check_file;
-use sensor::call::fresh_sensor;
-use sensor::state::own_sensor;
+use base::refusal::number_of;
+use lines::Printout;
 use std::env::Env;
 use std::io;
-use std::io::Write;
-use wallfile::{actions_in, check_wall, file_in};
 
-// A cue file, with no button beside it.
-fn print_file<W: Write>(out: &mut W, file: &[u8], phases: bool) -> io::Result<()> {
-    let check = check_file(file);
-    match check {
-        Ok(()) => play::play_file(out, file, own_sensor(), phases),
-        Err(Refused { why, place }) => lines::print_refused(out, number_of(why), place),
-    }
-}
-
-// A wall list.
-fn print_wall<W: Write>(out: &mut W, wall: &[u8], phases: bool) -> io::Result<()> {
-    let check = check_wall(wall);
-    match check {
-        Ok(()) => {
-            let f = fresh_sensor(actions_in(wall));
-            let z = f.sensor;
-            play::play_file(out, file_in(wall), z, phases)
-        }
-        Err(Refused { why, place }) => lines::print_refused(out, number_of(why), place),
-    }
-}
+// The longest wall list, of version 2, has 60 + 8 * 2048 + 4 octets, the longest cue file four less. One octet more is read, so that what is
+// longer is seen to be too long.
+const ROOM: usize = 60 + 8 * 2048 + 4 + 1;
 
 // Whether the word at this place behind the program's name begins with a letter. Of a word that is longer the first eight octets are read.
 fn begins_with(rt: &impl Env, place: usize, letter: u8) -> bool {
@@ -51,23 +30,25 @@ fn begins_with(rt: &impl Env, place: usize, letter: u8) -> bool {
 
 // Whether the program was started with a word that begins with a letter; it takes two words.
 fn told(rt: &impl Env, letter: u8) -> bool {
-    if begins_with(rt, 1, letter) {
-        return true;
-    }
-    begins_with(rt, 2, letter)
+    begins_with(rt, 1, letter) || begins_with(rt, 2, letter)
 }
 
-// The longest wall list, of version 2, has 60 + 8 * 2048 + 4 octets, the longest cue file four less. One octet more is read, so that what is
-// longer is seen to be too long.
 fn main(rt: HostRuntime) -> anyhow::Result<()> {
-    let mut list = [0u8; 16449];
-    let n = read::read_full(&mut rt.stdin(), &mut list).context("the list cannot be read")?;
-    let phases = told(&rt, b'p');
-    let mut out = io::writer(&rt);
-    let printed = if told(&rt, b'w') {
-        print_wall(&mut out, &list[..n], phases)
+    let mut room = [0u8; ROOM];
+    let n = read::read_full(&mut rt.stdin(), &mut room).context("the list cannot be read")?;
+    let list = &room[..n];
+    let mut printout = Printout {
+        out: io::writer(&rt),
+        phases: told(&rt, b'p'),
+    };
+    let found = if told(&rt, b'w') {
+        show::wall_list(list)
     } else {
-        print_file(&mut out, &list[..n], phases)
+        show::cue_file(list)
+    };
+    let printed = match found {
+        Ok(show) => play::play(&mut printout, show),
+        Err(refused) => printout.refused(number_of(refused.why), refused.place),
     };
     printed.context("the printout cannot be written")
 }

@@ -1,13 +1,13 @@
 // An accepted list, played to a pair of actuator and sensor, and what is printed of it as it happens.
-ghost use Rattle.std.specs.Prelude.{◌+◌, ◌*◌, ◌≤◌, length, IfOk};
-ghost use Rattle.rules.specs.Layout.{most_inputs, input_place};
-ghost use Rattle.rules.specs.Refusals.{GoodHeader};
+ghost use Rattle.std.specs.Prelude.{◌*◌, ◌≤◌, length, IfOk};
+ghost use Rattle.rules.specs.Layout.{most_inputs};
 
-use crate::lines;
-use cues::header::{end_time, form_in, input_count};
+use crate::lines::Printout;
+use crate::show::Show;
+use cues::header::{end_time, form_in};
 use joined::pair::{joined_input, joined_move};
 use lamps::lamp::lamp_of;
-use layout::{input_place, inputs_in, parameters_in};
+use layout::{INPUT_SIZE, inputs_in, parameters_in};
 use live::fresh::fresh_state;
 use octets::group::stamp_at;
 use phases::phase::due_at;
@@ -17,204 +17,88 @@ use sensor::state::Sensor;
 use std::io;
 use std::io::Write;
 
-// Both states after something was played, and how many records that printed.
-#[derive(Clone, Copy)]
-struct Played {
+// The pair, and the printout of what it does. What plays something says how many records that printed.
+#[derive(Drop)]
+struct Player<'a, W> {
+    printout: &'a mut Printout<W>,
     state: State,
     sensor: Sensor,
-    count: u32,
 }
 
-// The clock moves. It writes at most two records, so what stands third is never printed.
-fn play_move<W: Write>(
-    out: &mut W,
-    s: State,
-    z: Sensor,
-    stamp: u32,
-    phases: bool,
-) -> io::Result<Played>
-    ensures { IfOk result (λ r. r.count ≤ 255) }
-{
-    let m = joined_move(s, z, stamp);
-    let k = m.records;
-    let state = m.state;
-    let sensor = m.sensor;
-    lines::print_records(out, [k[0], k[1], k[1]], m.count)?;
-    lines::print_phase(out, state, phases)?;
-    Ok(Played {
-        state,
-        sensor,
-        count: m.count as u32,
-    })
-}
-
-// The next timer, where it is due by a stamp: the clock moves to its own moment. (A phase without end says 0, and so does none that has one.)
-fn play_timer<W: Write>(
-    out: &mut W,
-    s: State,
-    z: Sensor,
-    stamp: u32,
-    phases: bool,
-) -> io::Result<Played>
-    ensures { IfOk result (λ r. r.count ≤ 255) }
-{
-    let phase = s.phase;
-    let due = due_at(phase);
-    if due > 0 && due <= stamp {
-        return play_move(out, s, z, due, phases);
+impl<W: Write> Player<'_, W> {
+    // The clock moves.
+    fn play_move(&mut self, stamp: u32) -> io::Result<u32>
+        ensures { IfOk result (λ count. count ≤ 255) }
+    {
+        let moved = joined_move(self.state, self.sensor, stamp);
+        self.state = moved.state;
+        self.sensor = moved.sensor;
+        self.printout.records(&moved.records, moved.count)?;
+        self.printout.phase(self.state)?;
+        Ok(u32::from(moved.count))
     }
-    Ok(Played {
-        state: s,
-        sensor: z,
-        count: 0,
-    })
-}
 
-// All timers that are due by a stamp, one after the other: there are at most three.
-fn play_timers<W: Write>(
-    out: &mut W,
-    s: State,
-    z: Sensor,
-    stamp: u32,
-    phases: bool,
-) -> io::Result<Played>
-    ensures { IfOk result (λ r. r.count ≤ 765) }
-{
-    let first = play_timer(out, s, z, stamp, phases)?;
-    let second = play_timer(out, first.state, first.sensor, stamp, phases)?;
-    let third = play_timer(out, second.state, second.sensor, stamp, phases)?;
-    let state = third.state;
-    let sensor = third.sensor;
-    Ok(Played {
-        state,
-        sensor,
-        count: first.count + second.count + third.count,
-    })
-}
-
-// The octets of input i.
-fn input_octets(inputs: &[u8], i: u32) -> [u8; 8]
-    requires { input_place (i + 1) ≤ length inputs.now }
-{
-    let at = input_place(i);
-    [
-        inputs[at],
-        inputs[at + 1],
-        inputs[at + 2],
-        inputs[at + 3],
-        inputs[at + 4],
-        inputs[at + 5],
-        inputs[at + 6],
-        inputs[at + 7],
-    ]
-}
-
-// Input i, once the timers due by its stamp have run: what it sent, its own record, its answer.
-fn play_input<W: Write>(
-    out: &mut W,
-    s: State,
-    z: Sensor,
-    octets: [u8; 8],
-    i: u32,
-    phases: bool,
-) -> io::Result<Played>
-    ensures { IfOk result (λ r. r.count ≤ 255) }
-{
-    let o = joined_input(s, z, octets);
-    let k = o.records;
-    let sent = o.sent;
-    let state = o.state;
-    let sensor = o.sensor;
-    lines::print_sent(out, i, sent)?;
-    lines::print_records(out, k, o.count)?;
-    lines::print_answer(out, i, o.answer)?;
-    lines::print_phase(out, state, phases)?;
-    Ok(Played {
-        state,
-        sensor,
-        count: o.count as u32,
-    })
-}
-
-// The timers due by the stamp of input i, then the input.
-fn play_turn<W: Write>(
-    out: &mut W,
-    s: State,
-    z: Sensor,
-    inputs: &[u8],
-    i: u32,
-    phases: bool,
-) -> io::Result<Played>
-    requires { input_place (i + 1) ≤ length inputs.now }
-    ensures { IfOk result (λ r. r.count ≤ 1020) }
-{
-    let waited = play_timers(out, s, z, stamp_at(inputs, input_place(i)), phases)?;
-    let turn = play_input(
-        out,
-        waited.state,
-        waited.sensor,
-        input_octets(inputs, i),
-        i,
-        phases,
-    )?;
-    let state = turn.state;
-    let sensor = turn.sensor;
-    Ok(Played {
-        state,
-        sensor,
-        count: waited.count + turn.count,
-    })
-}
-
-// The inputs, in list order.
-fn play_inputs<W: Write>(
-    out: &mut W,
-    start: State,
-    fresh: Sensor,
-    inputs: &[u8],
-    n: u32,
-    phases: bool,
-) -> io::Result<Played>
-    requires { (n ≤ most_inputs) × (input_place n ≤ length inputs.now) }
-    ensures { IfOk result (λ r. r.count ≤ 1020 * most_inputs) }
-{
-    let mut s = start;
-    let mut z = fresh;
-    let mut count: u32 = 0;
-    for i in 0..n {
-        let turn = play_turn(out, s, z, inputs, i, phases)?;
-        let state = turn.state;
-        let sensor = turn.sensor;
-        s = state;
-        z = sensor;
-        count += turn.count;
+    // The next timer, where it is due by a stamp: the clock moves to its own moment. (A phase without end says 0, and so does none that has one.)
+    fn play_timer(&mut self, stamp: u32) -> io::Result<u32>
+        ensures { IfOk result (λ count. count ≤ 255) }
+    {
+        let due = due_at(self.state.phase);
+        if due > 0 && due <= stamp {
+            self.play_move(due)
+        } else {
+            Ok(0)
+        }
     }
-    Ok(Played {
-        state: s,
-        sensor: z,
-        count,
-    })
+
+    // All timers that are due by a stamp, one after the other: there are at most three.
+    fn play_timers(&mut self, stamp: u32) -> io::Result<u32>
+        ensures { IfOk result (λ count. count ≤ 765) }
+    {
+        Ok(self.play_timer(stamp)? + self.play_timer(stamp)? + self.play_timer(stamp)?)
+    }
+
+    // Input i, once the timers due by its stamp have run: what it sent, its own record, its answer.
+    fn play_input(&mut self, i: usize, octets: [u8; INPUT_SIZE]) -> io::Result<u32>
+        ensures { IfOk result (λ count. count ≤ 255) }
+    {
+        let done = joined_input(self.state, self.sensor, octets);
+        self.state = done.state;
+        self.sensor = done.sensor;
+        self.printout.sent(i, done.sent)?;
+        self.printout.records(&done.records, done.count)?;
+        self.printout.answer(i, done.answer)?;
+        self.printout.phase(self.state)?;
+        Ok(u32::from(done.count))
+    }
+
+    // The inputs, in list order, each after the timers due by its stamp.
+    fn play_inputs(&mut self, inputs: &[[u8; INPUT_SIZE]]) -> io::Result<u32>
+        requires { length inputs.now ≤ most_inputs }
+        ensures { IfOk result (λ count. count ≤ 1020 * most_inputs) }
+    {
+        let mut count = 0;
+        for (i, octets) in inputs.iter().enumerate() {
+            count += self.play_timers(stamp_at(octets, 0))? + self.play_input(i, *octets)?;
+        }
+        Ok(count)
+    }
 }
 
-// An accepted file, from the start record to the end time. (The start record says what a fresh sensor has: off, at 0.)
-pub(crate) fn play_file<W: Write>(
-    out: &mut W,
-    file: &[u8],
-    z: Sensor,
-    phases: bool,
-) -> io::Result<()>
-    requires { GoodHeader file.now }
-{
-    let n = input_count(file);
-    let form = form_in(file);
-    let end = end_time(file);
-    lines::print_accepted(out, n)?;
-    let f = fresh_state(parameters_in(file, form));
-    let start = f.state;
-    lines::print_record(out, record_of(0, lamp_of(start)))?;
-    lines::print_phase(out, start, phases)?;
-    let played = play_inputs(out, start, z, inputs_in(file, form), n, phases)?;
-    let waited = play_timers(out, played.state, played.sensor, end, phases)?;
-    let last = play_move(out, waited.state, waited.sensor, end, phases)?;
-    lines::print_end(out, 1 + (played.count + waited.count + last.count) as u64)
+// A list, from the start record to the end time. (The start record says what a fresh sensor has: off, at 0.)
+#[tactic(auto, using(crate::proofs::Passed::inputs_as_counted))]
+pub(crate) fn play<W: Write>(printout: &mut Printout<W>, show: Show<'_>) -> io::Result<()> {
+    let form = form_in(show.file);
+    let (inputs, _) = inputs_in(show.file, form).as_chunks();
+    printout.accepted(inputs.len())?;
+    let state = fresh_state(parameters_in(show.file, form)).state;
+    printout.record(record_of(0, lamp_of(state)))?;
+    printout.phase(state)?;
+    let mut player = Player {
+        printout,
+        state,
+        sensor: show.sensor,
+    };
+    let end = end_time(show.file);
+    let count = player.play_inputs(inputs)? + player.play_timers(end)? + player.play_move(end)?;
+    player.printout.end(1 + count)
 }

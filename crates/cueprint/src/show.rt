@@ -1,0 +1,52 @@
+// What is played: a cue file, or a wall list, which is one with the actions of a sensor behind it.
+ghost use Rattle.std.specs.Prelude.{◌≡◌, ◌≤◌, length};
+ghost use Rattle.rules.specs.Files.{input_count};
+ghost use Rattle.rules.specs.Forms.{form_in};
+ghost use Rattle.rules.specs.Layout.{least_file, most_inputs, file_size};
+
+use base::refusal::{Check, Refusal};
+use cues::check::check_file;
+use sensor::call::fresh_sensor;
+use sensor::state::{Sensor, own_sensor};
+use wallfile::{actions_in, check_wall, file_in};
+
+// A cue file that is as long as its header says, and the sensor beside its actuator.
+#[derive(Clone, Copy)]
+pub(crate) struct Show<'a> {
+    pub file: &'a [u8],
+    pub sensor: Sensor,
+    ghost least: { least_file ≤ length file.now },
+    ghost few: { input_count file.now ≤ most_inputs },
+    ghost whole: { length file.now ≡ file_size (form_in file.now) (input_count file.now) },
+}
+
+// Why a list is not played, and the place in it.
+#[derive(Clone, Copy)]
+pub(crate) struct Refused {
+    pub why: Refusal,
+    pub place: u16,
+}
+
+// A cue file, with no button beside it.
+#[tactic(auto, using(crate::proofs::Passed::passed_file))]
+pub(crate) fn cue_file(list: &[u8]) -> Result<Show<'_>, Refused> {
+    match check_file(list) {
+        Check::Passed => Ok(Show {
+            file: list,
+            sensor: own_sensor(),
+        }),
+        Check::Refused { why, place } => Err(Refused { why, place }),
+    }
+}
+
+// A wall list.
+#[tactic(auto, using(crate::proofs::Passed::passed_wall))]
+pub(crate) fn wall_list(list: &[u8]) -> Result<Show<'_>, Refused> {
+    match check_wall(list) {
+        Check::Passed => Ok(Show {
+            file: file_in(list),
+            sensor: fresh_sensor(actions_in(list)).sensor,
+        }),
+        Check::Refused { why, place } => Err(Refused { why, place }),
+    }
+}
