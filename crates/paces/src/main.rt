@@ -31,33 +31,21 @@
 // stamp in four octets, its value, its attributes, its cause.
 #![tactic(auto)]
 
-mod alone;
+mod pair;
 mod play;
-mod read;
 mod show;
-mod written;
 
+use pair::Pair;
+use play::Player;
 use std::io;
-use std::io::{Read, Write};
+use std::io::Read;
 
-// A proved loop has to end, so it counts its turns, up to a number that no run reaches.
 fn main(rt: HostRuntime) -> io::Result<()> {
-    let mut steps = rt.stdin().chain(io::repeat(0));
-    let mut out = io::writer(&rt);
-    let mut now = written::Pair {
-        state: [0; 56],
-        sensor: [0; 9],
+    let mut player = Player {
+        steps: rt.stdin().chain(io::repeat(0)),
+        out: io::writer(&rt),
+        now: Pair::ZERO,
+        kept: Pair::ZERO,
     };
-    let mut kept = now;
-    for _ in 0..u64::MAX {
-        let letter = read::octet(&mut steps)?;
-        if letter == 0 {
-            break;
-        }
-        if letter == b'K' {
-            kept = now;
-        }
-        now = play::step(&mut steps, &mut out, letter, now, kept)?;
-    }
-    out.flush()
+    player.play()
 }

@@ -1,159 +1,172 @@
-// One step of the play: what it does, and what is printed of it.
-use crate::written::{Pair, pair_of, sensor_in, sensor_octets};
-use crate::{alone, read, show};
-use images::read::state_in;
+// The play: what each step does, and what is printed of it.
+use crate::pair::{Pair, SensorOctets, StateOctets};
+use crate::show::{Octets, Part, Records, Report};
+use changes::change::change;
 use joined::pair::{joined_input, joined_move};
-use octets::read32;
-use pairs::call::{Joint, JointMove};
+use live::clock::clock_move;
+use live::single::single_input;
 use sensor::call::{fresh_sensor, sensor_input};
 use std::io;
 use std::io::{Read, Write};
 
-fn title<R: Read, W: Write>(steps: &mut R, out: &mut W) -> io::Result<()> {
-    let n = read::octet(steps)?;
-    let b = read::some(steps, n)?;
-    out.write_all(&b[..n as usize])?;
-    show::mark(out, b'\n')
+// The steps, whose octets must have no end, what is printed of them, the pair that they came to, and the pair that was kept.
+#[derive(Drop)]
+pub(crate) struct Player<R, W> {
+    pub steps: R,
+    pub out: W,
+    pub now: Pair,
+    pub kept: Pair,
 }
 
-fn fresh<R: Read, W: Write>(steps: &mut R, out: &mut W) -> io::Result<[u8; 9]> {
-    let n = read::octet(steps)?;
-    let b = read::some(steps, n)?;
-    let size = n as usize;
-    show::octets(out, &b[..size])?;
-    let r = fresh_sensor(&b[..size]);
-    let z = r.sensor;
-    show::report(out, r.code, r.place, 0, 0)?;
-    Ok(sensor_octets(z))
-}
+impl<R: Read, W: Write> Player<R, W> {
+    // ---- the octets of a step
 
-fn signal<R: Read, W: Write>(steps: &mut R, out: &mut W, now: [u8; 9]) -> io::Result<[u8; 9]> {
-    let b = read::input(steps)?;
-    show::octets(out, &b)?;
-    let r = sensor_input(sensor_in(now), b);
-    let z = r.sensor;
-    let told = r.sent;
-    show::report(out, r.code, r.place, 0, 0)?;
-    show::sent(out, told)?;
-    Ok(sensor_octets(z))
-}
+    // The next ones.
+    fn octets<const N: usize>(&mut self) -> io::Result<[u8; N]> {
+        let mut octets = [0u8; N];
+        self.steps.read_exact(&mut octets)?;
+        Ok(octets)
+    }
 
-fn show_joint<W: Write>(out: &mut W, r: Joint) -> io::Result<()> {
-    let k = r.records;
-    let told = r.sent;
-    show::report(out, r.code, r.place, r.answer, r.count as u64)?;
-    show::record(out, k[0])?;
-    show::record(out, k[1])?;
-    show::record(out, k[2])?;
-    show::sent(out, told)
-}
+    // So many as the next one says.
+    fn counted<'a>(&mut self, room: &'a mut [u8; 255]) -> io::Result<&'a [u8]> {
+        let [n] = self.octets::<1>()?;
+        let octets = &mut room[..usize::from(n)];
+        self.steps.read_exact(octets)?;
+        Ok(octets)
+    }
 
-fn input<R: Read, W: Write>(steps: &mut R, out: &mut W, now: Pair) -> io::Result<Pair> {
-    let image = now.state;
-    let sensor = now.sensor;
-    let b = read::input(steps)?;
-    show::octets(out, &b)?;
-    let r = joined_input(state_in(&image), sensor_in(sensor), b);
-    show_joint(out, r)?;
-    let s = r.state;
-    let z = r.sensor;
-    Ok(pair_of(s, z))
-}
+    // The front of a line: the letter of the step, and the octets that its call is given.
+    fn given<const N: usize>(&mut self, letter: &str) -> io::Result<[u8; N]> {
+        write!(self.out, "{letter}")?;
+        let octets = self.octets()?;
+        write!(self.out, "{}", Octets(&octets))?;
+        Ok(octets)
+    }
 
-fn show_move<W: Write>(out: &mut W, r: JointMove) -> io::Result<()> {
-    let k = r.records;
-    show::report(out, r.code, r.place, 0, r.count as u64)?;
-    show::record(out, k[0])?;
-    show::record(out, k[1])
-}
+    // The same, of so many octets as the next one says.
+    fn given_counted<'a>(&mut self, letter: &str, room: &'a mut [u8; 255]) -> io::Result<&'a [u8]> {
+        write!(self.out, "{letter}")?;
+        let octets = self.counted(room)?;
+        write!(self.out, "{}", Octets(octets))?;
+        Ok(octets)
+    }
 
-fn clock<R: Read, W: Write>(steps: &mut R, out: &mut W, now: Pair) -> io::Result<Pair> {
-    let image = now.state;
-    let sensor = now.sensor;
-    let b = read::stamp(steps)?;
-    show::octets(out, &b)?;
-    let r = joined_move(state_in(&image), sensor_in(sensor), read32(&b, 0));
-    show_move(out, r)?;
-    let s = r.state;
-    let z = r.sensor;
-    Ok(pair_of(s, z))
-}
+    // ---- steps that call nothing
 
-// A step to the sensor alone.
-fn sensor_step<R: Read, W: Write>(
-    steps: &mut R,
-    out: &mut W,
-    letter: u8,
-    now: Pair,
-) -> io::Result<Pair> {
-    let state = now.state;
-    let sensor = now.sensor;
-    show::mark(out, letter)?;
-    let after = if letter == b'N' {
-        fresh(steps, out)?
-    } else {
-        signal(steps, out, sensor)?
-    };
-    show::sensor(out, after)?;
-    Ok(Pair {
-        state,
-        sensor: after,
-    })
-}
+    fn title(&mut self) -> io::Result<()> {
+        let mut room = [0u8; 255];
+        let text = self.counted(&mut room)?;
+        self.out.write_all(text)?;
+        self.out.write_all(b"\n")
+    }
 
-// A step to the actuator alone.
-fn actuator_step<R: Read, W: Write>(
-    steps: &mut R,
-    out: &mut W,
-    letter: u8,
-    now: Pair,
-) -> io::Result<Pair> {
-    let state = now.state;
-    let sensor = now.sensor;
-    show::mark(out, letter)?;
-    let after = Pair {
-        state: alone::step(steps, out, letter, state)?,
-        sensor,
-    };
-    show::pair(out, after)?;
-    Ok(after)
-}
+    fn hand_over(&mut self) -> io::Result<()> {
+        self.now = Pair {
+            state: StateOctets(self.octets()?),
+            sensor: SensorOctets(self.octets()?),
+        };
+        Ok(())
+    }
 
-// A step to the pair.
-fn pair_step<R: Read, W: Write>(
-    steps: &mut R,
-    out: &mut W,
-    letter: u8,
-    now: Pair,
-) -> io::Result<Pair> {
-    show::mark(out, letter)?;
-    let after = if letter == b'J' {
-        input(steps, out, now)?
-    } else {
-        clock(steps, out, now)?
-    };
-    show::pair(out, after)?;
-    Ok(after)
-}
+    // ---- steps to the sensor alone
 
-// The pair after a step. (K leaves it as it is, and so does a letter that is no step.)
-pub(crate) fn step<R: Read, W: Write>(
-    steps: &mut R,
-    out: &mut W,
-    letter: u8,
-    now: Pair,
-    kept: Pair,
-) -> io::Result<Pair> {
-    match letter {
-        b'T' => {
-            title(steps, out)?;
-            Ok(now)
+    fn fresh_sensor(&mut self) -> io::Result<()> {
+        let mut room = [0u8; 255];
+        let r = fresh_sensor(self.given_counted("N", &mut room)?);
+        self.now.sensor = r.sensor.into();
+        let report = Report(r.code, r.place, 0, 0);
+        writeln!(self.out, "{report}{}", self.now.sensor)
+    }
+
+    fn sensor_input(&mut self) -> io::Result<()> {
+        let octets = self.given("E")?;
+        let r = sensor_input(self.now.sensor.into(), octets);
+        self.now.sensor = r.sensor.into();
+        let report = Report(r.code, r.place, 0, 0);
+        writeln!(self.out, "{report}{}{}", Part(&r.sent), self.now.sensor)
+    }
+
+    // ---- steps to the pair
+
+    fn joined_input(&mut self) -> io::Result<()> {
+        let octets = self.given("J")?;
+        let r = joined_input(self.now.state.into(), self.now.sensor.into(), octets);
+        self.now = Pair::new(r.state, r.sensor);
+        let report = Report(r.code, r.place, r.answer, r.count.into());
+        let records = Records(&r.records);
+        writeln!(self.out, "{report}{records}{}{}", Part(&r.sent), self.now)
+    }
+
+    fn joined_move(&mut self) -> io::Result<()> {
+        let stamp = u32::from_be_bytes(self.given("M")?);
+        let r = joined_move(self.now.state.into(), self.now.sensor.into(), stamp);
+        self.now = Pair::new(r.state, r.sensor);
+        let report = Report(r.code, r.place, 0, r.count.into());
+        writeln!(self.out, "{report}{}{}", Records(&r.records), self.now)
+    }
+
+    // ---- steps to the actuator alone
+
+    fn single_input(&mut self) -> io::Result<()> {
+        let octets = self.given("S")?;
+        let r = single_input(self.now.state.into(), octets);
+        self.now.state = r.state.into();
+        let report = Report(r.code, r.place, r.answer, r.count.into());
+        writeln!(self.out, "{report}{}{}", Records(&r.records), self.now)
+    }
+
+    fn clock_move(&mut self) -> io::Result<()> {
+        let stamp = u32::from_be_bytes(self.given("C")?);
+        let r = clock_move(self.now.state.into(), stamp);
+        self.now.state = r.state.into();
+        let report = Report(r.code, r.place, 0, r.count.into());
+        writeln!(self.out, "{report}{}{}", Records(&r.records), self.now)
+    }
+
+    // Both buffers are printed whole, so that what a refused change leaves in them is seen.
+    fn change(&mut self) -> io::Result<()> {
+        let mut room = [0u8; 255];
+        let inputs = self.given_counted("H", &mut room)?;
+        let mut records = [165u8; 120];
+        let mut answers = [90u8; 4];
+        let r = change(self.now.state.into(), inputs, &mut records, &mut answers);
+        self.now.state = r.state.into();
+        let report = Report(r.code, r.place, 0, r.count);
+        let (records, answers) = (Part(&records), Part(&answers));
+        writeln!(self.out, "{report}{records}{answers}{}", self.now)
+    }
+
+    // ---- all steps
+
+    // The step of a letter. (One that is no step does nothing.)
+    fn step(&mut self, letter: u8) -> io::Result<()> {
+        match letter {
+            b'T' => self.title()?,
+            b'P' => self.hand_over()?,
+            b'N' => self.fresh_sensor()?,
+            b'E' => self.sensor_input()?,
+            b'J' => self.joined_input()?,
+            b'M' => self.joined_move()?,
+            b'S' => self.single_input()?,
+            b'C' => self.clock_move()?,
+            b'H' => self.change()?,
+            b'K' => self.kept = self.now,
+            b'B' => self.now = self.kept,
+            _ => {}
         }
-        b'P' => read::pair(steps),
-        b'N' | b'E' => sensor_step(steps, out, letter, now),
-        b'J' | b'M' => pair_step(steps, out, letter, now),
-        b'S' | b'C' | b'H' => actuator_step(steps, out, letter, now),
-        b'B' => Ok(kept),
-        _ => Ok(now),
+        Ok(())
+    }
+
+    // The steps up to the letter 0. A proved loop has to end, so it counts its turns, up to a number that no run reaches.
+    pub fn play(&mut self) -> io::Result<()> {
+        for _ in 0..u64::MAX {
+            let [letter] = self.octets::<1>()?;
+            if letter == 0 {
+                break;
+            }
+            self.step(letter)?;
+        }
+        self.out.flush()
     }
 }

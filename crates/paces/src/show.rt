@@ -1,67 +1,54 @@
-// What is printed of octets and numbers.
-use crate::written::{Pair, record_octets};
+// What is printed of octets, records and reports, each as a value that can be displayed.
 use rules::record::Record;
-use std::io;
-use std::io::Write;
+use std::fmt;
 
 // Octets as hexadecimal digits, in groups of eight.
-pub(crate) fn octets<W: Write>(out: &mut W, b: &[u8]) -> io::Result<()> {
-    for (i, octet) in b.iter().enumerate() {
-        if i % 8 == 0 {
-            out.write_all(b" ")?;
+#[derive(Clone, Copy)]
+pub(crate) struct Octets<'a>(pub &'a [u8]);
+
+impl fmt::Display for Octets<'_> {
+    fn fmt<W: fmt::Write>(&self, f: &mut fmt::Formatter<W>) -> fmt::Result {
+        for group in self.0.chunks(8) {
+            f.write_str(" ")?;
+            for octet in group {
+                write!(f, "{octet:02x}")?;
+            }
         }
-        write!(out, "{octet:02x}")?;
+        Ok(())
     }
-    Ok(())
 }
 
 // A part of a line, behind a bar.
-pub(crate) fn part<W: Write>(out: &mut W, b: &[u8]) -> io::Result<()> {
-    out.write_all(b" |")?;
-    octets(out, b)
+#[derive(Clone, Copy)]
+pub(crate) struct Part<'a>(pub &'a [u8]);
+
+impl fmt::Display for Part<'_> {
+    fn fmt<W: fmt::Write>(&self, f: &mut fmt::Formatter<W>) -> fmt::Result {
+        write!(f, " |{}", Octets(self.0))
+    }
 }
 
-fn number<W: Write>(out: &mut W, n: u64) -> io::Result<()> {
-    write!(out, " {n}")
+// A part for each record: its stamp in four octets, its value, its attributes, its cause.
+#[derive(Clone, Copy)]
+pub(crate) struct Records<'a>(pub &'a [Record]);
+
+impl fmt::Display for Records<'_> {
+    fn fmt<W: fmt::Write>(&self, f: &mut fmt::Formatter<W>) -> fmt::Result {
+        for r in self.0 {
+            let [a, b, c, d] = r.stamp.to_be_bytes();
+            write!(f, "{}", Part(&[a, b, c, d, r.value, r.attributes, r.cause]))?;
+        }
+        Ok(())
+    }
 }
 
-pub(crate) fn report<W: Write>(
-    out: &mut W,
-    code: u8,
-    place: u16,
-    answer: u8,
-    count: u64,
-) -> io::Result<()> {
-    out.write_all(b" >")?;
-    number(out, code as u64)?;
-    number(out, place as u64)?;
-    number(out, answer as u64)?;
-    number(out, count)
-}
+// The code, place, answer and count of a call, 0 where it gives no answer or count.
+#[derive(Clone, Copy)]
+pub(crate) struct Report(pub u8, pub u16, pub u8, pub u32);
 
-pub(crate) fn record<W: Write>(out: &mut W, r: Record) -> io::Result<()> {
-    part(out, &record_octets(r))
-}
-
-pub(crate) fn sent<W: Write>(out: &mut W, b: [u8; 8]) -> io::Result<()> {
-    part(out, &b)
-}
-
-// The end of a line: a sensor.
-pub(crate) fn sensor<W: Write>(out: &mut W, b: [u8; 9]) -> io::Result<()> {
-    part(out, &b)?;
-    mark(out, b'\n')
-}
-
-// The end of a line: a pair.
-pub(crate) fn pair<W: Write>(out: &mut W, p: Pair) -> io::Result<()> {
-    let state = p.state;
-    let b = p.sensor;
-    part(out, &state)?;
-    sensor(out, b)
-}
-
-// One octet as it is: the letter or the end of a line.
-pub(crate) fn mark<W: Write>(out: &mut W, x: u8) -> io::Result<()> {
-    out.write_all(&[x])
+impl fmt::Display for Report {
+    fn fmt<W: fmt::Write>(&self, f: &mut fmt::Formatter<W>) -> fmt::Result {
+        let Report(code, place, answer, count) = *self;
+        write!(f, " > {code} {place} {answer} {count}")
+    }
 }
