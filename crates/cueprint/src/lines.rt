@@ -55,7 +55,7 @@ impl<W: Write> Printout<W> {
 
     // The first of some records.
     pub fn records(&mut self, records: &[Record], count: u8) -> io::Result<()> {
-        for r in records.iter().take(count as usize) {
+        for r in records.iter().take(usize::from(count)) {
             self.record(*r)?;
         }
         Ok(())

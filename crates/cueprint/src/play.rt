@@ -17,7 +17,7 @@ use sensor::state::Sensor;
 use std::io;
 use std::io::Write;
 
-// The pair, and the printout of what it does. What plays something says how many records that printed.
+// The pair, and the printout of what it does. Each method says how many records it printed.
 #[derive(Drop)]
 struct Player<'a, W> {
     printout: &'a mut Printout<W>,
@@ -57,7 +57,7 @@ impl<W: Write> Player<'_, W> {
         Ok(self.play_timer(stamp)? + self.play_timer(stamp)? + self.play_timer(stamp)?)
     }
 
-    // Input i, once the timers due by its stamp have run: what it sent, its own record, its answer.
+    // Input i, once the timers due by its stamp have run: what it sent, its own records, its answer.
     fn play_input(&mut self, i: usize, octets: [u8; INPUT_SIZE]) -> io::Result<u32>
         ensures { IfOk result (λ count. count ≤ 255) }
     {
@@ -71,14 +71,21 @@ impl<W: Write> Player<'_, W> {
         Ok(u32::from(done.count))
     }
 
-    // The inputs, in list order, each after the timers due by its stamp.
+    // The timers due by the stamp of input i, then the input.
+    fn play_turn(&mut self, i: usize, octets: [u8; INPUT_SIZE]) -> io::Result<u32>
+        ensures { IfOk result (λ count. count ≤ 1020) }
+    {
+        Ok(self.play_timers(stamp_at(&octets, 0))? + self.play_input(i, octets)?)
+    }
+
+    // The inputs, in list order.
     fn play_inputs(&mut self, inputs: &[[u8; INPUT_SIZE]]) -> io::Result<u32>
         requires { length inputs.now ≤ most_inputs }
         ensures { IfOk result (λ count. count ≤ 1020 * most_inputs) }
     {
         let mut count = 0;
         for (i, octets) in inputs.iter().enumerate() {
-            count += self.play_timers(stamp_at(octets, 0))? + self.play_input(i, *octets)?;
+            count += self.play_turn(i, *octets)?;
         }
         Ok(count)
     }
