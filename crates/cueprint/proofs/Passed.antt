@@ -1,6 +1,5 @@
 -- What is known of a list that its check passed, and of the inputs of a file that is as long as its header says.
-use Rattle.std.proofs.Common.{arith, ◌*◌, ◌≤◌, ◌≡◌, ◌∙◌, List, ℕ, length, length-drop}
-use Rattle.base.specs.declared.refusal.Check.TheVariants.{Passed}
+use Rattle.std.proofs.Common.{arith, ◌*◌, ◌≤◌, ◌≡◌, ◌∙◌, List, ℕ, length, length-drop, Ok}
 use Rattle.rules.specs.Files.{read_file, input_count, inputs_in}
 use Rattle.rules.specs.Forms.{form_in}
 use Rattle.rules.specs.Layout.{least_file, file_size, inputs_at, most_inputs}
@@ -13,7 +12,7 @@ use Rattle.pairs.proofs.Refusals.Walls.{wall_decides}
 
 -- ---- a cue file
 
-module _ (file : List ℕ) (passed : verdict (read_file file) ≡ Passed) where
+module _ (file : List ℕ) (passed : verdict (read_file file) ≡ Ok tt) where
   header : GoodHeader file
   header = (passed_is_good file passed).start.header
 
@@ -30,7 +29,7 @@ pub ruleset passed_file = (passed_file_least, passed_file_few, passed_file_whole
 
 -- ---- a wall list
 
-module _ (wall : List ℕ) (passed : verdict (read_wall wall) ≡ Passed) where
+module _ (wall : List ℕ) (passed : verdict (read_wall wall) ≡ Ok tt) where
   good : GoodWall wall
   good = (wall_decides wall).passed.0 passed
 

@@ -4,7 +4,7 @@ ghost use Rattle.rules.specs.Files.{input_count};
 ghost use Rattle.rules.specs.Forms.{form_in};
 ghost use Rattle.rules.specs.Layout.{least_file, most_inputs, file_size};
 
-use base::refusal::{Check, Refusal};
+use base::refusal::Refused;
 use cues::check::check_file;
 use sensor::call::fresh_sensor;
 use sensor::state::{Sensor, own_sensor};
@@ -20,33 +20,22 @@ pub(crate) struct Show<'a> {
     ghost whole: { length file.now ≡ file_size (form_in file.now) (input_count file.now) },
 }
 
-// Why a list is not played, and the place in it.
-#[derive(Clone, Copy)]
-pub(crate) struct Refused {
-    pub why: Refusal,
-    pub place: u16,
-}
-
 // A cue file, with no button beside it.
 #[tactic(auto, using(crate::proofs::Passed::passed_file))]
 pub(crate) fn cue_file(list: &[u8]) -> Result<Show<'_>, Refused> {
-    match check_file(list) {
-        Check::Passed => Ok(Show {
-            file: list,
-            sensor: own_sensor(),
-        }),
-        Check::Refused { why, place } => Err(Refused { why, place }),
-    }
+    check_file(list)?;
+    Ok(Show {
+        file: list,
+        sensor: own_sensor(),
+    })
 }
 
 // A wall list.
 #[tactic(auto, using(crate::proofs::Passed::passed_wall))]
 pub(crate) fn wall_list(list: &[u8]) -> Result<Show<'_>, Refused> {
-    match check_wall(list) {
-        Check::Passed => Ok(Show {
-            file: file_in(list),
-            sensor: fresh_sensor(actions_in(list)).sensor,
-        }),
-        Check::Refused { why, place } => Err(Refused { why, place }),
-    }
+    check_wall(list)?;
+    Ok(Show {
+        file: file_in(list),
+        sensor: fresh_sensor(actions_in(list)).sensor,
+    })
 }
