@@ -9,7 +9,7 @@ use joined::pair::{joined_input, joined_move};
 use lamps::lamp::lamp_of;
 use layout::{INPUT_SIZE, inputs_in, parameters_in};
 use live::fresh::fresh_state;
-use octets::group::stamp_at;
+use octets::group::Group;
 use phases::phase::due_at;
 use records::status::record_of;
 use rules::state::State;
@@ -75,7 +75,7 @@ impl<W: Write> Player<'_, W> {
     fn play_turn(&mut self, i: usize, octets: [u8; INPUT_SIZE]) -> io::Result<u32>
         ensures { IfOk result (λ count. count ≤ 1020) }
     {
-        Ok(self.play_timers(stamp_at(&octets, 0))? + self.play_input(i, octets)?)
+        Ok(self.play_timers(Group::new(&octets, 0).stamp())? + self.play_input(i, octets)?)
     }
 
     // The inputs, in list order.

@@ -1,9 +1,9 @@
 // The check of a whole file: the first thing that is wrong, in the order of the refusal numbers.
 ghost use Rattle.base.specs.Refusals.{refused_with};
-ghost use Rattle.std.specs.Prelude.{◌≡◌, ◌+◌, ◌≤◌, length};
+ghost use Rattle.std.specs.Prelude.{◌≡◌, ◌≤◌, length};
 ghost use Rattle.rules.specs.Parameters.{check_parameters};
 ghost use Rattle.rules.specs.Forms.{form_in};
-ghost use Rattle.rules.specs.Layout.{least_file, inputs_at, input_size, most_inputs, input_place};
+ghost use Rattle.rules.specs.Layout.{least_file, inputs_at, most_inputs, input_place};
 ghost use Rattle.rules.specs.Readings.{verdict};
 ghost use Rattle.rules.specs.Files.{input_count, end_time, parameters_in, inputs_in, check_rest, check_start, read_file};
 ghost use Rattle.rules.specs.Refusals.{GoodStart};
@@ -13,8 +13,8 @@ use crate::header::{actuators_of, end_time, form_in, input_count, layout_is_righ
 use base::logic::both;
 use base::refusal::{Refusal, Refused};
 use inputs::is_input_at;
-use layout::{LEAST_FILE, input_place, inputs_at, inputs_in, is_version, parameters_in};
-use octets::group::stamp_at;
+use layout::{LEAST_FILE, inputs_at, inputs_in, is_version, parameters_in};
+use octets::group::Group;
 use parameters::read::check_parameters;
 use rules::form::Form;
 use sensor::signal::{Signal, signal_at};
@@ -64,19 +64,12 @@ fn is_edge(s: Option<Signal>) -> bool
     }
 }
 
-// Whether an input starts at a place, or, in a list that takes edges too, an edge.
-fn is_known_at(inputs: &[u8], at: usize, edges: bool) -> bool
-    requires { at + input_size ≤ length inputs.now }
-    ensures { result ≡ is_known edges inputs.now at }
+// Whether eight octets are an input, or, in a list that takes edges too, an edge.
+#[tactic(auto, unfolding(crate::specs::Checks::is_known))]
+fn is_known_at(group: Group, edges: bool) -> bool
+    ensures { result ≡ is_known edges group.entry.octets.now group.entry.at }
 {
-    if is_input_at(inputs, at) {
-        return true;
-    }
-    if edges {
-        is_edge(signal_at(inputs, at))
-    } else {
-        false
-    }
+    is_input_at(group) || edges && is_edge(signal_at(group))
 }
 
 // The first bad input of n, in a list that takes edges too or does not: none is stamped before the one before it, the first not before
@@ -88,9 +81,9 @@ pub fn check_inputs(inputs: &[u8], n: u32, from: u32, end: u32, edges: bool) -> 
     let mut i: u32 = 0;
     let mut last = from;
     while i < n {
-        let at = input_place(i);
-        let stamp = stamp_at(inputs, at);
-        let one = check_one(is_known_at(inputs, at, edges), stamp, last, end, i);
+        let group = Group::nth(inputs, i);
+        let stamp = group.stamp();
+        let one = check_one(is_known_at(group, edges), stamp, last, end, i);
         match one {
             Ok(()) => {
                 last = stamp;

@@ -6,7 +6,7 @@ ghost use Rattle.rules.specs.Layout.{input_size};
 ghost use Rattle.rules.specs.Inputs.{force_of, decoded, input_at};
 ghost use Rattle.inputs.specs.Meaning.{is_meant, event_of};
 
-use octets::group::ends_in_zeros;
+use octets::group::Group;
 use rules::input::{Event, Force, Input};
 
 pub mod value;
@@ -69,33 +69,21 @@ pub fn known_input(kind: u8, value: u8) -> Input
     }
 }
 
-// Whether an input starts at a place.
-pub fn is_input_at(octets: &[u8], at: usize) -> bool
-    requires { at + input_size ≤ length octets.now }
-    ensures { result ≡ is_meant (input_at octets.now at) }
+// Whether eight octets are an input.
+#[tactic(auto, unfolding(rules::specs::Inputs::input_at))]
+pub fn is_input_at(group: Group) -> bool
+    ensures { result ≡ is_meant (input_at group.entry.octets.now group.entry.at) }
 {
-    if ends_in_zeros(octets, at) {
-        is_known(octets[at + 4], octets[at + 5])
-    } else {
-        false
-    }
+    group.ends_in_zeros() && is_known(group.kind(), group.value())
 }
 
-// The input that starts at a place where one does.
-fn known_input_at(octets: &[u8], at: usize) -> Input
-    requires { (at + input_size ≤ length octets.now) × (is_meant (input_at octets.now at) ≡ true) }
-    ensures { input_at octets.now at ≡ Some result }
+// What eight octets mean.
+#[tactic(auto, using(crate::proofs::Meaning::known_at, crate::proofs::Meaning::not_meant))]
+pub fn input_at(group: Group) -> Option<Input>
+    ensures { result ≡ input_at group.entry.octets.now group.entry.at }
 {
-    known_input(octets[at + 4], octets[at + 5])
-}
-
-// What the input that starts at a place means.
-pub fn input_at(octets: &[u8], at: usize) -> Option<Input>
-    requires { at + input_size ≤ length octets.now }
-    ensures { result ≡ input_at octets.now at }
-{
-    if is_input_at(octets, at) {
-        Some(known_input_at(octets, at))
+    if is_input_at(group) {
+        Some(known_input(group.kind(), group.value()))
     } else {
         None
     }

@@ -1,10 +1,10 @@
 // An item of a joined list: an input of the actuator, or an edge.
-ghost use Rattle.std.specs.Prelude.{◌≡◌, ◌+◌, ◌≤◌, length};
-ghost use Rattle.octets.specs.Groups.{group_size};
+ghost use Rattle.std.specs.Prelude.{◌≡◌};
 ghost use Rattle.pairs.specs.Items.{item_at};
 ghost use Rattle.joined.specs.Joints.{edge_in};
 
 use inputs::input_at;
+use octets::group::Group;
 use pairs::item::Item;
 use rules::input::Input;
 use sensor::signal::{Signal, signal_at};
@@ -23,14 +23,13 @@ fn edge_in(s: Option<Signal>) -> Option<Item>
     }
 }
 
-// What the item that starts at a place means.
-pub fn item_at(octets: &[u8], at: usize) -> Option<Item>
-    requires { at + group_size ≤ length octets.now }
-    ensures { result ≡ item_at octets.now at }
+// What eight octets mean.
+#[tactic(auto, unfolding(pairs::specs::Items::item_at))]
+pub fn item_at(group: Group) -> Option<Item>
+    ensures { result ≡ item_at group.entry.octets.now group.entry.at }
 {
-    let meant = input_at(octets, at);
-    match meant {
+    match input_at(group) {
         Some(i) => Some(Item::Plain(i)),
-        None => edge_in(signal_at(octets, at)),
+        None => edge_in(signal_at(group)),
     }
 }

@@ -13,7 +13,7 @@ use crate::step::{JointStep, step_pair};
 use base::logic::both;
 use base::moment::stamp_in_range;
 use base::refusal::{Refusal, number_of};
-use octets::group::stamp_at;
+use octets::group::Group;
 use pairs::call::{Joint, JointMove};
 use pairs::item::Item;
 use records::notes;
@@ -78,13 +78,14 @@ fn stamped(s: State, z: Sensor, i: Item, stamp: u32) -> Joint
 }
 
 // Eight octets: both states, the answer, the records and what was sent, or a refusal that hands back what it was given.
+#[tactic(auto, using(crate::proofs::ByValue::sound_actuator), unfolding(pairs::specs::Calls::joint_call, pairs::specs::Calls::joint_meant))]
 pub fn joined_input(s: State, z: Sensor, octets: [u8; 8]) -> Joint
     ensures whole { result ≡ joint_call (pair_of s z) octets }
 {
     if is_sound_pair(s, z) {
-        let stamp = stamp_at(&octets, 0);
-        let meant = item_at(&octets, 0);
-        match meant {
+        let group = Group::new(&octets, 0);
+        let stamp = group.stamp();
+        match item_at(group) {
             Some(i) => stamped(s, z, i, stamp),
             None => refused(s, z, Refusal::BadInput),
         }

@@ -10,7 +10,7 @@ use actuator::step::{Acted, step_input};
 use base::moment::stamp_in_range;
 use base::refusal::{Refusal, number_of};
 use inputs::input_at;
-use octets::group::stamp_at;
+use octets::group::Group;
 use records::notes;
 use rules::call::Single;
 use rules::input::Input;
@@ -18,13 +18,14 @@ use rules::state::State;
 use states::sound::is_sound;
 
 // Eight octets: the state, answer and records that the input gives, or a refusal that hands back the state it was given.
+#[tactic(auto, unfolding(rules::specs::Calls::single_call, rules::specs::Calls::single_meant))]
 pub fn single_input(s: State, octets: [u8; 8]) -> Single
     ensures whole { result ≡ single_call s octets }
 {
     if is_sound(s) {
-        let stamp = stamp_at(&octets, 0);
-        let meant = input_at(&octets, 0);
-        match meant {
+        let group = Group::new(&octets, 0);
+        let stamp = group.stamp();
+        match input_at(group) {
             Some(i) => stamped(s, i, stamp),
             None => refused(s, Refusal::BadInput),
         }

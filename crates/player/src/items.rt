@@ -10,8 +10,7 @@ use actuator::step::{fate_of, scenes_after, take};
 use buffers::put::put_note;
 use inputs::known_input;
 use lamps::lamp::{Lamp, at_moment, lamp_of, state_of};
-use layout::input_place;
-use octets::group::stamp_at;
+use octets::group::Group;
 use rules::parameters::Params;
 use rules::state::State;
 use sensor::state::Sensor;
@@ -75,10 +74,10 @@ pub fn play_items(
     let mut heard: u32 = 0;
     let mut count = before;
     for i in 0..n {
-        let at = input_place(i);
-        let t = stamp_at(inputs, at);
+        let group = Group::nth(inputs, i);
+        let t = group.stamp();
         let m = advance(records, count, p, l, t);
-        let turn = turn_at(inputs, at, t, records, m.count, z, heard);
+        let turn = turn_at(group, t, records, m.count, z, heard);
         z = turn.sensor;
         heard = turn.heard;
         match turn.asked {

@@ -9,7 +9,7 @@ use crate::signal::{Signal, signal_at};
 use crate::state::{Sensor, fresh_with, is_sound, own_sensor};
 use base::moment::stamp_in_range;
 use base::refusal::{Refusal, Refused, number_of};
-use octets::group::stamp_at;
+use octets::group::Group;
 
 // What four octets of actions give.
 #[derive(Clone, Copy)]
@@ -91,12 +91,14 @@ fn refused(z: Sensor, why: Refusal) -> Sensed
 }
 
 // Eight octets: the sensor after the signal and what it sends, or a refusal that hands back the sensor it was given.
+#[tactic(auto, unfolding(crate::specs::Calls::sensor_call, crate::specs::Calls::sensor_meant))]
 pub fn sensor_input(z: Sensor, octets: [u8; 8]) -> Sensed
     ensures whole { result ≡ sensor_call z octets }
 {
     if is_sound(z) {
-        let t = stamp_at(&octets, 0);
-        let meant = signal_at(&octets, 0);
+        let group = Group::new(&octets, 0);
+        let t = group.stamp();
+        let meant = signal_at(group);
         match meant {
             Some(s) => {
                 if stamp_in_range(z.clock, t) {

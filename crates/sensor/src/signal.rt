@@ -1,9 +1,8 @@
 // What a sensor takes: an edge of one of its buttons, or a status value.
-ghost use Rattle.std.specs.Prelude.{◌≡◌, ◌+◌, ◌≤◌, length};
-ghost use Rattle.octets.specs.Groups.{group_size};
+ghost use Rattle.std.specs.Prelude.{◌≡◌};
 ghost use Rattle.sensor.specs.Signals.{edge_of, signalled, signal_at};
 
-use octets::group::ends_in_zeros;
+use octets::group::Group;
 
 #[derive(Clone, Copy)]
 pub enum Edge {
@@ -40,13 +39,13 @@ fn signal_of(kind: u8, value: u8) -> Option<Signal>
     }
 }
 
-// What the input that starts at a place means.
-pub fn signal_at(octets: &[u8], at: usize) -> Option<Signal>
-    requires { at + group_size ≤ length octets.now }
-    ensures { result ≡ signal_at octets.now at }
+// What eight octets mean.
+#[tactic(auto, unfolding(crate::specs::Signals::signal_at))]
+pub fn signal_at(group: Group) -> Option<Signal>
+    ensures { result ≡ signal_at group.entry.octets.now group.entry.at }
 {
-    if ends_in_zeros(octets, at) {
-        signal_of(octets[at + 4], octets[at + 5])
+    if group.ends_in_zeros() {
+        signal_of(group.kind(), group.value())
     } else {
         None
     }

@@ -53,7 +53,7 @@ module _ (file : List ℕ) (at : ℕ) where
   input_kind_is_small x e = omega (arith, input_kind file at x ((plain_exactly_when file at x).0 e), kind_range x)
 
   -- what is neither an input nor an edge is no item
-  pub no_other_item : {A : Type 0} → 8 < kind_at file at → signal_at file at ≡ None → (i : Item) → item_at file at ≡ Some i → A
+  no_other_item : {A : Type 0} → 8 < kind_at file at → signal_at file at ≡ None → (i : Item) → item_at file at ≡ Some i → A
   no_other_item large wrong (Plain x) e = absurd (omega (arith, input_kind_is_small x e))
   no_other_item large wrong (Button1 edge) e = not_meant (sym wrong ∙ (button1_exactly_when file at edge).0 e)
   no_other_item large wrong (Button2 edge) e = not_meant (sym wrong ∙ (button2_exactly_when file at edge).0 e)
@@ -77,6 +77,10 @@ module _ (file : List ℕ) (at : ℕ) where
     an_edge_is_decided large s m (Plain x) e = absurd (omega (arith, input_kind_is_small x e))
     an_edge_is_decided large s m (Button1 edge) e = rw (same_signal s (signal.Button1 edge) (signal_at file at) m ((button1_exactly_when file at edge).0 e)) refl
     an_edge_is_decided large s m (Button2 edge) e = rw (same_signal s (signal.Button2 edge) (signal_at file at) m ((button2_exactly_when file at edge).0 e)) refl
+
+    -- what is neither is no item, whatever it asks for
+    pub no_item_asks_for_nothing : 8 < kind_at file at → signal_at file at ≡ None → (i : Item) → item_at file at ≡ Some i → record { asked = None; sensor = z; heard = heard } ≡ its i
+    no_item_asks_for_nothing large wrong i e = no_other_item large wrong i e
 
     -- either asks for what the actuator is to be given, and leaves the sensor that it should
     pub turned : heard ≤ count → (i : Item) → item_at file at ≡ Some i → Turned i t records count z heard (its i)

@@ -10,6 +10,7 @@ use sensor::state::Sensor;
 
 // The sensor, which has heard the first `heard` of the `count` records that stand there, once it has heard the rest. Each is a status, so the
 // last one decides: no record is handed on to the sensor when it is written, and a list without edges never listens before its end.
+#[tactic(auto, unfolding(crate::specs::Turns::listened))]
 pub fn listen(records: &[u8], count: u32, z: Sensor, heard: u32) -> Sensor
     requires { (heard ≤ count) × (record_place count ≤ length records.now) }
     ensures { result ≡ listened records.now count z heard }

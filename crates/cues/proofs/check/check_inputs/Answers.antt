@@ -12,18 +12,18 @@ pub loop-i-preserved : goal.loop-i-preserved
 loop-i-preserved c =
     let a = c.args in
     let l = c.loop-i in
-    let at = c.input_place-at.ensures in
-    let one = rw (c.is_known_at.ensures, c.stamp_at-stamp.ensures, at) at (sym c.check_one-one.ensures ∙ c.in-Ok.is) in (
+    let at = c.nth-group.ensures in
+    let one = rw (c.is_known_at.ensures, c.stamp-stamp.ensures, at.0, at.1) at (sym c.check_one-one.ensures ∙ c.in-Ok.is) in (
       search rules,
-      rw (c.stamp_at-stamp.ensures, at) (l.invariant.1 ∙ good_goes_on (known_at a.edges a.inputs.now) a.inputs.now a.n l.i l.last a.end c.loop-i-test.true one),
+      rw (c.stamp-stamp.ensures, at.0, at.1) (l.invariant.1 ∙ good_goes_on (known_at a.edges a.inputs.now) a.inputs.now a.n l.i l.last a.end c.loop-i-test.true one),
     )
 
 pub returns-in-Err : goal.returns-in-Err
 returns-in-Err c =
     let a = c.args in
     let l = c.loop-i in
-    let at = c.input_place-at.ensures in
-    let one = rw (c.is_known_at.ensures, c.stamp_at-stamp.ensures, at) at (sym c.check_one-one.ensures ∙ c.in-Err.is) in
+    let at = c.nth-group.ensures in
+    let one = rw (c.is_known_at.ensures, c.stamp-stamp.ensures, at.0, at.1) at (sym c.check_one-one.ensures ∙ c.in-Err.is) in
     sym (l.invariant.1 ∙ bad_ends (known_at a.edges a.inputs.now) a.inputs.now a.n l.i l.last a.end c.loop-i-test.true _ _ one)
 
 pub returns : goal.returns

@@ -51,7 +51,7 @@ module _ (c : After-turn_at-turn) where
 
   took : let loop = c.loop-i in let inputs = c.args.inputs.now in let m = c.advance-m in
       (j : Item) → item_at inputs (input_place loop.i) ≡ Some j → Turned j (stamp_at inputs (input_place loop.i)) m.new.records m.result.count loop.z loop.heard c.turn_at-turn.result
-  took = takes c.args.inputs.now _ c.loop-i.i _ _ _ c.loop-i.heard c.loop-i.z _ c.input_place-at.ensures c.stamp_at-t.ensures (omega (arith, c.loop-i.invariant.1, (c.advance-m.ensures c.loop-i.k).count)) c.turn_at-turn.ensures
+  took = takes c.args.inputs.now _ c.loop-i.i _ _ _ c.loop-i.heard c.loop-i.z _ c.nth-group.ensures.1 (rw c.nth-group.ensures.0 at c.stamp-t.ensures) (omega (arith, c.loop-i.invariant.1, (c.advance-m.ensures c.loop-i.k).count)) (rw c.nth-group.ensures.0 at c.turn_at-turn.ensures)
 
   -- the sensor has heard no more than there is
   behind_still : c.turn_at-turn.result.heard ≤ c.advance-m.result.count
@@ -61,11 +61,11 @@ module _ (c : After-turn_at-turn) where
 
   -- the clock has moved to the item's stamp
   moves : Advanced c.args.start.params c.loop-i.l (stamp_at c.args.inputs.now (input_place c.loop-i.i)) c.loop-i.count c.loop-i.records c.advance-m.result c.advance-m.new.records
-  moves = rw (rw c.input_place-at.ensures at c.stamp_at-t.ensures) at c.advance-m.ensures
+  moves = rw (rw c.nth-group.ensures.1 at (rw c.nth-group.ensures.0 at c.stamp-t.ensures)) at c.advance-m.ensures
 
   -- the records have room, before the clock moves and after
-  two : length (clock_move (state_of c.args.start.params c.loop-i.k c.loop-i.l) c.stamp_at-t.result).records ≤ 2
-  two = a_move_writes_at_most_two (state_of c.args.start.params c.loop-i.k c.loop-i.l) c.stamp_at-t.result
+  two : length (clock_move (state_of c.args.start.params c.loop-i.k c.loop-i.l) c.stamp-t.result).records ≤ 2
+  two = a_move_writes_at_most_two (state_of c.args.start.params c.loop-i.k c.loop-i.l) c.stamp-t.result
 
   roomy : 8 * c.loop-i.count ≤ length c.loop-i.records
   roomy = let g = c.loop-i.invariant.0.stands in omega (arith, c.loop-i-test.true, g.few, g.room, c.requires.2)
@@ -82,8 +82,8 @@ module _ (c : After-turn_at-turn) where
 pub loop-i-init : goal.loop-i-init
 loop-i-init c = (going_first _ _ _ _ _ _ (ready_to (goal.at.loop-i-init c).After-lamp_of-l), omega arith)
 
-pub stamp_at-t-requires : goal.stamp_at-t-requires
-stamp_at-t-requires c = omega (arith, c.input_place-at.ensures, c.loop-i-test.true, (ready_to (goal.at.stamp_at-t-requires c).After-lamp_of-l).whole)
+pub nth-group-requires : goal.nth-group-requires
+nth-group-requires c = omega (arith, c.loop-i-test.true, (ready_to (goal.at.nth-group-requires c).After-lamp_of-l).whole)
 
 pub advance-m-requires : goal.advance-m-requires
 advance-m-requires c =
@@ -92,7 +92,7 @@ advance-m-requires c =
     let g = loop.invariant.0 in
     let within = c.loop-i-test.true in
     let f = next_item _ _ _ _ _ _ ready _ _ _ _ _ g within in
-    (rw (c.stamp_at-t.ensures, c.input_place-at.ensures) (sound_room (state_of c.args.start.params loop.k loop.l) _ ((sound_pair_exactly_when _).0 g.safe).actuator f.timely), omega (arith, within, g.stands.few, ready.few), omega (arith, within, g.stands.few, g.stands.room, c.requires.2))
+    (rw ((rw c.nth-group.ensures.0 at c.stamp-t.ensures), c.nth-group.ensures.1) (sound_room (state_of c.args.start.params loop.k loop.l) _ ((sound_pair_exactly_when _).0 g.safe).actuator f.timely), omega (arith, within, g.stands.few, ready.few), omega (arith, within, g.stands.few, g.stands.room, c.requires.2))
 
 pub turn_at-turn-requires : goal.turn_at-turn-requires
 turn_at-turn-requires c =
@@ -101,8 +101,8 @@ turn_at-turn-requires c =
     let g = loop.invariant.0 in
     let within = c.loop-i-test.true in
     let moves = c.advance-m in
-    let two = a_move_writes_at_most_two (state_of c.args.start.params loop.k loop.l) c.stamp_at-t.result in
-    (omega (arith, c.input_place-at.ensures, within, ready.whole), omega (arith, loop.invariant.1, (moves.ensures loop.k).count), (omega (arith, within, two, (moves.ensures loop.k).count, moves.auto.records, g.stands.few, g.stands.room, c.requires.2)))
+    let two = a_move_writes_at_most_two (state_of c.args.start.params loop.k loop.l) c.stamp-t.result in
+    (omega (arith, loop.invariant.1, (moves.ensures loop.k).count), (omega (arith, within, two, (moves.ensures loop.k).count, moves.auto.records, g.stands.few, g.stands.room, c.requires.2)))
 
 pub overflow_cast-answers : goal.overflow_cast-answers
 overflow_cast-answers c = omega (arith, c.loop-i-test.true, (ready_to (goal.at.overflow_cast-answers c).After-lamp_of-l).few)
@@ -133,7 +133,7 @@ take-d-requires c =
     let g = loop.invariant.0 in
     let f = next_item _ _ _ _ _ _ ready _ _ _ _ _ g c.loop-i-test.true in
     let counts = rw (← meant_kind _ _ _ c.known_input-x.ensures) at (sym c.fate_of.ensures ∙ c.in-Ok.is) in
-    (rw ((c.advance-m.ensures loop.k).lamp, c.stamp_at-t.ensures, c.input_place-at.ensures, move_clock s _) (moved_roomy s _ ((sound_pair_exactly_when _).0 g.safe).actuator f.risen f.timely), counts)
+    (rw ((c.advance-m.ensures loop.k).lamp, (rw c.nth-group.ensures.0 at c.stamp-t.ensures), c.nth-group.ensures.1, move_clock s _) (moved_roomy s _ ((sound_pair_exactly_when _).0 g.safe).actuator f.risen f.timely), counts)
 
 pub scenes_after-table-requires : goal.scenes_after-table-requires
 unfolding barrier
@@ -146,7 +146,7 @@ put_note-count-requires c =
     let g = loop.invariant.0 in
     let within = c.loop-i-test.true in
     let moves = c.advance-m in
-    let two = a_move_writes_at_most_two (state_of c.args.start.params loop.k loop.l) c.stamp_at-t.result in
+    let two = a_move_writes_at_most_two (state_of c.args.start.params loop.k loop.l) c.stamp-t.result in
     let own = listed_few c.take-d.result.note in
     (omega (arith, within, two, (moves.ensures loop.k).count, g.stands.few, ready.few), omega (arith, within, two, own, (moves.ensures loop.k).count, moves.auto.records, g.stands.few, g.stands.room, c.requires.2))
 
