@@ -1,5 +1,6 @@
 // Where the parts of a cue file stand and how long they are, for all code, by the row of the file's version. (What a record takes:
 // `buffers`; the places inside the header and an input: where they are read; the buffer of `cueprint` repeats the length of the longest file.)
+// Stays: as methods of `Form` these functions would stand in `rules`, which has no code, and a trait for the one type is no plainer.
 #![tactic(auto)]
 
 ghost use Rattle.std.specs.Prelude.{◌≡◌, ◌+◌, ◌*◌, ◌≤◌, ◌<◌, length};
@@ -19,6 +20,7 @@ pub const INPUT_SIZE: usize = 8;
 pub const MOST_INPUTS: u32 = 2048;
 
 // The row of a version: version 1 where it is neither.
+#[tactic(auto, unfolding(rules::specs::Forms::form_of))]
 pub fn form_of(version: u32) -> Form
     ensures { result ≡ form_of version }
 {
@@ -36,14 +38,15 @@ pub fn form_of(version: u32) -> Form
 }
 
 // Whether a version has a row of its own.
+#[tactic(auto, unfolding(rules::specs::Forms::is_version))]
 pub fn is_version(version: u32) -> bool
     ensures { result ≡ is_version version }
 {
-    let form = form_of(version);
-    form.version as u32 == version
+    form_of(version).version as u32 == version
 }
 
 // The row of parameters that are offered alone: told by how many octets they are.
+#[tactic(auto, unfolding(rules::specs::Layout::form_alone, rules::specs::Forms::form_of))]
 pub fn form_alone(octets: &[u8]) -> Form
     ensures { result ≡ form_alone octets.now }
 {
@@ -56,10 +59,9 @@ pub fn form_alone(octets: &[u8]) -> Form
 }
 
 // The octets of a time.
-fn width_of(form: Form) -> usize
-    ensures { (result ≡ width form.scale) × (result ≤ 4) }
+fn width_of(scale: Scale) -> usize
+    ensures { (result ≡ width scale) × (result ≤ 4) }
 {
-    let scale = form.scale;
     match scale {
         Scale::Seconds => 2,
         Scale::Tenths => 4,
@@ -73,17 +75,13 @@ pub fn time_place(form: Form, n: usize) -> usize
     requires { n < 4 }
     ensures { (result ≡ time_place form n) × (result < 16) }
 {
-    let scale = form.scale;
-    match scale {
-        Scale::Seconds => 2 * n,
-        Scale::Tenths => 4 * n,
-    }
+    width_of(form.scale) * n
 }
 
 pub fn modes_at(form: Form) -> usize
     ensures { (result ≡ modes_at form) × (result ≤ 16) }
 {
-    width_of(form) * 4
+    width_of(form.scale) * 4
 }
 
 fn scenes_at(form: Form) -> usize
@@ -123,21 +121,21 @@ pub fn inputs_at(form: Form) -> usize
 }
 
 // The parameters of a file.
+#[tactic(auto, unfolding(rules::specs::Files::parameters_in))]
 pub fn parameters_in(file: &[u8], form: Form) -> &[u8]
     requires { (form ≡ form_in file.now) × (inputs_at form ≤ length file.now) }
     ensures { result.now ≡ parameters_in file.now }
 {
-    let end = inputs_at(form);
-    &file[PARAMETERS_AT..end]
+    &file[PARAMETERS_AT..inputs_at(form)]
 }
 
 // The inputs of a file.
+#[tactic(auto, unfolding(rules::specs::Files::inputs_in))]
 pub fn inputs_in(file: &[u8], form: Form) -> &[u8]
     requires { (form ≡ form_in file.now) × (inputs_at form ≤ length file.now) }
     ensures { result.now ≡ inputs_in file.now }
 {
-    let start = inputs_at(form);
-    &file[start..]
+    &file[inputs_at(form)..]
 }
 
 // Where input i stands among the inputs.
