@@ -6,7 +6,7 @@ ghost use Rattle.rules.specs.Images.{state_in};
 use crate::IMAGE_SIZE;
 use inputs::known_force;
 use octets::read32;
-use parameters::read::{params_of, scenes_of};
+use parameters::read::ParameterOctets;
 use rules::form::{Form, Scale};
 use rules::phase::Phase;
 use rules::state::{Link, State};
@@ -52,10 +52,13 @@ pub fn state_in(octets: &[u8; IMAGE_SIZE]) -> State
         version: octets[40],
         scale: Scale::Tenths,
     };
-    let written = &octets[..PARAMETERS_END];
+    let written = ParameterOctets {
+        octets: &octets[..PARAMETERS_END],
+        form,
+    };
     State {
-        params: params_of(written, form),
-        scenes: scenes_of(written, form),
+        params: written.params(),
+        scenes: written.scenes(),
         clock: read32(octets, 48),
         night: octets[41] == 1,
         lock: octets[42] == 1,

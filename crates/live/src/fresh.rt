@@ -4,7 +4,7 @@ ghost use Rattle.rules.specs.Calls.{fresh_call};
 
 use base::refusal::{Refused, number_of};
 use layout::form_alone;
-use parameters::read::{check_parameters, params_of, scenes_of};
+use parameters::read::{ParameterOctets, check_parameters};
 use rules::call::Fresh;
 use states::fresh::{fresh_with, own_state};
 
@@ -16,7 +16,8 @@ pub fn fresh_state(octets: &[u8]) -> Fresh
     let check = check_parameters(octets, form);
     match check {
         Ok(()) => {
-            let s = fresh_with(params_of(octets, form), scenes_of(octets, form));
+            let parameters = ParameterOctets { octets, form };
+            let s = fresh_with(parameters.params(), parameters.scenes());
             Fresh {
                 state: s,
                 code: 0,

@@ -11,7 +11,7 @@ use cues::header::{end_time, form_in, input_count};
 use lamps::lamp::lamp_of;
 use layout::{inputs_in, parameters_in};
 use pairs::call::WallRan;
-use parameters::read::{params_of, scenes_of};
+use parameters::read::ParameterOctets;
 use player::items::play_items;
 use records::status::record_of;
 use rules::form::Form;
@@ -26,8 +26,11 @@ fn fresh_in(file: &[u8], form: Form) -> State
     requires { (form ≡ form_in file.now) × (inputs_at form ≤ length file.now) }
     ensures { result ≡ fresh_in file.now }
 {
-    let parameters = parameters_in(file, form);
-    fresh_with(params_of(parameters, form), scenes_of(parameters, form))
+    let parameters = ParameterOctets {
+        octets: parameters_in(file, form),
+        form,
+    };
+    fresh_with(parameters.params(), parameters.scenes())
 }
 
 // The whole run, to an actuator with this sensor beside it: the start record, the items, and the clock's move to the end time; the sensor has heard

@@ -4,11 +4,8 @@ use Rattle.rules.specs.Calls.{fresh_by, fresh_call}
 use Rattle.live.proofs.ByValue.{passed_length}
 use Rattle.live.proofs.fresh.fresh_state.Goals as goal
 
-pub params_of-requires : goal.params_of-requires
-params_of-requires c = passed_length _ _ (sym c.check_parameters-check.ensures ∙ c.in-Ok.is)
-
-pub scenes_of-requires : goal.scenes_of-requires
-scenes_of-requires c = passed_length _ _ (sym c.check_parameters-check.ensures ∙ c.in-Ok.is)
+pub invariant_of-parameters : goal.invariant_of-parameters
+invariant_of-parameters c = record { whole = passed_length _ _ (sym c.check_parameters-check.ensures ∙ c.in-Ok.is) }
 
 pub returns-in-Ok : goal.returns-in-Ok
 unfolding fresh_call fresh_by check_alone
@@ -16,7 +13,7 @@ returns-in-Ok c = record {
   whole =
       let told = c.form_alone-form.ensures in
       let passed = sym c.check_parameters-check.ensures ∙ c.in-Ok.is in
-      simp (← told, c.fresh_with-s.ensures, c.scenes_of.ensures, c.params_of.ensures, passed);
+      simp (← told, c.fresh_with-s.ensures, c.scenes.ensures, c.params.ensures, passed);
 }
 
 pub returns-in-Err : goal.returns-in-Err

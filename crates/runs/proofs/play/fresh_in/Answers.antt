@@ -12,12 +12,9 @@ whole c =
     let row = c.requires.0 in
     rw (c.parameters_in-parameters.ensures, row) (parameters_whole _ (rw row at c.requires.1))
 
-pub params_of-requires : goal.params_of-requires
-params_of-requires c = whole (goal.at.params_of-requires c).After-parameters_in-parameters
-
-pub scenes_of-requires : goal.scenes_of-requires
-scenes_of-requires c = whole (goal.at.scenes_of-requires c).After-parameters_in-parameters
+pub invariant_of-parameters : goal.invariant_of-parameters
+invariant_of-parameters c = record { whole = whole (goal.at.invariant_of-parameters c).After-parameters_in-parameters }
 
 pub returns : goal.returns
 unfolding fresh_in
-returns c = simp (c.fresh_with.ensures, c.scenes_of.ensures, c.params_of.ensures, c.parameters_in-parameters.ensures, c.requires.0)
+returns c = simp (c.fresh_with.ensures, c.scenes.ensures, c.params.ensures, c.parameters_in-parameters.ensures, c.requires.0)
