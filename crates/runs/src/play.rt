@@ -22,6 +22,7 @@ use timers::clock::move_clock;
 use turns::heard::listen;
 
 // The fresh state of a file's own parameters and scenes.
+#[tactic(auto, using(rules::proofs::Refusals::Files::parameters_whole), unfolding(crate::specs::Runs::fresh_in))]
 fn fresh_in(file: &[u8], form: Form) -> State
     requires { (form ≡ form_in file.now) × (inputs_at form ≤ length file.now) }
     ensures { result ≡ fresh_in file.now }
