@@ -14,7 +14,7 @@ use Rattle.base.specs.Refusals.{or_else, Check, refused_with}
 use Rattle.rules.specs.Inputs.{input_at}
 use Rattle.rules.specs.Layout.{input_place}
 use Rattle.rules.specs.Readings.{Reading, verdict}
-use Rattle.rules.specs.Files.{check_start}
+use Rattle.rules.specs.Files.{input_count, end_time, inputs_in, check_start}
 use Rattle.rules.proofs.Refusals.Readings.{verdict_after}
 use Rattle.sensor.specs.declared.signal.Signal.TheVariants as signal
 use Rattle.sensor.specs.Signals.{signal_at}
@@ -23,8 +23,8 @@ use Rattle.pairs.specs.Items.{item_of, item_at}
 use Rattle.pairs.specs.Lists.{Listed}
 use Rattle.pairs.specs.Walls.{file_in, actions_in, check_wall, stamped_item, item_in, items_read, read_wall}
 use Rattle.inputs.specs.Meaning.{is_meant}
-use Rattle.cues.specs.Checks.{is_edge, is_known, known_at}
-use Rattle.cues.proofs.Inputs.{says}
+use Rattle.cues.specs.Checks.{check_inputs, is_edge, is_known, known_at}
+use Rattle.cues.proofs.Inputs.{says, checked_as_read}
 use Rattle.wallfile.specs.Checks.{check_parts}
 
 -- a list that takes edges
@@ -38,6 +38,10 @@ items_say inputs i = by (input_at inputs (input_place i)) (signal_at inputs (inp
     by None (Some (signal.Button2 edge)) = refl
     by None (Some (signal.Status value)) = refl
     by None None = refl
+
+-- so the check of the inputs, edges among them, finds what reading them as items finds
+pub items_checked : (file : List ℕ) → check_inputs (known_at true (inputs_in file)) (inputs_in file) (input_count file) 0 0 (end_time file) ≡ verdict (items_read file)
+items_checked file = checked_as_read (item_in (inputs_in file)) (known_at true (inputs_in file)) (items_say (inputs_in file)) (inputs_in file) (input_count file) 0 0 (end_time file)
 
 -- one check after another, in either grouping
 or_else_assoc : (a b c : Check) → or_else (or_else a b) c ≡ or_else a (or_else b c)

@@ -15,6 +15,7 @@ use sensor::action::check_actions;
 const ACTIONS_SIZE: usize = 4;
 
 // The cue file.
+#[tactic(auto, unfolding(pairs::specs::Walls::file_in))]
 pub fn file_in(wall: &[u8]) -> &[u8]
     requires { actions_size ≤ length wall.now }
     ensures { result.now ≡ file_in wall.now }
@@ -23,6 +24,7 @@ pub fn file_in(wall: &[u8]) -> &[u8]
 }
 
 // The actions after it.
+#[tactic(auto, unfolding(pairs::specs::Walls::actions_in))]
 pub fn actions_in(wall: &[u8]) -> &[u8]
     requires { actions_size ≤ length wall.now }
     ensures { result.now ≡ actions_in wall.now }
@@ -31,23 +33,17 @@ pub fn actions_in(wall: &[u8]) -> &[u8]
 }
 
 // The rows of the cue file up to its parameters, then the actions, then the inputs, edges among them.
+#[tactic(auto, using(cues::proofs::Passed::passed_start_is_good, crate::proofs::Items::items_checked), unfolding(crate::specs::Checks::check_parts))]
 fn check_parts(file: &[u8], actions: &[u8]) -> Result<(), Refused>
     ensures { result ≡ check_parts file.now actions.now }
 {
-    let start = check_start(file);
-    match start {
-        Err(Refused { why, place }) => Err(Refused { why, place }),
-        Ok(()) => {
-            let edges = check_actions(actions);
-            match edges {
-                Err(Refused { why, place }) => Err(Refused { why, place }),
-                Ok(()) => check_inputs_in(file, true),
-            }
-        }
-    }
+    check_start(file)?;
+    check_actions(actions)?;
+    check_inputs_in(file, true)
 }
 
 // A whole wall list: accepted, or refused for the first row of the table that holds.
+#[tactic(auto, using(crate::proofs::Items::long_wall, crate::proofs::Items::short_wall))]
 pub fn check_wall(wall: &[u8]) -> Result<(), Refused>
     ensures { result ≡ verdict (read_wall wall.now) }
 {
