@@ -1,7 +1,6 @@
 -- What the code finds before it plays decides how far the change goes, and what is played then is the change.
-use Rattle.base.specs.Refusals.{refused_with}
 use Rattle.std.specs.Prelude.{Ok}
-use Prim.Native.Nat.{ℕ, ◌*◌, ◌≤◌, ◌<◌}
+use Prim.Native.Nat.{ℕ, ◌*◌, ◌/◌, ◌≤◌, ◌<◌}
 use mathlib.Core.Bool.{true, false}
 use mathlib.Core.List.{List}
 use mathlib.Core.Path.{◌≡◌, refl, ap}
@@ -9,7 +8,6 @@ use native.Mathlib.Nat.{zero-add}
 use native.Mathlib.Omega.{arith}
 use lib.ListN.{length}
 use Rattle.base.specs.declared.refusal.Refusal.{Refusal}
-use Rattle.base.specs.declared.refusal.Refusal.TheVariants.{UnsoundState}
 use Rattle.base.specs.Time.{last_stamp}
 use Rattle.rules.specs.declared.state.State.{State}
 use Rattle.rules.specs.Lists.{Cue, Played, plays}
@@ -17,7 +15,7 @@ use Rattle.rules.specs.Readings.{Reading, cues, bad, found, verdict, read_inputs
 use Rattle.rules.specs.Files.{cue_at}
 use Rattle.rules.specs.Runs.{whole}
 use Rattle.rules.specs.Soundness.{sound}
-use Rattle.rules.specs.Changes.{group_count, groups_in, singles, check_lent, check_change, changed, handed_back, change_by, change_call}
+use Rattle.rules.specs.Changes.{group_count, groups_in, singles, check_change, changed, change_by, change_call}
 use Rattle.rules.proofs.Refusals.Readings.{inputs_decide}
 use Rattle.rules.proofs.Refusals.Runs.{narrow_input}
 use Rattle.rules.proofs.Refusals.Changes.{ends, change_read, all_are_played, played_up_to, looked_at_exactly_when}
@@ -41,19 +39,9 @@ use Rattle.changes.specs.Reaches.{reach_of}
 
 -- ---- before any input is looked at
 
-module _ (s : State) (inputs r a : List ℕ) where
-  pub not_sound : sound s ≡ false → whole (handed_back s UnsoundState 0) r a ≡ change_call s inputs r a
-  unfolding change_call change_by check_change
-  not_sound e = rw e
-
-  module _ (safe : sound s ≡ true) where
-    pub lent_badly : (why : Refusal) (place : ℕ) → check_lent inputs r a ≡ refused_with why place → whole (handed_back s why place) r a ≡ change_call s inputs r a
-    unfolding change_call change_by check_change
-    lent_badly why place e = rw (safe, e)
-
-    pub lent_well : check_lent inputs r a ≡ (Ok tt) → check_change s inputs r a ≡ Ok tt
-    unfolding check_change
-    lent_well e = rw (safe, e)
+-- where nothing is wrong there, the groups are few
+pub looked_few : (s : State) (inputs r a : List ℕ) → check_change s inputs r a ≡ (Ok tt) → length inputs / 8 ≤ 256
+looked_few s inputs r a passed = ((looked_at_exactly_when s inputs r a).0 passed).1.0.few
 
 -- ---- how far it goes
 

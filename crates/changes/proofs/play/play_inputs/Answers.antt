@@ -1,25 +1,13 @@
-use Prim.Native.Nat.{◌/◌, ◌≤◌}
-use lib.ListN.{length}
 use native.Mathlib.Omega.{arith}
 use Rattle.rules.proofs.Refusals.Changes.{looked_at_exactly_when}
 use Rattle.changes.proofs.Reaching.{Upto, upto, found_before, ready, room_for_them, change_played_lem}
 use Rattle.changes.proofs.play.play_inputs.Goals as goal
-use Rattle.changes.proofs.play.play_inputs.Goals.{After-reach_of-reach, After-slice_known-2-1}
-
--- its groups are few
-few : (c : After-slice_known-2-1) → length c.args.inputs.now / 8 ≤ 256
-few c = ((looked_at_exactly_when _ _ _ _).0 c.requires).1.0.few
+use Rattle.changes.proofs.play.play_inputs.Goals.{After-reach_of-reach}
 
 -- how far the change goes is what the check has found
 up : (c : After-reach_of-reach) → let a = c.args in Upto a.s a.inputs.now c.reach_of-reach.result
 up c =
     rw (c.reach_of-reach.ensures, c.check_inputs-met.ensures, found_before c.args.s c.args.inputs.now) (upto _ _ ((looked_at_exactly_when _ _ _ _).0 c.requires).0)
-
-pub overflow_cast-n : goal.overflow_cast-n
-overflow_cast-n c = omega (arith, few (goal.at.overflow_cast-n c).After-slice_known-2-1)
-
-pub check_inputs-met-requires : goal.check_inputs-met-requires
-check_inputs-met-requires c = (omega (arith, few (goal.at.check_inputs-met-requires c).After-slice_known-2-1), omega arith)
 
 pub play_items-played-requires : goal.play_items-played-requires
 play_items-played-requires c =
