@@ -46,16 +46,12 @@ pub(crate) fn play(file: &[u8], first: Sensor, records: &mut [u8], answers: &mut
     let start = fresh_in(file, form);
     put_record(records, 0, record_of(0, lamp_of(start)));
     let played = play_items(inputs_in(file, form), n, start, first, 1, records, answers);
-    let s = played.state;
-    let z = played.sensor;
-    let last = move_clock(s, end);
-    let state = last.state;
-    let written = last.notes;
-    put_notes(records, played.count, written);
-    let count = played.count + (written.count as u32);
+    let last = move_clock(played.state, end);
+    put_notes(records, played.count, last.notes);
+    let count = played.count + last.notes.count as u32;
     WallRan {
-        state,
-        sensor: listen(records, count, z, played.heard),
+        state: last.state,
+        sensor: listen(records, count, played.sensor, played.heard),
         code: 0,
         place: 0,
         count,

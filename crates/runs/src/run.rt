@@ -4,7 +4,7 @@ ghost use Rattle.pairs.specs.Walls.{wall_whole, wall_refusal};
 ghost use Rattle.runs.specs.Runs.{ran_in, Fit};
 
 use crate::play::play;
-use base::refusal::{Refusal, number_of};
+use base::refusal::{Refusal, Refused, number_of};
 use buffers::put::is_roomy;
 use cues::header::input_count;
 use pairs::call::WallRan;
@@ -12,26 +12,30 @@ use sensor::state::{Sensor, own_sensor};
 use states::fresh::own_state;
 
 // A refusal has its own state and sensor.
-pub fn refused(why: Refusal, place: u16) -> WallRan
-    ensures { result ≡ wall_refusal why place }
+// Stays: code and place are numbers, as `WallRan` and `Ran` show them and the theorems name them (`RunCodes`).
+pub fn refused(found: Refused) -> WallRan
+    ensures { result ≡ wall_refusal found.why found.place }
 {
     WallRan {
         state: own_state(),
         sensor: own_sensor(),
-        code: number_of(why),
-        place,
+        code: number_of(found.why),
+        place: found.place,
         count: 0,
     }
 }
 
 // A list with nothing wrong in it, to an actuator with this sensor beside it: a short buffer is refused, and then both are left as they were.
+#[tactic(auto, unfolding(crate::specs::Runs::ran_in, rules::specs::Files::lent_enough, pairs::specs::Walls::wall_refused))]
 pub fn run_checked(file: &[u8], first: Sensor, records: &mut [u8], answers: &mut [u8]) -> WallRan
     requires { Fit file.now }
     ensures { wall_whole result records.new answers.new ≡ ran_in file.now first records.old answers.old }
 {
-    if is_roomy(input_count(file), records.len(), answers.len()) {
-        play(file, first, records, answers)
-    } else {
-        refused(Refusal::ShortBuffer, 0)
+    if !is_roomy(input_count(file), records.len(), answers.len()) {
+        return refused(Refused {
+            why: Refusal::ShortBuffer,
+            place: 0,
+        });
     }
+    play(file, first, records, answers)
 }

@@ -1,9 +1,11 @@
 -- The whole run over a wall list, one law for each way out.
 use Rattle.base.specs.Refusals.{refused_with}
 use Rattle.std.specs.Prelude.{Ok}
-use Prim.Native.Nat.{ℕ}
+use Prim.Native.Nat.{ℕ, ◌≤◌}
 use mathlib.Core.List.{List}
 use mathlib.Core.Path.{◌≡◌, sym, ap, ◌∙◌}
+use native.Mathlib.Omega.{arith}
+use lib.ListN.{length}
 use Rattle.base.specs.declared.refusal.Refusal.{Refusal}
 use Rattle.base.proofs.Tests.{cond_case}
 use Rattle.rules.specs.Readings.{Reading, cues, found, verdict}
@@ -21,6 +23,10 @@ unfolding items_in
 wall_passed wall e =
     let read = good_read (read_wall wall) e in
     read ∙ ap (λ (x : Reading Listed). cues (found x)) (good_wall_is_read wall (good_wall wall _ read))
+
+-- so it is long enough for its actions
+pub wall_long : (wall : List ℕ) → verdict (read_wall wall) ≡ (Ok tt) → 4 ≤ length wall
+wall_long wall e = omega (arith, (good_wall wall _ (wall_passed wall e)).long)
 
 pub wall_fits : (wall : List ℕ) → read_wall wall ≡ cues (items_in (file_in wall)) → Fit (file_in wall)
 wall_fits wall read = let good = good_wall wall _ read in record { start = good.start; reads = sym (good_wall_is_read wall good) ∙ read }
