@@ -8,6 +8,7 @@ use base::moment::LAST_STAMP;
 use base::refusal::{Refusal, Refused, number_of};
 use buffers::put::is_roomy;
 use cues::check::check_inputs;
+use cues::known::Cues;
 use layout::INPUT_SIZE;
 use player::items::play_items;
 use rules::call::Ran;
@@ -80,7 +81,7 @@ pub fn play_inputs(s: State, inputs: &[u8], records: &mut [u8], answers: &mut [u
     ensures { whole result records.new answers.new ≡ change_call s inputs.now records.old answers.old }
 {
     let n = (inputs.len() / INPUT_SIZE) as u32;
-    let met = check_inputs(inputs, n, s.clock, LAST_STAMP, false);
+    let met = check_inputs::<Cues>(inputs, n, s.clock, LAST_STAMP);
     let reach = reach_of(met, n);
     let played = play_items(inputs, reach.count, s, own_sensor(), 0, records, answers);
     Ran {

@@ -8,13 +8,13 @@ use mathlib.Core.Path.{◌≡◌, refl, sym, ap, ◌∙◌}
 use native.Mathlib.Omega.{arith}
 use lib.Dec.{leb}
 use Rattle.octets.specs.Groups.{stamp_at}
-use Rattle.base.specs.declared.refusal.Refusal.{Refusal}
 use Rattle.base.specs.declared.refusal.Refusal.TheVariants.{BadStamp}
 use Rattle.base.specs.Refusals.{or_else, refused_with}
 use Rattle.rules.specs.Inputs.{input_at}
 use Rattle.rules.specs.Layout.{input_place}
 use Rattle.rules.specs.Readings.{Reading, cues, bad, verdict, before, read_one, read_inputs}
-use Rattle.rules.specs.Files.{stamped, cue_at}
+use Rattle.rules.specs.Files.{input_count, end_time, inputs_in, check_start, stamped, cue_at, cues_read, read_file}
+use Rattle.rules.proofs.Refusals.Readings.{verdict_after}
 use Rattle.inputs.specs.Meaning.{is_meant}
 use Rattle.sensor.specs.Signals.{signal_at}
 use Rattle.cues.specs.Checks.{check_one, check_inputs, is_edge, is_known, known_at}
@@ -56,19 +56,21 @@ known_says inputs i = by (input_at inputs (input_place i))
     by (Some x) = refl
     by None = refl
 
+-- so the check of a file finds what reading it finds
+pub file_checked : (file : List ℕ) → verdict (read_file file) ≡ or_else (check_start file) (check_inputs (known_at false (inputs_in file)) (inputs_in file) (input_count file) 0 0 (end_time file))
+unfolding read_file
+file_checked file =
+    let inputs = inputs_in file in
+    verdict_after (check_start file) (cues_read file)
+    ∙ ap (or_else (check_start file)) (sym (checked_as_read (cue_at inputs) (known_at false inputs) (known_says inputs) inputs (input_count file) 0 0 (end_time file)))
+
 -- ---- the loop
 
 pub none_left : (known : ℕ → Bool) (inputs : List ℕ) (n i last end : ℕ) → n ≤ i → check_inputs known inputs (n - i) i last end ≡ Ok tt
 unfolding check_inputs
 none_left known inputs n i last end h = let e : n - i ≡ 0 = omega arith in rw e
 
-module _ (known : ℕ → Bool) (inputs : List ℕ) (n i last end : ℕ) (more : i < n) where
-  one_left : check_inputs known inputs (n - i) i last end ≡ or_else (check_one (known i) (stamp_at inputs (input_place i)) last end i) (check_inputs known inputs (n - (i + 1)) (i + 1) (stamp_at inputs (input_place i)) end)
-  unfolding check_inputs
-  one_left = let e : n - i ≡ suc (n - (i + 1)) = omega arith in rw e
-
-  pub good_goes_on : check_one (known i) (stamp_at inputs (input_place i)) last end i ≡ (Ok tt) → check_inputs known inputs (n - i) i last end ≡ check_inputs known inputs (n - (i + 1)) (i + 1) (stamp_at inputs (input_place i)) end
-  good_goes_on h = simp h at one_left
-
-  pub bad_ends : (why : Refusal) (place : ℕ) → check_one (known i) (stamp_at inputs (input_place i)) last end i ≡ refused_with why place → check_inputs known inputs (n - i) i last end ≡ refused_with why place
-  bad_ends why place h = simp h at one_left
+pub one_left : (known : ℕ → Bool) (inputs : List ℕ) (n i last end : ℕ) → i < n →
+    check_inputs known inputs (n - i) i last end ≡ or_else (check_one (known i) (stamp_at inputs (input_place i)) last end i) (check_inputs known inputs (n - (i + 1)) (i + 1) (stamp_at inputs (input_place i)) end)
+unfolding check_inputs
+one_left known inputs n i last end more = let e : n - i ≡ suc (n - (i + 1)) = omega arith in rw e

@@ -3,3 +3,4 @@
 
 pub mod check;
 pub mod header;
+pub mod known;

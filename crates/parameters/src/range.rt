@@ -57,8 +57,8 @@ fn bad_at(at: usize) -> Result<(), Refused>
 impl ParameterOctets<'_> {
     // The lowest octet that is out of range. A time is bad at its first octet.
     #[tactic(auto, using(crate::proofs::Loops::time_step))]
-    pub(crate) fn lowest_bad(&self) -> Result<(), Refused>
-        ensures { result ≡ lowest_bad self.now.form self.now.octets.now (parameters_size self.now.form) 0 }
+    pub(crate) fn lowest_bad(self) -> Result<(), Refused>
+        ensures { result ≡ lowest_bad self.entry.form self.entry.octets.now (parameters_size self.entry.form) 0 }
     {
         for n in 0..4 {
             if self.bad_time(n) {
@@ -70,9 +70,9 @@ impl ParameterOctets<'_> {
 
     // Time n is too long, or it is TimedOn, the third of them, and 0.
     #[tactic(auto, unfolding(rules::specs::Parameters::bad_time))]
-    fn bad_time(&self, n: usize) -> bool
+    fn bad_time(self, n: usize) -> bool
         requires { n < 4 }
-        ensures { result ≡ bad_time self.now.form self.now.octets.now n }
+        ensures { result ≡ bad_time self.entry.form self.entry.octets.now n }
     {
         let t = self.delay(n);
         LONGEST_DELAY < t || (n == 2 && t == 0)
@@ -80,8 +80,8 @@ impl ParameterOctets<'_> {
 
     // The modes against the table, then the scenes.
     #[tactic(auto, using(crate::proofs::Loops::mode_step), unfolding(rules::specs::Parameters::greatest))]
-    fn lowest_bad_from_modes(&self) -> Result<(), Refused>
-        ensures { result ≡ lowest_bad self.now.form self.now.octets.now 24 (modes_at self.now.form) }
+    fn lowest_bad_from_modes(self) -> Result<(), Refused>
+        ensures { result ≡ lowest_bad self.entry.form self.entry.octets.now 24 (modes_at self.entry.form) }
     {
         for (mode, greatest) in GREATEST.iter().enumerate() {
             let at = modes_at(self.form) + mode;
@@ -94,8 +94,8 @@ impl ParameterOctets<'_> {
 
     // The eight scene entries, each its number and then its flags. An octet for each number tells whether an entry before has it.
     #[tactic(auto, using(crate::proofs::Loops::entry_step, crate::proofs::Loops::entries_end, crate::proofs::Loops::bad_as_seen, crate::proofs::Loops::noted_is_seen))]
-    fn lowest_bad_from_scenes(&self) -> Result<(), Refused>
-        ensures { result ≡ lowest_bad self.now.form self.now.octets.now 16 (scenes_at self.now.form) }
+    fn lowest_bad_from_scenes(self) -> Result<(), Refused>
+        ensures { result ≡ lowest_bad self.entry.form self.entry.octets.now 16 (scenes_at self.entry.form) }
     {
         let mut seen = [0u8; 64];
         for entry in 0..8 {
@@ -113,9 +113,9 @@ impl ParameterOctets<'_> {
 
     // The flags of an entry whose number is in range, so that a number beyond 63 is unused.
     #[tactic(auto, using(crate::proofs::Loops::flags_known))]
-    fn bad_flags(&self, entry: usize) -> bool
-        requires { (entry < 8) × (bad_number self.now.form self.now.octets.now entry ≡ false) }
-        ensures { result ≡ bad_flags self.now.form self.now.octets.now entry }
+    fn bad_flags(self, entry: usize) -> bool
+        requires { (entry < 8) × (bad_number self.form self.octets.now entry ≡ false) }
+        ensures { result ≡ bad_flags self.entry.form self.entry.octets.now entry }
     {
         let number = self.octets[scene_place(self.form, entry)];
         greatest_flags(number) < self.octets[flags_place(self.form, entry)]

@@ -35,9 +35,9 @@ pub fn check_parameters(octets: &[u8], form: Form) -> Result<(), Refused>
 impl ParameterOctets<'_> {
     // Time n, in tenths of a second: here, and nowhere else, seconds become tenths.
     #[tactic(auto, unfolding(rules::specs::Parameters::delay, rules::specs::Parameters::time_at))]
-    pub(crate) fn delay(&self, n: usize) -> u32
+    pub(crate) fn delay(self, n: usize) -> u32
         requires { n < 4 }
-        ensures { result ≡ delay self.now.form self.now.octets.now n }
+        ensures { result ≡ delay self.entry.form self.entry.octets.now n }
     {
         let at = time_place(self.form, n);
         match self.form.scale {
@@ -48,8 +48,8 @@ impl ParameterOctets<'_> {
 
     // The parameters that the octets say, accepted or not.
     #[tactic(auto, unfolding(rules::specs::Parameters::params_of))]
-    pub fn params(&self) -> Params
-        ensures { result ≡ params_of self.now.form self.now.octets.now }
+    pub fn params(self) -> Params
+        ensures { result ≡ params_of self.entry.form self.entry.octets.now }
     {
         let modes = modes_at(self.form);
         Params {
@@ -69,9 +69,9 @@ impl ParameterOctets<'_> {
 
     // Scene entry n: its number, then its flags, of which bit 0 is the value and bit 1 says that it was taught in.
     #[tactic(auto, unfolding(rules::specs::Parameters::scene_at))]
-    fn scene(&self, n: usize) -> Scene
+    fn scene(self, n: usize) -> Scene
         requires { n < 8 }
-        ensures { result ≡ scene_at self.now.octets.now (scene_place self.now.form n) }
+        ensures { result ≡ scene_at self.entry.octets.now (scene_place self.entry.form n) }
     {
         let flags = self.octets[flags_place(self.form, n)];
         Scene {
@@ -83,8 +83,8 @@ impl ParameterOctets<'_> {
 
     // The eight scene entries that the octets say, accepted or not.
     #[tactic(auto, unfolding(rules::specs::Parameters::scenes_of))]
-    pub fn scenes(&self) -> [Scene; 8]
-        ensures { result ≡ scenes_of self.now.form self.now.octets.now }
+    pub fn scenes(self) -> [Scene; 8]
+        ensures { result ≡ scenes_of self.entry.form self.entry.octets.now }
     {
         array::from_fn(|n| self.scene(n))
     }

@@ -5,7 +5,7 @@ use Rattle.std.specs.Prelude.{Option, Some, None, Ok, Err}
 use Prim.Native.Nat.{ℕ, ◌≤◌, ◌<◌}
 use mathlib.Core.Bool.{true, ◌&&◌, ◌||◌}
 use mathlib.Core.List.{List}
-use mathlib.Core.Path.{◌≡◌, refl, ◌∙◌}
+use mathlib.Core.Path.{◌≡◌, refl, sym, ap, ◌∙◌}
 use lib.ListN.{length}
 use borrow.Author.Tests.{le-leb, lt-leb}
 use Rattle.octets.specs.Groups.{stamp_at}
@@ -40,8 +40,11 @@ items_say inputs i = by (input_at inputs (input_place i)) (signal_at inputs (inp
     by None None = refl
 
 -- so the check of the inputs, edges among them, finds what reading them as items finds
-pub items_checked : (file : List ℕ) → check_inputs (known_at true (inputs_in file)) (inputs_in file) (input_count file) 0 0 (end_time file) ≡ verdict (items_read file)
-items_checked file = checked_as_read (item_in (inputs_in file)) (known_at true (inputs_in file)) (items_say (inputs_in file)) (inputs_in file) (input_count file) 0 0 (end_time file)
+pub parts_checked : (file actions : List ℕ) → check_parts file actions ≡ or_else (check_start file) (or_else (check_actions actions) (check_inputs (known_at true (inputs_in file)) (inputs_in file) (input_count file) 0 0 (end_time file)))
+unfolding check_parts
+parts_checked file actions =
+    let inputs = inputs_in file in
+    ap (λ (c : Check). or_else (check_start file) (or_else (check_actions actions) c)) (sym (checked_as_read (item_in inputs) (known_at true inputs) (items_say inputs) inputs (input_count file) 0 0 (end_time file)))
 
 -- one check after another, in either grouping
 or_else_assoc : (a b c : Check) → or_else (or_else a b) c ≡ or_else a (or_else b c)

@@ -9,6 +9,7 @@ ghost use Rattle.wallfile.specs.Checks.{check_parts};
 
 use base::refusal::{Refusal, Refused};
 use cues::check::{check_inputs_in, check_start};
+use cues::known::CuesAndEdges;
 use layout::LEAST_FILE;
 use sensor::action::check_actions;
 
@@ -33,13 +34,13 @@ pub fn actions_in(wall: &[u8]) -> &[u8]
 }
 
 // The rows of the cue file up to its parameters, then the actions, then the inputs, edges among them.
-#[tactic(auto, using(cues::proofs::Passed::passed_start_is_good, crate::proofs::Items::items_checked), unfolding(crate::specs::Checks::check_parts))]
+#[tactic(auto, using(cues::proofs::Passed::passed_start_is_good, crate::proofs::Items::parts_checked))]
 fn check_parts(file: &[u8], actions: &[u8]) -> Result<(), Refused>
     ensures { result ≡ check_parts file.now actions.now }
 {
     check_start(file)?;
     check_actions(actions)?;
-    check_inputs_in(file, true)
+    check_inputs_in::<CuesAndEdges>(file)
 }
 
 // A whole wall list: accepted, or refused for the first row of the table that holds.

@@ -5,5 +5,5 @@ use Rattle.parameters.proofs.read.ParameterOctets.lowest_bad_from_scenes.Goals a
 
 pub loop-entry-init : goal.loop-entry-init
 loop-entry-init c =
-    let first : scene_place c.args.self.now.form 0 ≡ scenes_at c.args.self.now.form = omega arith in
+    let first : scene_place c.args.self.form 0 ≡ scenes_at c.args.self.form = omega arith in
     record { good = rw first; seen = none_seen _ _ }
