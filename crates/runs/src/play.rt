@@ -7,14 +7,11 @@ ghost use Rattle.pairs.specs.Walls.{wall_whole, wall_accepted};
 ghost use Rattle.runs.specs.Runs.{fresh_in, play_in, Fit};
 
 use buffers::put::{put_notes, put_record};
-use cues::header::{end_time, form_in, input_count};
+use cues::header::CueFile;
 use lamps::lamp::lamp_of;
-use layout::{inputs_in, parameters_in};
 use pairs::call::WallRan;
-use parameters::read::ParameterOctets;
 use player::items::play_items;
 use records::status::record_of;
-use rules::form::Form;
 use rules::state::State;
 use sensor::state::Sensor;
 use states::fresh::fresh_with;
@@ -22,31 +19,26 @@ use timers::clock::move_clock;
 use turns::heard::listen;
 
 // The fresh state of a file's own parameters and scenes.
-#[tactic(auto, using(rules::proofs::Refusals::Files::parameters_whole), unfolding(crate::specs::Runs::fresh_in))]
-fn fresh_in(file: &[u8], form: Form) -> State
-    requires { (form ≡ form_in file.now) × (inputs_at form ≤ length file.now) }
-    ensures { result ≡ fresh_in file.now }
+#[tactic(auto, unfolding(crate::specs::Runs::fresh_in))]
+fn fresh_in(file: CueFile) -> State
+    requires { inputs_at (form_in file.octets.now) ≤ length file.octets.now }
+    ensures { result ≡ fresh_in file.entry.octets.now }
 {
-    let parameters = ParameterOctets {
-        octets: parameters_in(file, form),
-        form,
-    };
+    let parameters = file.parameters();
     fresh_with(parameters.params(), parameters.scenes())
 }
 
 // The whole run, to an actuator with this sensor beside it: the start record, the items, and the clock's move to the end time; the sensor has heard
 // them all.
-pub(crate) fn play(file: &[u8], first: Sensor, records: &mut [u8], answers: &mut [u8]) -> WallRan
-    requires { Fit file.now × (records_room (input_count file.now) ≤ length records.old) × (input_count file.now ≤ length answers.old) }
-    ensures { wall_whole result records.new answers.new ≡ wall_accepted (play_in file.now first) records.old answers.old }
+pub(crate) fn play(file: CueFile, first: Sensor, records: &mut [u8], answers: &mut [u8]) -> WallRan
+    requires { Fit file.octets.now × (records_room (input_count file.octets.now) ≤ length records.old) × (input_count file.octets.now ≤ length answers.old) }
+    ensures { wall_whole result records.new answers.new ≡ wall_accepted (play_in file.entry.octets.now first) records.old answers.old }
 {
-    let form = form_in(file);
-    let n = input_count(file);
-    let end = end_time(file);
-    let start = fresh_in(file, form);
+    let n = file.input_count();
+    let start = fresh_in(file);
     put_record(records, 0, record_of(0, lamp_of(start)));
-    let played = play_items(inputs_in(file, form), n, start, first, 1, records, answers);
-    let last = move_clock(played.state, end);
+    let played = play_items(file.inputs(), n, start, first, 1, records, answers);
+    let last = move_clock(played.state, file.end_time());
     put_notes(records, played.count, last.notes);
     let count = played.count + last.notes.count as u32;
     WallRan {

@@ -6,7 +6,7 @@ ghost use Rattle.runs.specs.Runs.{ran_in, Fit};
 use crate::play::play;
 use base::refusal::{Refusal, Refused, number_of};
 use buffers::put::is_roomy;
-use cues::header::input_count;
+use cues::header::CueFile;
 use pairs::call::WallRan;
 use sensor::state::{Sensor, own_sensor};
 use states::fresh::own_state;
@@ -31,7 +31,8 @@ pub fn run_checked(file: &[u8], first: Sensor, records: &mut [u8], answers: &mut
     requires { Fit file.now }
     ensures { wall_whole result records.new answers.new ≡ ran_in file.now first records.old answers.old }
 {
-    if !is_roomy(input_count(file), records.len(), answers.len()) {
+    let file = CueFile { octets: file };
+    if !is_roomy(file.input_count(), records.len(), answers.len()) {
         return refused(Refused {
             why: Refusal::ShortBuffer,
             place: 0,

@@ -18,29 +18,29 @@ use Rattle.runs.proofs.play.play.Goals as goal
 use Rattle.runs.proofs.play.play.Goals.{After-put_record}
 
 -- the start record stands at the head of the buffer
-begun : (c : After-put_record) → let a = c.args in c.put_record.new.buf ≡ splice a.records.now 0 (record_octets (record_of 0 (fresh_in a.file.now)))
+begun : (c : After-put_record) → let a = c.args in c.put_record.new.buf ≡ splice a.records.now 0 (record_octets (record_of 0 (fresh_in a.file.octets.now)))
 begun c =
     c.put_record.ensures
     ∙ rw (c.record_of.ensures, c.lamp_of.ensures, c.fresh_in-start.ensures) (rw (record_alone 0 (fresh_in _)) refl)
 
 -- the fresh pair is sound, and the items are in order from there on
-ready : (c : After-put_record) → let a = c.args in Ready (inputs_in a.file.now) (input_count a.file.now) (pair_of c.fresh_in-start.result (listened c.put_record.new.buf 1 a.first 0))
+ready : (c : After-put_record) → let a = c.args in Ready (inputs_in a.file.octets.now) (input_count a.file.octets.now) (pair_of c.fresh_in-start.result (listened c.put_record.new.buf 1 a.first 0))
 ready c = rw c.fresh_in-start.ensures (fit_ready _ _ _ _ (begun c) c.requires.0)
 
 pub fresh_in-start-requires : goal.fresh_in-start-requires
-fresh_in-start-requires c = rw c.form_in-form.ensures (refl, c.requires.0.start.header.enough.long)
+fresh_in-start-requires c = c.requires.0.start.header.enough.long
 
-pub inputs_in-requires : goal.inputs_in-requires
-inputs_in-requires c = rw c.form_in-form.ensures (refl, c.requires.0.start.header.enough.long)
+pub inputs-requires : goal.inputs-requires
+inputs-requires c = c.requires.0.start.header.enough.long
 
 pub play_items-played-requires : goal.play_items-played-requires
 play_items-played-requires c =
     let n = c.input_count-n.ensures in
     let room = c.requires in
-    (rw (c.inputs_in.ensures, n) (ready (goal.at.play_items-played-requires c).After-put_record), omega arith, omega (arith, n, c.put_record.auto.buf, room.1), rw n room.2)
+    (rw (c.inputs.ensures, n) (ready (goal.at.play_items-played-requires c).After-put_record), omega arith, omega (arith, n, c.put_record.auto.buf, room.1), rw n room.2)
 
 pub move_clock-last-requires : goal.move_clock-last-requires
-move_clock-last-requires c = sound_room _ _ c.play_items-played.ensures.safe (omega (arith, c.end_time-end.ensures, c.requires.0.start.header.layout.end))
+move_clock-last-requires c = sound_room _ _ c.play_items-played.ensures.safe (omega (arith, c.end_time.ensures, c.requires.0.start.header.layout.end))
 
 pub put_notes-requires : goal.put_notes-requires
 put_notes-requires c =
@@ -69,4 +69,4 @@ returns c =
     let items = c.play_items-played in
     let n = c.input_count-n.ensures in
     rw c.listen.ensures
-    (filled_is_accepted _ _ _ _ _ _ _ _ (ended _ _ _ _ (begun (goal.at.returns c).After-put_record) c.requires.0 _ _ _ _ _ _ _ _ items.ensures.behind (omega (arith, n, items.ensures.few, items.auto.records, c.put_record.auto.buf, c.requires.1)) (rw (c.fresh_in-start.ensures, c.inputs_in.ensures, n) at items.ensures.filled) _ (c.move_clock-last.ensures ∙ ap (λ (t : ℕ). clocked (clock_move c.play_items-played.result.state t)) c.end_time-end.ensures) c.put_notes.ensures))
+    (filled_is_accepted _ _ _ _ _ _ _ _ (ended _ _ _ _ (begun (goal.at.returns c).After-put_record) c.requires.0 _ _ _ _ _ _ _ _ items.ensures.behind (omega (arith, n, items.ensures.few, items.auto.records, c.put_record.auto.buf, c.requires.1)) (rw (c.fresh_in-start.ensures, c.inputs.ensures, n) at items.ensures.filled) _ (c.move_clock-last.ensures ∙ ap (λ (t : ℕ). clocked (clock_move c.play_items-played.result.state t)) c.end_time.ensures) c.put_notes.ensures))
