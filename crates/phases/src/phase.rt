@@ -6,7 +6,7 @@ ghost use Rattle.rules.specs.Status.{staircase};
 ghost use Rattle.rules.specs.Answers.{due};
 ghost use Rattle.phases.specs.Room.{Room};
 
-use base::{logic, moment};
+use base::moment::later;
 use rules::parameters::Params;
 use rules::phase::Phase;
 
@@ -15,12 +15,8 @@ pub fn output_of(phase: Phase) -> bool
     ensures { result ≡ output phase }
 {
     match phase {
-        Phase::Dark => false,
-        Phase::Lit => true,
-        Phase::Starting(_, _) => false,
-        Phase::Timed(_) => true,
-        Phase::Warning(_) => true,
-        Phase::Ending(_) => true,
+        Phase::Dark | Phase::Starting(_, _) => false,
+        Phase::Lit | Phase::Timed(_) | Phase::Warning(_) | Phase::Ending(_) => true,
     }
 }
 
@@ -29,12 +25,8 @@ pub fn staircase_of(phase: Phase) -> bool
     ensures { result ≡ staircase phase }
 {
     match phase {
-        Phase::Dark => false,
-        Phase::Lit => false,
-        Phase::Starting(_, _) => false,
-        Phase::Timed(_) => true,
-        Phase::Warning(_) => true,
-        Phase::Ending(_) => false,
+        Phase::Timed(_) | Phase::Warning(_) => true,
+        Phase::Dark | Phase::Lit | Phase::Starting(_, _) | Phase::Ending(_) => false,
     }
 }
 
@@ -42,12 +34,8 @@ pub fn deadline_of(phase: Phase) -> Option<u32>
     ensures { result ≡ deadline phase }
 {
     match phase {
-        Phase::Dark => None,
-        Phase::Lit => None,
-        Phase::Starting(_, deadline) => Some(deadline),
-        Phase::Timed(d) => Some(d),
-        Phase::Warning(d) => Some(d),
-        Phase::Ending(d) => Some(d),
+        Phase::Dark | Phase::Lit => None,
+        Phase::Starting(_, d) | Phase::Timed(d) | Phase::Warning(d) | Phase::Ending(d) => Some(d),
     }
 }
 
@@ -55,44 +43,33 @@ pub fn deadline_of(phase: Phase) -> Option<u32>
 pub fn due_at(phase: Phase) -> u32
     ensures { result ≡ due phase }
 {
-    let deadline = deadline_of(phase);
-    match deadline {
-        None => 0,
-        Some(d) => d,
-    }
+    deadline_of(phase).unwrap_or(0)
 }
 
 // Light that comes on at t: for a time, or to stay.
+#[tactic(auto, unfolding(rules::specs::Phases::lit_at))]
 pub fn lit_at(p: Params, timed: bool, t: u32) -> Phase
     requires { Room p t }
     ensures { result ≡ lit_at p timed t }
 {
     if timed {
-        Phase::Timed(moment::later(t, p.timedon))
+        Phase::Timed(later(t, p.timedon))
     } else {
         Phase::Lit
     }
 }
 
 // What a phase becomes at its deadline.
+#[tactic(auto, unfolding(rules::specs::Phases::at_deadline))]
 pub fn at_deadline(p: Params, night: bool, phase: Phase) -> Phase
     requires { Room p (due phase) }
     ensures { result ≡ at_deadline p night phase }
 {
     match phase {
-        Phase::Dark => Phase::Dark,
         Phase::Lit => Phase::Lit,
-        Phase::Starting(timed, deadline) => lit_at(p, logic::either(timed, night), deadline),
-        Phase::Timed(d) => {
-            let none = p.prewarning == 0;
-            if none {
-                Phase::Dark
-            } else {
-                Phase::Warning(moment::later(d, p.prewarning))
-            }
-        }
-        Phase::Warning(_) => Phase::Dark,
-        Phase::Ending(_) => Phase::Dark,
+        Phase::Starting(timed, d) => lit_at(p, timed || night, d),
+        Phase::Timed(d) if p.prewarning != 0 => Phase::Warning(later(d, p.prewarning)),
+        Phase::Dark | Phase::Timed(_) | Phase::Warning(_) | Phase::Ending(_) => Phase::Dark,
     }
 }
 
@@ -102,19 +79,17 @@ pub fn own_end(p: Params, phase: Phase) -> Option<u32>
     ensures { result ≡ own_end p phase }
 {
     match phase {
-        Phase::Dark => None,
-        Phase::Lit => None,
-        Phase::Starting(_, _) => None,
-        Phase::Timed(d) => Some(moment::later(d, p.prewarning)),
-        Phase::Warning(d) => Some(d),
-        Phase::Ending(d) => Some(d),
+        Phase::Dark | Phase::Lit | Phase::Starting(_, _) => None,
+        Phase::Timed(d) => Some(later(d, p.prewarning)),
+        Phase::Warning(d) | Phase::Ending(d) => Some(d),
     }
 }
 
 // "Set on": for a time in a night that neither lock nor force overrules, else to stay.
+#[tactic(auto, unfolding(rules::specs::Phases::set_on))]
 pub fn set_on(p: Params, night: bool, held: bool, t: u32) -> Phase
     requires { Room p t }
     ensures { result ≡ set_on p night held t }
 {
-    lit_at(p, logic::both(night, logic::negated(held)), t)
+    lit_at(p, night && !held, t)
 }
