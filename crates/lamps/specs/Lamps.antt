@@ -3,9 +3,6 @@
 use Rattle.std.specs.Prelude.{List, []}
 use Rattle.rules.specs.declared.parameters.Params.{Params}
 use Rattle.rules.specs.declared.parameters.Scene.{Scene}
-use Rattle.rules.specs.declared.input.Force.{Force}
-use Rattle.rules.specs.declared.phase.Phase.{Phase}
-use Rattle.rules.specs.declared.state.Link.{Link}
 use Rattle.rules.specs.declared.state.State.{State}
 use Rattle.rules.specs.Calls.{least_params}
 use Rattle.lamps.specs.declared.lamp.Lamp.{Lamp}
@@ -21,8 +18,3 @@ state_of p k l =
 -- a state with this lamp, where neither parameters nor scenes matter
 abbrev pub alone : Lamp → State
 alone l = state_of least_params [] l
-
--- a lamp with another force, link and phase
-abbrev pub rebuilt_of : Lamp → Force → Link → Phase → Lamp
-rebuilt_of l force link phase =
-    record { clock = l.clock; night = l.night; lock = l.lock; force = force; link = link; atlocking = l.atlocking; atfailure = l.atfailure; phase = phase }

@@ -10,29 +10,17 @@ use rules::state::Link;
 pub fn stands(f: Force) -> bool
     ensures { result ≡ standing f }
 {
-    match f {
-        Force::Free => false,
-        Force::Off => true,
-        Force::On => true,
-    }
+    f != Force::Free
 }
 
 pub fn power_is_down(link: Link) -> bool
     ensures { result ≡ power_down link }
 {
-    match link {
-        Link::Up => false,
-        Link::BusDown => false,
-        Link::PowerDown => true,
-    }
+    link == Link::PowerDown
 }
 
 pub fn bus_is_down(link: Link) -> bool
     ensures { result ≡ bus_down link }
 {
-    match link {
-        Link::Up => false,
-        Link::BusDown => true,
-        Link::PowerDown => false,
-    }
+    link == Link::BusDown
 }

@@ -4,11 +4,10 @@ ghost use Rattle.rules.specs.declared.parameters.Scene.{Scene};
 ghost use Rattle.rules.specs.Orders.{with_phase, with_night, with_force, with_link, with_lock, held, settle, plain, by_mode};
 ghost use Rattle.rules.specs.Steps.{at_moment};
 ghost use Rattle.phases.specs.Room.{Room};
-ghost use Rattle.lamps.specs.Lamps.{lamp_of, state_of, alone, rebuilt_of};
+ghost use Rattle.lamps.specs.Lamps.{lamp_of, state_of, alone};
 
 use crate::flags::stands;
-use base::logic;
-use phases::phase;
+use phases::phase::set_on;
 use rules::input::Force;
 use rules::parameters::{Params, Scene};
 use rules::phase::Phase;
@@ -27,125 +26,106 @@ pub struct Lamp {
     pub phase: Phase,
 }
 
-pub fn lamp_of(s: State) -> Lamp
-    ensures { result ≡ lamp_of s }
-{
-    let f = s.force;
-    let link = s.link;
-    let ph = s.phase;
-    Lamp {
-        clock: s.clock,
-        night: s.night,
-        lock: s.lock,
-        force: f,
-        link,
-        atlocking: s.atlocking,
-        atfailure: s.atfailure,
-        phase: ph,
+impl From<State> for Lamp {
+    ghost from_gives = { λ s l. l ≡ lamp_of s };
+
+    fn from(s: State) -> Lamp {
+        Lamp {
+            clock: s.clock,
+            night: s.night,
+            lock: s.lock,
+            force: s.force,
+            link: s.link,
+            atlocking: s.atlocking,
+            atfailure: s.atfailure,
+            phase: s.phase,
+        }
     }
 }
 
-pub fn state_of(p: Params, k: [Scene; 8], l: Lamp) -> State
-    ensures { result ≡ state_of p k l }
-{
-    let f = l.force;
-    let link = l.link;
-    let ph = l.phase;
-    State {
-        params: p,
-        scenes: k,
-        clock: l.clock,
-        night: l.night,
-        lock: l.lock,
-        force: f,
-        link,
-        atlocking: l.atlocking,
-        atfailure: l.atfailure,
-        phase: ph,
+impl Lamp {
+    // The state that a lamp is part of.
+    pub fn in_state(self, p: Params, k: [Scene; 8]) -> State
+        ensures { result ≡ state_of p k self }
+    {
+        State {
+            params: p,
+            scenes: k,
+            clock: self.clock,
+            night: self.night,
+            lock: self.lock,
+            force: self.force,
+            link: self.link,
+            atlocking: self.atlocking,
+            atfailure: self.atfailure,
+            phase: self.phase,
+        }
     }
-}
 
-// The lamp with these three, all else as it was: the writers below list the other fields here alone.
-fn rebuilt(l: Lamp, f: Force, link: Link, ph: Phase) -> Lamp
-    ensures { result ≡ rebuilt_of l f link ph }
-{
-    Lamp {
-        clock: l.clock,
-        night: l.night,
-        lock: l.lock,
-        force: f,
-        link,
-        atlocking: l.atlocking,
-        atfailure: l.atfailure,
-        phase: ph,
+    pub fn with_phase(self, phase: Phase) -> Lamp
+        ensures { result ≡ lamp_of (with_phase (alone self) phase) }
+    {
+        Lamp { phase, ..self }
     }
-}
 
-pub fn with_phase(l: Lamp, ph: Phase) -> Lamp
-    ensures { result ≡ lamp_of (with_phase (alone l) ph) }
-{
-    let f = l.force;
-    let link = l.link;
-    rebuilt(l, f, link, ph)
-}
+    pub fn with_force(self, force: Force) -> Lamp
+        ensures { result ≡ lamp_of (with_force (alone self) force) }
+    {
+        Lamp { force, ..self }
+    }
 
-pub fn with_force(l: Lamp, f: Force) -> Lamp
-    ensures { result ≡ lamp_of (with_force (alone l) f) }
-{
-    let link = l.link;
-    let ph = l.phase;
-    rebuilt(l, f, link, ph)
-}
+    pub fn with_link(self, link: Link) -> Lamp
+        ensures { result ≡ lamp_of (with_link (alone self) link) }
+    {
+        Lamp { link, ..self }
+    }
 
-pub fn with_link(l: Lamp, link: Link) -> Lamp
-    ensures { result ≡ lamp_of (with_link (alone l) link) }
-{
-    let f = l.force;
-    let ph = l.phase;
-    rebuilt(l, f, link, ph)
-}
+    pub fn with_night(self, night: bool) -> Lamp
+        ensures { result ≡ lamp_of (with_night (alone self) night) }
+    {
+        Lamp { night, ..self }
+    }
 
-pub fn with_night(mut l: Lamp, night: bool) -> Lamp
-    ensures { result ≡ lamp_of (with_night (alone l) night) }
-{
-    l.night = night;
-    l
-}
+    pub fn with_lock(self, lock: bool, remembered: bool) -> Lamp
+        ensures { result ≡ lamp_of (with_lock (alone self) lock remembered) }
+    {
+        Lamp {
+            lock,
+            atlocking: remembered,
+            ..self
+        }
+    }
 
-pub fn with_lock(mut l: Lamp, lock: bool, remembered: bool) -> Lamp
-    ensures { result ≡ lamp_of (with_lock (alone l) lock remembered) }
-{
-    l.lock = lock;
-    l.atlocking = remembered;
-    l
-}
+    // The lamp at another moment, in this phase.
+    pub fn at_moment(self, t: u32, phase: Phase) -> Lamp
+        ensures { result ≡ lamp_of (at_moment (alone self) t phase) }
+    {
+        Lamp {
+            clock: t,
+            phase,
+            ..self
+        }
+    }
 
-// The lamp at another moment, in this phase.
-pub fn at_moment(l: Lamp, t: u32, ph: Phase) -> Lamp
-    ensures { result ≡ lamp_of (at_moment (alone l) t ph) }
-{
-    let mut then = l;
-    then.clock = t;
-    with_phase(then, ph)
-}
+    // Whether lock or force stands.
+    #[tactic(auto, unfolding(rules::specs::Orders::held))]
+    pub fn is_held(self) -> bool
+        ensures { result ≡ held (alone self) }
+    {
+        self.lock || stands(self.force)
+    }
 
-// Whether lock or force stands.
-pub fn is_held(l: Lamp) -> bool
-    ensures { result ≡ held (alone l) }
-{
-    let f = l.force;
-    logic::either(l.lock, stands(f))
-}
-
-// "Set on" or "set off", once the order's own flags are changed.
-pub fn settled(p: Params, l: Lamp, on: bool) -> Lamp
-    requires { Room p l.clock }
-    ensures { (k : List Scene) → result ≡ lamp_of (settle (state_of p k l) on) }
-{
-    if on {
-        with_phase(l, phase::set_on(p, l.night, is_held(l), l.clock))
-    } else {
-        with_phase(l, Phase::Dark)
+    // "Set on" or "set off", once the order's own flags are changed.
+    #[tactic(auto, unfolding(rules::specs::Orders::settle, rules::specs::Orders::held))]
+    pub fn settled(self, p: Params, on: bool) -> Lamp
+        requires { Room p self.clock }
+        ensures { (k : List Scene) → result ≡ lamp_of (settle (state_of p k self) on) }
+    {
+        if on {
+            self.with_phase(set_on(p, self.night, self.is_held(), self.clock))
+        } else {
+            self.with_phase(Phase::Dark)
+        }
     }
 }
 
@@ -157,14 +137,13 @@ pub fn plain_phase(on: bool) -> Phase
 }
 
 // A mode's output: 1 off, 2 on, 0 the one that is kept.
+#[tactic(auto, unfolding(rules::specs::Orders::by_mode))]
 pub fn by_mode(mode: u8, kept: bool) -> bool
     ensures { result ≡ by_mode mode kept }
 {
-    if mode == 1 {
-        false
-    } else if mode == 2 {
-        true
-    } else {
-        kept
+    match mode {
+        1 => false,
+        2 => true,
+        _ => kept,
     }
 }

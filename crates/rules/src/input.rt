@@ -27,4 +27,3 @@ pub enum Input {
     Bus(Event),
     Power(Event),
 }
-

@@ -23,4 +23,3 @@ pub struct Scene {
     pub value: bool,
     pub taught: bool,
 }
-
