@@ -6,28 +6,22 @@ ghost use Rattle.phases.specs.Room.{Room};
 ghost use Rattle.lamps.specs.Lamps.{lamp_of, state_of};
 
 use lamps::flags::stands;
-use lamps::lamp;
 use lamps::lamp::Lamp;
-use phases::phase;
+use phases::phase::output_of;
 use rules::input::Force;
 use rules::parameters::Params;
 use rules::phase::Phase;
 
+#[tactic(auto, unfolding(rules::specs::Orders::forced))]
 pub fn force_order(p: Params, l: Lamp, f: Force) -> Lamp
     requires { Room p l.clock }
     ensures { (k : List Scene) → result ≡ lamp_of (forced (state_of p k l) f) }
 {
-    let standing = l.force;
-    let ph = l.phase;
+    let forced = l.with_force(f);
     match f {
-        Force::Off => lamp::with_phase(lamp::with_force(l, Force::Off), Phase::Dark),
-        Force::On => lamp::with_phase(lamp::with_force(l, Force::On), Phase::Lit),
-        Force::Free => {
-            if stands(standing) {
-                lamp::settled(p, lamp::with_force(l, Force::Free), phase::output_of(ph))
-            } else {
-                l
-            }
-        }
+        Force::Off => forced.with_phase(Phase::Dark),
+        Force::On => forced.with_phase(Phase::Lit),
+        Force::Free if stands(l.force) => forced.settled(p, output_of(l.phase)),
+        Force::Free => l,
     }
 }

@@ -25,12 +25,8 @@ fn stop_asks(phase: Phase) -> Wish
     ensures { result ≡ stop_asks phase }
 {
     match phase {
-        Phase::Dark => Wish::Nothing,
-        Phase::Lit => Wish::Nothing,
-        Phase::Starting(timed, _) => { if timed { Wish::Off } else { Wish::Nothing } }
-        Phase::Timed(_) => Wish::Off,
-        Phase::Warning(_) => Wish::Off,
-        Phase::Ending(_) => Wish::Nothing,
+        Phase::Starting(true, _) | Phase::Timed(_) | Phase::Warning(_) => Wish::Off,
+        Phase::Dark | Phase::Lit | Phase::Starting(false, _) | Phase::Ending(_) => Wish::Nothing,
     }
 }
 
@@ -47,13 +43,11 @@ pub fn timed_asks(phase: Phase, start: bool) -> Wish
 fn recall_asks(found: Option<bool>) -> Wish
     ensures { result ≡ recall_asks found }
 {
-    match found {
-        None => Wish::Nothing,
-        Some(value) => switch_asks(value),
-    }
+    found.map_or(Wish::Nothing, switch_asks)
 }
 
 // Learning asks nothing of the light: it changes the table.
+#[tactic(auto, unfolding(crate::specs::Wishes::scene_asks))]
 pub fn scene_asks(k: [Scene; 8], learn: bool, number: u8) -> Wish
     ensures { result ≡ scene_asks k learn number }
 {
