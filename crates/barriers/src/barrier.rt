@@ -2,11 +2,9 @@
 ghost use Rattle.std.specs.Prelude.{◌≡◌, ◌≤◌};
 ghost use Rattle.rules.specs.Barriers.{row_of, sets_value, outranked, barrier_to};
 
-use base::logic::both;
-use lamps::flags::{bus_is_down, power_is_down, stands};
+use lamps::flags::stands;
 use lamps::lamp::Lamp;
 use rules::barrier::{Barrier, Row, Why};
-use rules::input::Force;
 use rules::state::Link;
 
 // What stops "the low inputs: switch, timed, scene, night".
@@ -46,35 +44,27 @@ const POWER: Row = Row {
     force: false,
 };
 
-// The table: a row for each kind, from 1 SwitchOnOff to 8 power. It is read by a match, so that it is not built anew for every input.
+// The table: a row for each kind, from 1 SwitchOnOff to 8 power.
+static ROWS: [Row; 8] = [LOW, LOW, LOW, FORCED, LOCK, LOW, BUS, POWER];
+
+#[tactic(auto, unfolding(rules::specs::Barriers::row_of, rules::specs::Barriers::rows))]
 fn row_of(kind: u8) -> Row
     requires { (1 ≤ kind) × (kind ≤ 8) }
     ensures { result ≡ row_of kind }
 {
-    match kind {
-        1 => LOW,
-        2 => LOW,
-        3 => LOW,
-        4 => FORCED,
-        5 => LOCK,
-        6 => LOW,
-        7 => BUS,
-        _ => POWER,
-    }
+    ROWS[kind as usize - 1]
 }
 
 // Beside the table, the kinds that set a value: force and night.
+#[tactic(auto, unfolding(rules::specs::Barriers::sets_value))]
 fn sets_value(kind: u8) -> bool
     ensures { result ≡ sets_value kind }
 {
-    match kind {
-        4 => true,
-        6 => true,
-        _ => false,
-    }
+    matches!(kind, 4 | 6)
 }
 
 // What lock and force do to an input that they outrank: a value is noted.
+#[tactic(auto, unfolding(rules::specs::Barriers::outranked))]
 fn outranked(kind: u8, why: Why) -> Barrier
     ensures { result ≡ outranked (sets_value kind) why }
 {
@@ -87,24 +77,21 @@ fn outranked(kind: u8, why: Why) -> Barrier
 
 // What an input of a kind meets: the first barrier of its row that stands. Whether it sets a value is asked last, so that an input that
 // nothing stops does not pay for it.
+#[tactic(auto, unfolding(rules::specs::Barriers::barrier_to, rules::specs::Barriers::first_barrier))]
 pub fn barrier_to(l: Lamp, kind: u8) -> Barrier
     requires { (1 ≤ kind) × (kind ≤ 8) }
     ensures { result ≡ barrier_to kind l.link l.lock l.force }
 {
     let row = row_of(kind);
-    let link = l.link;
-    let force = l.force;
-    if both(row.power, power_is_down(link)) {
-        return Barrier::Stopped(Why::NoPower);
+    if row.power && l.link == Link::PowerDown {
+        Barrier::Stopped(Why::NoPower)
+    } else if row.bus && l.link == Link::BusDown {
+        Barrier::Stopped(Why::NoBus)
+    } else if row.lock && l.lock {
+        outranked(kind, Why::Locked)
+    } else if row.force && stands(l.force) {
+        outranked(kind, Why::Forced)
+    } else {
+        Barrier::Open
     }
-    if both(row.bus, bus_is_down(link)) {
-        return Barrier::Stopped(Why::NoBus);
-    }
-    if both(row.lock, l.lock) {
-        return outranked(kind, Why::Locked);
-    }
-    if both(row.force, stands(force)) {
-        return outranked(kind, Why::Forced);
-    }
-    Barrier::Open
 }
