@@ -10,68 +10,74 @@ ghost use Rattle.phases.specs.Room.{Room, Roomy};
 ghost use Rattle.lamps.specs.Lamps.{lamp_of, state_of, alone};
 ghost use Rattle.orders.specs.Lights.{asks, is_light, light_phase};
 
-use inputs::value;
-use lamps::lamp;
+use inputs::value::{event_in, force_in, is_lesson, kind_of, scene_in, switch_in};
 use lamps::lamp::Lamp;
-use overrides::{force, link, lock};
+use overrides::force::force_order;
+use overrides::link::{bus_event, power_event};
+use overrides::lock::lock_order;
 use rules::input::Input;
 use rules::parameters::{Params, Scene};
 use rules::phase::Phase;
-use switching::wish::Wish;
-use switching::{light, scene, wish};
+use switching::light::{grant, night_order};
+use switching::scene::taught;
+use switching::wish::{Wish, scene_asks, switch_asks, timed_asks};
 
 // What an order to the light asks of it in this phase. There is no other such kind.
+// Stays: docs/FORMS.md names this form, a match on the number of the kind and then on the phase, for the choice of an order.
+#[tactic(auto, unfolding(crate::specs::Lights::asks), using(rules::proofs::Laws::Inputs::kind_range))]
 fn asked(k: [Scene; 8], ph: Phase, i: Input) -> Wish
     requires { is_light i ≡ true }
     ensures { result ≡ asks k ph i }
 {
-    match value::kind_of(i) {
-        1 => wish::switch_asks(value::switch_in(i)),
-        2 => wish::timed_asks(ph, value::switch_in(i)),
-        3 => wish::scene_asks(k, value::is_lesson(i), value::scene_in(i)),
+    match kind_of(i) {
+        1 => switch_asks(switch_in(i)),
+        2 => timed_asks(ph, switch_in(i)),
+        3 => scene_asks(k, is_lesson(i), scene_in(i)),
         _ => Wish::Nothing,
     }
 }
 
 // The phase after an order to the light.
+#[tactic(auto, unfolding(crate::specs::Lights::light_phase))]
 pub fn light_order(p: Params, k: [Scene; 8], l: Lamp, i: Input) -> Phase
     requires { Roomy p l.clock l.phase × (is_light i ≡ true) }
     ensures { result ≡ light_phase p k l i }
 {
-    let ph = l.phase;
-    light::grant(p, l, asked(k, ph, i))
+    grant(p, l, asked(k, l.phase, i))
 }
 
 // The lamp after any other order. There is no other kind left.
+#[tactic(auto, unfolding(crate::specs::ByKind::order_by_kind), using(crate::proofs::ByKind::the_order_by_kind, rules::proofs::Laws::Inputs::kind_range))]
 pub fn other_order(p: Params, l: Lamp, i: Input) -> Lamp
     requires { Room p l.clock × (is_light i ≡ false) }
     ensures { (k : List Scene) → result ≡ lamp_of (order (state_of p k l) i) }
 {
-    let link = l.link;
-    match value::kind_of(i) {
-        4 => force::force_order(p, l, value::force_in(i)),
-        5 => lock::lock_order(p, l, value::switch_in(i)),
-        6 => light::night_order(p, l, value::switch_in(i)),
-        7 => link::bus_event(p, l, link, value::event_in(i)),
-        8 => link::power_event(p, l, link, value::event_in(i)),
+    match kind_of(i) {
+        4 => force_order(p, l, force_in(i)),
+        5 => lock_order(p, l, switch_in(i)),
+        6 => night_order(p, l, switch_in(i)),
+        7 => bus_event(p, l, l.link, event_in(i)),
+        8 => power_event(p, l, l.link, event_in(i)),
         _ => l,
     }
 }
 
 // The lamp after a value that is noted. No other kind sets a value.
+#[tactic(auto, unfolding(crate::specs::ByKind::noted_by_kind), using(crate::proofs::ByKind::the_note_by_kind))]
 pub fn noted_value(l: Lamp, i: Input) -> Lamp
     ensures { result ≡ lamp_of (noted (alone l) i) }
 {
-    match value::kind_of(i) {
-        4 => lamp::with_force(l, value::force_in(i)),
-        6 => lamp::with_night(l, value::switch_in(i)),
+    match kind_of(i) {
+        4 => l.with_force(force_in(i)),
+        6 => l.with_night(switch_in(i)),
         _ => l,
     }
 }
 
 // The scene table after an input.
+#[tactic(auto, using(crate::proofs::Lessons::the_table_of_its_scene))]
 pub fn table_after(p: Params, k: [Scene; 8], l: Lamp, i: Input) -> [Scene; 8]
     ensures { result ≡ (order (state_of p k l) i).scenes }
 {
-    scene::taught(p, k, l, value::is_lesson(i), value::scene_in(i))
+    taught(p, k, l, is_lesson(i), scene_in(i))
 }
