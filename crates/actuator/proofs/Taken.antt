@@ -221,7 +221,7 @@ module _ (s : State) (i : Input) (t : ℕ) where
     where
       head : List ℕ → ℕ
       head [] = 0
-      head (a ∷ later) = a
+      head (a ∷ _) = a
 
   -- its state is its parts: the parameters stay
   pub later_joined : state_of s.params later.state.scenes (lamp_of later.state) ≡ later.state

@@ -15,11 +15,9 @@ ghost use Rattle.actuator.specs.Acts.{fate, meeting, after, done, done_by, actin
 
 use barriers::barrier::barrier_to;
 use inputs::value::{is_lesson, kind_of};
-use lamps::lamp;
 use lamps::lamp::Lamp;
 use orders::{light_order, noted_value, other_order, table_after};
-use records::notes;
-use records::notes::Notes;
+use records::notes::{Notes, written};
 use rules::barrier::{Barrier, Why};
 use rules::input::Input;
 use rules::parameters::{Params, Scene};
@@ -53,6 +51,13 @@ pub struct Acted {
     pub notes: Notes,
 }
 
+// The answer octets of an input that counts: taken, it changes something; it changes nothing; noted, it changes something.
+const CHANGED: u8 = 0;
+
+const UNCHANGED: u8 = 1;
+
+const NOTED: u8 = 6;
+
 // The answer octet of an input that is stopped.
 fn stopped_number(why: Why) -> u8
     ensures { result ≡ stopped_number why }
@@ -65,48 +70,40 @@ fn stopped_number(why: Why) -> u8
     }
 }
 
-// What becomes of an input of a kind, once the clock has moved: the one place where an input meets its barrier.
-pub fn fate_of(l: Lamp, kind: u8) -> Result<bool, u8>
-    requires { (1 ≤ kind) × (kind ≤ 8) }
-    ensures { result ≡ fate (barrier_to kind l.link l.lock l.force) }
-{
-    let b = barrier_to(l, kind);
-    match b {
-        Barrier::Open => Ok(false),
-        Barrier::Notes => Ok(true),
-        Barrier::Stopped(why) => Err(stopped_number(why)),
-    }
-}
-
-// The answer octets of an input that counts: taken, it changes something; it changes nothing; noted, it changes something.
-const CHANGED: u8 = 0;
-
-const UNCHANGED: u8 = 1;
-
-const NOTED: u8 = 6;
-
+// Of an input that changes something.
+#[tactic(auto, unfolding(crate::specs::Acts::meeting))]
 fn changed_number(noted: bool) -> u8
     ensures { result ≡ answer (meeting noted) false }
 {
     if noted { NOTED } else { CHANGED }
 }
 
-// The answer octet of an order that is taken.
+// Of an order that is taken.
 fn taken_number(same: bool) -> u8
     ensures { result ≡ answer Barrier.Open same }
 {
     if same { UNCHANGED } else { CHANGED }
 }
 
+// What becomes of an input of a kind, once the clock has moved: the one place where an input meets its barrier.
+#[tactic(auto, unfolding(crate::specs::Acts::fate))]
+pub fn fate_of(l: Lamp, kind: u8) -> Result<bool, u8>
+    requires { (1 ≤ kind) × (kind ≤ 8) }
+    ensures { result ≡ fate (barrier_to kind l.link l.lock l.force) }
+{
+    match barrier_to(l, kind) {
+        Barrier::Open => Ok(false),
+        Barrier::Notes => Ok(true),
+        Barrier::Stopped(why) => Err(stopped_number(why)),
+    }
+}
+
 // Whether the scene table after an order is the one before it. Only a lesson can change it, so no other input pays for it.
+#[tactic(auto, using(orders::proofs::Lessons::only_a_lesson_teaches, rules::proofs::Laws::Answers::scenes_same))]
 fn same_table(p: Params, k: [Scene; 8], l: Lamp, i: Input) -> bool
     ensures { result ≡ same_scenes k (order (state_of p k l) i).scenes }
 {
-    if is_lesson(i) {
-        same_scenes(k, table_after(p, k, l, i))
-    } else {
-        true
-    }
+    !is_lesson(i) || same_scenes(k, table_after(p, k, l, i))
 }
 
 // An order to the light: a phase that stays shows nothing new.
@@ -114,25 +111,25 @@ fn take_light(p: Params, k: [Scene; 8], l: Lamp, i: Input) -> Done
     requires { Roomy p l.clock l.phase × (is_light i ≡ true) }
     ensures { result ≡ done_by Barrier.Open (state_of p k l) i (order (state_of p k l) i) }
 {
-    let ph = l.phase;
     let next = light_order(p, k, l, i);
-    if same_phase(ph, next) {
+    if same_phase(l.phase, next) {
         Done {
             lamp: l,
             answer: taken_number(same_table(p, k, l, i)),
             note: None,
         }
     } else {
-        let after = lamp::with_phase(l, next);
+        let after = l.with_phase(next);
         Done {
             lamp: after,
             answer: CHANGED,
-            note: notes::written(kind_of(i), l, after),
+            note: written(kind_of(i), l, after),
         }
     }
 }
 
 // The lamp after any other input: after its order, or with its value, which is only noted.
+#[tactic(auto, unfolding(crate::specs::Acts::meeting, crate::specs::Acts::after), using(crate::proofs::Taken::noted_alone))]
 fn other_lamp(p: Params, l: Lamp, i: Input, noted: bool) -> Lamp
     requires { Room p l.clock × (is_light i ≡ false) }
     ensures { (k : List Scene) → result ≡ lamp_of (after (meeting noted) (state_of p k l) i) }
@@ -160,7 +157,7 @@ fn take_other(p: Params, l: Lamp, i: Input, noted: bool) -> Done
         Done {
             lamp: after,
             answer: changed_number(noted),
-            note: notes::written(kind_of(i), l, after),
+            note: written(kind_of(i), l, after),
         }
     }
 }
@@ -193,24 +190,20 @@ pub fn act_input(s: State, i: Input) -> Acting
     requires { Roomy s.params s.clock s.phase }
     ensures { result ≡ acting (act (still s) i) }
 {
-    let p = s.params;
-    let k = s.scenes;
-    let l = lamp::lamp_of(s);
-    let f = fate_of(l, kind_of(i));
-    match f {
+    let l = Lamp::from(s);
+    match fate_of(l, kind_of(i)) {
         Err(answer) => Acting {
             state: s,
             answer,
             note: None,
         },
         Ok(noted) => {
-            let d = take(p, k, l, i, noted);
-            let after = d.lamp;
-            let note = d.note;
+            let d = take(s.params, s.scenes, l, i, noted);
+            let scenes = scenes_after(s.params, s.scenes, l, i);
             Acting {
-                state: lamp::state_of(p, scenes_after(p, k, l, i), after),
+                state: d.lamp.in_state(s.params, scenes),
                 answer: d.answer,
-                note,
+                note: d.note,
             }
         }
     }
@@ -222,14 +215,10 @@ pub fn step_input(s: State, i: Input, t: u32) -> Acted
     ensures { result ≡ acted (step s i t) }
 {
     let m = move_clock(s, t);
-    let moved = m.state;
-    let timers = m.notes;
-    let d = act_input(moved, i);
-    let state = d.state;
-    let note = d.note;
+    let d = act_input(m.state, i);
     Acted {
-        state,
+        state: d.state,
         answer: d.answer,
-        notes: notes::add(timers, note),
+        notes: m.notes.add(d.note),
     }
 }

@@ -6,7 +6,7 @@ use crate::lines::Printout;
 use crate::show::Show;
 use cues::header::{end_time, form_in};
 use joined::pair::{joined_input, joined_move};
-use lamps::lamp::lamp_of;
+use lamps::lamp::Lamp;
 use layout::{INPUT_SIZE, inputs_in, parameters_in};
 use live::fresh::fresh_state;
 use octets::group::Group;
@@ -98,7 +98,7 @@ pub(crate) fn play<W: Write>(printout: &mut Printout<W>, show: Show<'_>) -> io::
     let (inputs, _) = inputs_in(show.file, form).as_chunks();
     printout.accepted(inputs.len())?;
     let state = fresh_state(parameters_in(show.file, form)).state;
-    printout.record(record_of(0, lamp_of(state)))?;
+    printout.record(record_of(0, Lamp::from(state)))?;
     printout.phase(state)?;
     let mut player = Player {
         printout,

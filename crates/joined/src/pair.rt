@@ -16,7 +16,7 @@ use base::refusal::{Refusal, number_of};
 use octets::group::Group;
 use pairs::call::{Joint, JointMove};
 use pairs::item::Item;
-use records::notes;
+use records::notes::Notes;
 use rules::state::State;
 use sensor::call::telegram_octets;
 use sensor::state::Sensor;
@@ -59,7 +59,7 @@ fn refused(s: State, z: Sensor, why: Refusal) -> Joint
         state: s,
         sensor: z,
         answer: 0,
-        notes: notes::none(),
+        notes: Notes::none(),
         telegram: None,
     };
     result(number_of(why), 0, unplayed)
@@ -117,7 +117,7 @@ fn unmoved(s: State, z: Sensor, why: Refusal) -> JointMove
 {
     let still = Clocked {
         state: s,
-        notes: notes::none(),
+        notes: Notes::none(),
     };
     moved(number_of(why), z, still)
 }

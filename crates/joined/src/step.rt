@@ -12,7 +12,6 @@ ghost use Rattle.joined.specs.Joints.{joint_step, switched_from};
 use crate::hear::{hear_note, hear_notes};
 use actuator::step::{act_input, step_input};
 use pairs::item::Item;
-use records::notes;
 use records::notes::Notes;
 use rules::input::Input;
 use rules::state::State;
@@ -43,7 +42,7 @@ fn switched(s: State, z: Sensor, timers: Notes, value: bool) -> JointStep
         state,
         sensor: hear_note(z, note),
         answer: d.answer,
-        notes: notes::add(timers, note),
+        notes: timers.add(note),
         telegram: Some(value),
     }
 }

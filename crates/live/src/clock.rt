@@ -5,7 +5,7 @@ ghost use Rattle.live.specs.ByValue.{move_of};
 
 use base::moment::stamp_in_range;
 use base::refusal::{Refusal, number_of};
-use records::notes;
+use records::notes::Notes;
 use rules::call::Move;
 use rules::state::State;
 use states::sound::is_sound;
@@ -47,7 +47,7 @@ fn refused(s: State, why: Refusal) -> Move
 {
     let unmoved = Clocked {
         state: s,
-        notes: notes::none(),
+        notes: Notes::none(),
     };
     result(number_of(why), unmoved)
 }

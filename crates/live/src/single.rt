@@ -11,7 +11,7 @@ use base::moment::stamp_in_range;
 use base::refusal::{Refusal, number_of};
 use inputs::input_at;
 use octets::group::Group;
-use records::notes;
+use records::notes::Notes;
 use rules::call::Single;
 use rules::input::Input;
 use rules::state::State;
@@ -69,7 +69,7 @@ fn refused(s: State, why: Refusal) -> Single
     let unplayed = Acted {
         state: s,
         answer: 0,
-        notes: notes::none(),
+        notes: Notes::none(),
     };
     result(number_of(why), unplayed)
 }

@@ -9,7 +9,7 @@ ghost use Rattle.player.specs.Playing.{Ready, ItemsPlayed, Advanced};
 use actuator::step::{fate_of, scenes_after, take};
 use buffers::put::put_note;
 use inputs::known_input;
-use lamps::lamp::{Lamp, at_moment, lamp_of, state_of};
+use lamps::lamp::Lamp;
 use octets::group::Group;
 use rules::parameters::Params;
 use rules::state::State;
@@ -47,7 +47,7 @@ fn advance(records: &mut [u8], count: u32, p: Params, l: Lamp, t: u32) -> Moment
         ph = timer.phase;
     }
     Moment {
-        lamp: at_moment(l, t, ph),
+        lamp: l.at_moment(t, ph),
         count: n,
     }
 }
@@ -69,7 +69,7 @@ pub fn play_items(
 {
     let p = start.params;
     let mut k = start.scenes;
-    let mut l = lamp_of(start);
+    let mut l = Lamp::from(start);
     let mut z = first;
     let mut heard: u32 = 0;
     let mut count = before;
@@ -106,7 +106,7 @@ pub fn play_items(
         }
     }
     Reached {
-        state: state_of(p, k, l),
+        state: l.in_state(p, k),
         sensor: z,
         heard,
         count,

@@ -8,7 +8,7 @@ ghost use Rattle.runs.specs.Runs.{fresh_in, play_in, Fit};
 
 use buffers::put::{put_notes, put_record};
 use cues::header::CueFile;
-use lamps::lamp::lamp_of;
+use lamps::lamp::Lamp;
 use pairs::call::WallRan;
 use player::items::play_items;
 use records::status::record_of;
@@ -36,7 +36,7 @@ pub(crate) fn play(file: CueFile, first: Sensor, records: &mut [u8], answers: &m
 {
     let n = file.input_count();
     let start = fresh_in(file);
-    put_record(records, 0, record_of(0, lamp_of(start)));
+    put_record(records, 0, record_of(0, Lamp::from(start)));
     let played = play_items(file.inputs(), n, start, first, 1, records, answers);
     let last = move_clock(played.state, file.end_time());
     put_notes(records, played.count, last.notes);

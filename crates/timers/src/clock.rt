@@ -8,17 +8,16 @@ ghost use Rattle.phases.specs.Room.{Room};
 ghost use Rattle.lamps.specs.Lamps.{state_of};
 ghost use Rattle.timers.specs.Ticks.{due_by, timer_of, timers_of, clocked};
 
-use lamps::lamp;
 use lamps::lamp::Lamp;
-use phases::phase;
-use records::notes;
-use records::notes::Notes;
+use phases::phase::{at_deadline, deadline_of, due_at};
+use records::notes::{Notes, written};
 use rules::parameters::Params;
 use rules::phase::Phase;
 use rules::record::Record;
 use rules::state::State;
 
 // What one timer leaves: a phase, and the record of it.
+// Stays: the three pairs below differ in both types, and a generic pair would call a phase and a state by one name.
 #[derive(Clone, Copy)]
 pub struct Timer {
     pub phase: Phase,
@@ -43,45 +42,38 @@ pub struct Clocked {
 pub fn is_due(ph: Phase, t: u32) -> bool
     ensures { result ≡ due_by (deadline ph) t }
 {
-    let deadline = phase::deadline_of(ph);
-    match deadline {
-        None => false,
-        Some(d) => d <= t,
-    }
+    deadline_of(ph).is_some_and(|d| d <= t)
 }
 
 // The timer of a lamp in this phase runs, at its own moment.
+#[tactic(auto, unfolding(crate::specs::Ticks::timer_of))]
 pub fn run_timer(p: Params, l: Lamp, ph: Phase) -> Timer
     requires { Room p (due ph) }
     ensures { result ≡ timer_of p l ph }
 {
-    let next = phase::at_deadline(p, l.night, ph);
-    let before = lamp::with_phase(l, ph);
-    let after = lamp::at_moment(l, phase::due_at(ph), next);
+    let next = at_deadline(p, l.night, ph);
     Timer {
         phase: next,
-        note: notes::written(0, before, after),
+        note: written(0, l.with_phase(ph), l.at_moment(due_at(ph), next)),
     }
 }
 
 // Every timer due at or before t, until none is.
+#[tactic(auto, using(crate::proofs::Moves::noted_first, crate::proofs::Moves::noted_on, crate::proofs::Moves::due_has_room, crate::proofs::Moves::due_lowers_the_rank))]
 pub fn run_timers(p: Params, l: Lamp, t: u32) -> Ticked
     requires { Room p t }
     ensures { (k : List Scene) → result ≡ timers_of (clock_move (state_of p k l) t) }
 {
-    let mut ph = l.phase;
-    let mut written = notes::none();
-    while is_due(ph, t) {
-        let timer = run_timer(p, l, ph);
-        let note = timer.note;
-        let more = notes::add(written, note);
-        written = more;
-        ph = timer.phase;
+    let mut ticked = Ticked {
+        phase: l.phase,
+        notes: Notes::none(),
+    };
+    while is_due(ticked.phase, t) {
+        let timer = run_timer(p, l, ticked.phase);
+        ticked.notes = ticked.notes.add(timer.note);
+        ticked.phase = timer.phase;
     }
-    Ticked {
-        phase: ph,
-        notes: written,
-    }
+    ticked
 }
 
 // The clock of a state moves to t.
@@ -89,14 +81,10 @@ pub fn move_clock(s: State, t: u32) -> Clocked
     requires { Room s.params t }
     ensures { result ≡ clocked (clock_move s t) }
 {
-    let p = s.params;
-    let k = s.scenes;
-    let l = lamp::lamp_of(s);
-    let m = run_timers(p, l, t);
-    let ph = m.phase;
-    let written = m.notes;
+    let l = Lamp::from(s);
+    let ticked = run_timers(s.params, l, t);
     Clocked {
-        state: lamp::state_of(p, k, lamp::at_moment(l, t, ph)),
-        notes: written,
+        state: l.at_moment(t, ticked.phase).in_state(s.params, s.scenes),
+        notes: ticked.notes,
     }
 }

@@ -29,14 +29,14 @@ use Rattle.turns.proofs.Turning.{turned}
 use Rattle.player.specs.Playing.{Ready, Advanced}
 use Rattle.player.proofs.Turns.{going_first, next_item, going_rests, going_asks, going_acts, going_dropped, going_last}
 use Rattle.player.proofs.items.play_items.Goals as goal
-use Rattle.player.proofs.items.play_items.Goals.{After-lamp_of-l, After-turn_at-turn, in-None, in-Some+in-Err, in-Some+in-Ok}
+use Rattle.player.proofs.items.play_items.Goals.{After-from-l, After-turn_at-turn, in-None, in-Some+in-Err, in-Some+in-Ok}
 
 -- the pair that the items are played from is ready for them
 is_ready : (inputs : List ℕ) (n : ℕ) (start : State) (z : Sensor) (l : Lamp) → l ≡ lamp_of start → Ready inputs n (pair_of start z) → Ready inputs n (pair_of (state_of start.params start.scenes l) z)
 is_ready inputs n start z l e ready = rw e ready
 
-ready_to : (c : After-lamp_of-l) → let a = c.args in Ready a.inputs.now a.n (pair_of (state_of a.start.params a.start.scenes c.lamp_of-l.result) (listened a.records.now a.before a.first 0))
-ready_to c = is_ready _ _ _ _ _ c.lamp_of-l.ensures c.requires.0
+ready_to : (c : After-from-l) → let a = c.args in Ready a.inputs.now a.n (pair_of (state_of a.start.params a.start.scenes c.from-l.result) (listened a.records.now a.before a.first 0))
+ready_to c = is_ready _ _ _ _ _ c.from-l.ensures c.requires.0
 
 -- the item's turn, where one stands
 takes : (inputs records : List ℕ) (i at t count heard : ℕ) (z : Sensor) (turn : Turn) → at ≡ input_place i → t ≡ stamp_at inputs at → heard ≤ count →
@@ -46,8 +46,8 @@ takes inputs records i at t count heard z turn place stamped behind turns j e = 
 
 -- what is known of every turn, and what each of its three outcomes comes to
 module _ (c : After-turn_at-turn) where
-  ready : let a = c.args in Ready a.inputs.now a.n (pair_of (state_of a.start.params a.start.scenes c.lamp_of-l.result) (listened a.records.now a.before a.first 0))
-  ready = is_ready _ _ _ _ _ c.lamp_of-l.ensures c.requires.0
+  ready : let a = c.args in Ready a.inputs.now a.n (pair_of (state_of a.start.params a.start.scenes c.from-l.result) (listened a.records.now a.before a.first 0))
+  ready = is_ready _ _ _ _ _ c.from-l.ensures c.requires.0
 
   took : let loop = c.loop-i in let inputs = c.args.inputs.now in let m = c.advance-m in
       (j : Item) → item_at inputs (input_place loop.i) ≡ Some j → Turned j (stamp_at inputs (input_place loop.i)) m.new.records m.result.count loop.z loop.heard c.turn_at-turn.result
@@ -80,14 +80,14 @@ module _ (c : After-turn_at-turn) where
       going_asks _ _ _ _ _ _ ready c.args.start.params loop.k loop.l loop.z loop.heard _ _ _ _ loop.invariant.0 loop.invariant.1 c.loop-i-test.true (omega (arith, c.requires.2)) c.requires.3 roomy _ _ moves c.advance-m.auto.records roomy_still _ took kind value orders
 
 pub loop-i-init : goal.loop-i-init
-loop-i-init c = (going_first _ _ _ _ _ _ (ready_to (goal.at.loop-i-init c).After-lamp_of-l), omega arith)
+loop-i-init c = (going_first _ _ _ _ _ _ (ready_to (goal.at.loop-i-init c).After-from-l), omega arith)
 
 pub nth-group-requires : goal.nth-group-requires
-nth-group-requires c = omega (arith, c.loop-i-test.true, (ready_to (goal.at.nth-group-requires c).After-lamp_of-l).whole)
+nth-group-requires c = omega (arith, c.loop-i-test.true, (ready_to (goal.at.nth-group-requires c).After-from-l).whole)
 
 pub advance-m-requires : goal.advance-m-requires
 advance-m-requires c =
-    let ready = ready_to (goal.at.advance-m-requires c).After-lamp_of-l in
+    let ready = ready_to (goal.at.advance-m-requires c).After-from-l in
     let loop = c.loop-i in
     let g = loop.invariant.0 in
     let within = c.loop-i-test.true in
@@ -96,7 +96,7 @@ advance-m-requires c =
 
 pub turn_at-turn-requires : goal.turn_at-turn-requires
 turn_at-turn-requires c =
-    let ready = ready_to (goal.at.turn_at-turn-requires c).After-lamp_of-l in
+    let ready = ready_to (goal.at.turn_at-turn-requires c).After-from-l in
     let loop = c.loop-i in
     let g = loop.invariant.0 in
     let within = c.loop-i-test.true in
@@ -105,7 +105,7 @@ turn_at-turn-requires c =
     (omega (arith, loop.invariant.1, (moves.ensures loop.k).count), (omega (arith, within, two, (moves.ensures loop.k).count, moves.auto.records, g.stands.few, g.stands.room, c.requires.2)))
 
 pub overflow_cast-answers : goal.overflow_cast-answers
-overflow_cast-answers c = omega (arith, c.loop-i-test.true, (ready_to (goal.at.overflow_cast-answers c).After-lamp_of-l).few)
+overflow_cast-answers c = omega (arith, c.loop-i-test.true, (ready_to (goal.at.overflow_cast-answers c).After-from-l).few)
 
 pub bounds-answers-i : goal.bounds-answers-i
 bounds-answers-i c = omega (arith, c.loop-i-test.true, c.loop-i.invariant.0.stands.places, c.requires.3)
@@ -115,7 +115,7 @@ pub fate_of-requires : goal.fate_of-requires
 fate_of-requires c = let x = asked (goal.at.fate_of-requires c).After-turn_at-turn _ _ c.in-Some.is in rw (← meant_kind _ _ x.0 x.1) (kind_range x.0)
 
 pub overflow_cast-answers-in-Err : goal.overflow_cast-answers-in-Err
-overflow_cast-answers-in-Err c = omega (arith, c.loop-i-test.true, (ready_to (goal.at.overflow_cast-answers-in-Err c).After-lamp_of-l).few)
+overflow_cast-answers-in-Err c = omega (arith, c.loop-i-test.true, (ready_to (goal.at.overflow_cast-answers-in-Err c).After-from-l).few)
 
 pub bounds-answers-i-in-Err : goal.bounds-answers-i-in-Err
 bounds-answers-i-in-Err c = omega (arith, c.loop-i-test.true, c.loop-i.invariant.0.stands.places, c.requires.3)
@@ -126,7 +126,7 @@ known_input-x-requires c = rw (asked (goal.at.known_input-x-requires c).After-tu
 pub take-d-requires : goal.take-d-requires
 unfolding barrier
 take-d-requires c =
-    let ready = ready_to (goal.at.take-d-requires c).After-lamp_of-l in
+    let ready = ready_to (goal.at.take-d-requires c).After-from-l in
     let a = c.args in
     let loop = c.loop-i in
     let s = state_of a.start.params loop.k loop.l in
@@ -141,7 +141,7 @@ scenes_after-table-requires c = (c.in-Ok.noted, rw (← meant_kind _ _ _ c.known
 
 pub put_note-count-requires : goal.put_note-count-requires
 put_note-count-requires c =
-    let ready = ready_to (goal.at.put_note-count-requires c).After-lamp_of-l in
+    let ready = ready_to (goal.at.put_note-count-requires c).After-from-l in
     let loop = c.loop-i in
     let g = loop.invariant.0 in
     let within = c.loop-i-test.true in
@@ -151,7 +151,7 @@ put_note-count-requires c =
     (omega (arith, within, two, (moves.ensures loop.k).count, g.stands.few, ready.few), omega (arith, within, two, own, (moves.ensures loop.k).count, moves.auto.records, g.stands.few, g.stands.room, c.requires.2))
 
 pub overflow_cast-answers-in-Ok : goal.overflow_cast-answers-in-Ok
-overflow_cast-answers-in-Ok c = omega (arith, c.loop-i-test.true, (ready_to (goal.at.overflow_cast-answers-in-Ok c).After-lamp_of-l).few)
+overflow_cast-answers-in-Ok c = omega (arith, c.loop-i-test.true, (ready_to (goal.at.overflow_cast-answers-in-Ok c).After-from-l).few)
 
 pub bounds-answers-i-in-Ok : goal.bounds-answers-i-in-Ok
 bounds-answers-i-in-Ok c = omega (arith, c.loop-i-test.true, c.loop-i.invariant.0.stands.places, c.requires.3)
@@ -190,5 +190,5 @@ pub returns : goal.returns
 returns c =
     let loop = c.loop-i in
     let g = loop.invariant.0 in
-    let all = going_last _ _ _ _ _ _ (ready_to (goal.at.returns c).After-lamp_of-l) _ _ _ _ _ g c.loop-i-test.false in
-    rw c.state_of.ensures (record { filled = rw c.lamp_of-l.ensures at all; safe = ((sound_pair_exactly_when _).0 g.safe).actuator; few = omega (arith, g.stands.few, g.upto); behind = loop.invariant.1 })
+    let all = going_last _ _ _ _ _ _ (ready_to (goal.at.returns c).After-from-l) _ _ _ _ _ g c.loop-i-test.false in
+    rw c.in_state.ensures (record { filled = rw c.from-l.ensures at all; safe = ((sound_pair_exactly_when _).0 g.safe).actuator; few = omega (arith, g.stands.few, g.upto); behind = loop.invariant.1 })

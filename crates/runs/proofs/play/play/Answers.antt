@@ -21,7 +21,7 @@ use Rattle.runs.proofs.play.play.Goals.{After-put_record}
 begun : (c : After-put_record) → let a = c.args in c.put_record.new.buf ≡ splice a.records.now 0 (record_octets (record_of 0 (fresh_in a.file.octets.now)))
 begun c =
     c.put_record.ensures
-    ∙ rw (c.record_of.ensures, c.lamp_of.ensures, c.fresh_in-start.ensures) (rw (record_alone 0 (fresh_in _)) refl)
+    ∙ rw (c.record_of.ensures, c.from.ensures, c.fresh_in-start.ensures) (rw (record_alone 0 (fresh_in _)) refl)
 
 -- the fresh pair is sound, and the items are in order from there on
 ready : (c : After-put_record) → let a = c.args in Ready (inputs_in a.file.octets.now) (input_count a.file.octets.now) (pair_of c.fresh_in-start.result (listened c.put_record.new.buf 1 a.first 0))
