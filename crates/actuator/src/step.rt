@@ -27,6 +27,8 @@ use scenes::same::same_scenes;
 use states::same::{same_lamp, same_phase};
 use timers::clock::move_clock;
 
+// Stays: `done`, `acting` and `acted` are definitions of these three types, and a generic one would call a lamp and a state by one name.
+
 // What an input that counts does, but for the scene table.
 #[derive(Clone, Copy)]
 pub struct Done {
@@ -107,6 +109,7 @@ fn same_table(p: Params, k: [Scene; 8], l: Lamp, i: Input) -> bool
 }
 
 // An order to the light: a phase that stays shows nothing new.
+#[tactic(auto, using(crate::proofs::Taken::lamp_stays, crate::proofs::Taken::lamp_changes, crate::proofs::Taken::light_lamp, crate::proofs::Taken::light_stays, crate::proofs::Taken::light_changes))]
 fn take_light(p: Params, k: [Scene; 8], l: Lamp, i: Input) -> Done
     requires { Roomy p l.clock l.phase × (is_light i ≡ true) }
     ensures { result ≡ done_by Barrier.Open (state_of p k l) i (order (state_of p k l) i) }
@@ -142,6 +145,7 @@ fn other_lamp(p: Params, l: Lamp, i: Input, noted: bool) -> Lamp
 }
 
 // Any other input, taken or noted: a lamp that stays shows nothing new.
+#[tactic(auto, using(crate::proofs::Taken::other_stays, crate::proofs::Taken::other_changes))]
 fn take_other(p: Params, l: Lamp, i: Input, noted: bool) -> Done
     requires { Room p l.clock × (is_light i ≡ false) }
     ensures { (k : List Scene) → result ≡ done_by (meeting noted) (state_of p k l) i (after (meeting noted) (state_of p k l) i) }
@@ -163,6 +167,8 @@ fn take_other(p: Params, l: Lamp, i: Input, noted: bool) -> Done
 }
 
 // An input at the moved clock that counts: kinds 1 to 3 are orders to the light, and none of them is noted.
+// Stays: docs/FORMS.md names this form, a match on the number of the kind with a range.
+#[tactic(auto, using(crate::proofs::Taken::light_is_done, rules::proofs::Laws::Inputs::kind_range))]
 pub fn take(p: Params, k: [Scene; 8], l: Lamp, i: Input, noted: bool) -> Done
     requires { Roomy p l.clock l.phase × (fate (barrier (state_of p k l) i) ≡ Ok noted) }
     ensures { result ≡ done (act (still (state_of p k l)) i) }
@@ -174,6 +180,7 @@ pub fn take(p: Params, k: [Scene; 8], l: Lamp, i: Input, noted: bool) -> Done
 }
 
 // The scene table after an input at the moved clock that counts.
+#[tactic(auto, using(orders::proofs::Lessons::only_a_lesson_teaches, crate::proofs::Taken::counts_teaches))]
 pub fn scenes_after(p: Params, k: [Scene; 8], l: Lamp, i: Input) -> [Scene; 8]
     requires { (noted : Bool) × (fate (barrier (state_of p k l) i) ≡ Ok noted) }
     ensures { result ≡ (act (still (state_of p k l)) i).state.scenes }
@@ -186,6 +193,7 @@ pub fn scenes_after(p: Params, k: [Scene; 8], l: Lamp, i: Input) -> [Scene; 8]
 }
 
 // An input to a whole state while the clock stands: a dropped one leaves the state as it is.
+#[tactic(auto, unfolding(rules::specs::Barriers::barrier, crate::specs::Acts::dropped_by), using(rules::proofs::Laws::Inputs::kind_range, crate::proofs::Taken::dropped_leaves, crate::proofs::Taken::acting_by_parts))]
 pub fn act_input(s: State, i: Input) -> Acting
     requires { Roomy s.params s.clock s.phase }
     ensures { result ≡ acting (act (still s) i) }
@@ -210,6 +218,7 @@ pub fn act_input(s: State, i: Input) -> Acting
 }
 
 // An input at t: the clock moves, then it acts.
+#[tactic(auto, unfolding(timers::specs::Ticks::clocked, records::specs::Notes::notes), using(rules::proofs::Laws::Records::a_move_writes_at_most_two, crate::proofs::Taken::step_is_the_move_and_the_act))]
 pub fn step_input(s: State, i: Input, t: u32) -> Acted
     requires { (sound s ≡ true) × (s.clock ≤ t) × (t ≤ last_stamp) }
     ensures { result ≡ acted (step s i t) }

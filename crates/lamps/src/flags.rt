@@ -1,7 +1,7 @@
 // Tests on the force and on the link.
 ghost use Rattle.std.specs.Prelude.{◌≡◌};
 ghost use Rattle.rules.specs.Orders.{standing};
-ghost use Rattle.rules.specs.Barriers.{power_down, bus_down};
+ghost use Rattle.rules.specs.Barriers.{power_down};
 
 use rules::input::Force;
 use rules::state::Link;
@@ -17,10 +17,4 @@ pub fn power_is_down(link: Link) -> bool
     ensures { result ≡ power_down link }
 {
     link == Link::PowerDown
-}
-
-pub fn bus_is_down(link: Link) -> bool
-    ensures { result ≡ bus_down link }
-{
-    link == Link::BusDown
 }

@@ -14,6 +14,7 @@ use rules::phase::Phase;
 use rules::state::{Link, State};
 
 // All of a state but the parameters, which never change, and the scene table, which changes by learning alone.
+// Stays: these two are handed on beside a lamp, since a whole state by value was copied at each call (bench/README.md).
 #[derive(Clone, Copy)]
 pub struct Lamp {
     pub clock: u32,

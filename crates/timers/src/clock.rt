@@ -16,8 +16,9 @@ use rules::phase::Phase;
 use rules::record::Record;
 use rules::state::State;
 
+// Stays: `timer_of`, `timers_of` and `clocked` are definitions of these three types, and a generic one would call a phase and a state by one name.
+
 // What one timer leaves: a phase, and the record of it.
-// Stays: the three pairs below differ in both types, and a generic pair would call a phase and a state by one name.
 #[derive(Clone, Copy)]
 pub struct Timer {
     pub phase: Phase,
