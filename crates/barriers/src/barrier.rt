@@ -2,9 +2,9 @@
 ghost use Rattle.std.specs.Prelude.{◌≡◌, ◌≤◌};
 ghost use Rattle.rules.specs.Barriers.{row_of, sets_value, outranked, barrier_to};
 
-use lamps::flags::stands;
 use lamps::lamp::Lamp;
 use rules::barrier::{Barrier, Row, Why};
+use rules::input::Force;
 use rules::state::Link;
 
 // What stops "the low inputs: switch, timed, scene, night".
@@ -90,7 +90,7 @@ pub fn barrier_to(l: Lamp, kind: u8) -> Barrier
         Barrier::Stopped(Why::NoBus)
     } else if row.lock && l.lock {
         outranked(kind, Why::Locked)
-    } else if row.force && stands(l.force) {
+    } else if row.force && l.force != Force::Free {
         outranked(kind, Why::Forced)
     } else {
         Barrier::Open

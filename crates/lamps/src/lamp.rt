@@ -6,7 +6,6 @@ ghost use Rattle.rules.specs.Steps.{at_moment};
 ghost use Rattle.phases.specs.Room.{Room};
 ghost use Rattle.lamps.specs.Lamps.{lamp_of, state_of, alone};
 
-use crate::flags::stands;
 use phases::phase::set_on;
 use rules::input::Force;
 use rules::parameters::{Params, Scene};
@@ -113,7 +112,7 @@ impl Lamp {
     pub fn is_held(self) -> bool
         ensures { result ≡ held (alone self) }
     {
-        self.lock || stands(self.force)
+        self.lock || self.force != Force::Free
     }
 
     // "Set on" or "set off", once the order's own flags are changed.

@@ -5,7 +5,6 @@ ghost use Rattle.rules.specs.Orders.{forced};
 ghost use Rattle.phases.specs.Room.{Room};
 ghost use Rattle.lamps.specs.Lamps.{lamp_of, state_of};
 
-use lamps::flags::stands;
 use lamps::lamp::Lamp;
 use phases::phase::output_of;
 use rules::input::Force;
@@ -21,7 +20,7 @@ pub fn force_order(p: Params, l: Lamp, f: Force) -> Lamp
     match f {
         Force::Off => forced.with_phase(Phase::Dark),
         Force::On => forced.with_phase(Phase::Lit),
-        Force::Free if stands(l.force) => forced.settled(p, output_of(l.phase)),
+        Force::Free if l.force != Force::Free => forced.settled(p, output_of(l.phase)),
         Force::Free => l,
     }
 }

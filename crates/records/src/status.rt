@@ -3,9 +3,9 @@ ghost use Rattle.std.specs.Prelude.{◌≡◌, ◌≤◌};
 ghost use Rattle.lamps.specs.Lamps.{alone};
 ghost use Rattle.rules.specs.Status.{value, bit, attributes, record_of, same_status};
 
-use lamps::flags::stands;
 use lamps::lamp::Lamp;
 use phases::phase::{output_of, staircase_of};
+use rules::input::Force;
 use rules::record::Record;
 use rules::state::Link;
 
@@ -28,7 +28,7 @@ pub fn attributes_of(l: Lamp) -> u8
 {
     bit_of(l.link != Link::PowerDown, 1)
         + bit_of(l.lock, 2)
-        + bit_of(stands(l.force), 4)
+        + bit_of(l.force != Force::Free, 4)
         + bit_of(l.night, 8)
         + bit_of(staircase_of(l.phase), 16)
 }

@@ -6,14 +6,13 @@ ghost use Rattle.rules.specs.Soundness.{soon, agrees, held_is_steady, force_deci
 ghost use Rattle.rules.specs.Orders.{standing};
 
 use base::moment::{LAST_STAMP, LONGEST_DELAY};
-use lamps::flags::{power_is_down, stands};
 use layout::{form_of, is_version};
 use phases::phase::deadline_of;
 use rules::form::Scale;
 use rules::input::Force;
 use rules::parameters::Params;
 use rules::phase::Phase;
-use rules::state::State;
+use rules::state::{Link, State};
 use scenes::range::scenes_in_range;
 
 // The tenths that 1 lasts.
@@ -89,7 +88,7 @@ fn is_soon(clock: u32, deadline: Option<u32>) -> bool
 fn is_held(s: &State) -> bool
     ensures { result ≡ (s.now.lock || standing s.now.force) }
 {
-    s.lock || stands(s.force)
+    s.lock || s.force != Force::Free
 }
 
 fn force_agrees(force: Force, phase: Phase) -> bool
@@ -127,7 +126,7 @@ fn night_ends(s: &State) -> bool
 fn power_down_is_clear(s: &State) -> bool
     ensures { result ≡ power_down_is_clear s.now.link s.now.night s.now.lock s.now.force s.now.phase }
 {
-    !power_is_down(s.link) || s.phase == Phase::Dark && !(s.night || is_held(s))
+    s.link != Link::PowerDown || s.phase == Phase::Dark && !(s.night || is_held(s))
 }
 
 #[tactic(auto, unfolding(rules::specs::Soundness::consistent))]
