@@ -4,10 +4,9 @@ ghost use Rattle.rules.specs.Layout.{most_inputs};
 
 use crate::lines::Printout;
 use crate::show::Show;
-use cues::header::{end_time, form_in};
 use joined::pair::{joined_input, joined_move};
 use lamps::lamp::Lamp;
-use layout::{INPUT_SIZE, inputs_in, parameters_in};
+use layout::INPUT_SIZE;
 use live::fresh::fresh_state;
 use octets::group::Group;
 use phases::phase::due_at;
@@ -94,10 +93,9 @@ impl<W: Write> Player<'_, W> {
 // A list, from the start record to the end time. (The start record says what a fresh sensor has: off, at 0.)
 #[tactic(auto, using(crate::proofs::Passed::inputs_as_counted))]
 pub(crate) fn play<W: Write>(printout: &mut Printout<W>, show: Show<'_>) -> io::Result<()> {
-    let form = form_in(show.file);
-    let (inputs, _) = inputs_in(show.file, form).as_chunks();
+    let (inputs, _) = show.file.inputs().as_chunks();
     printout.accepted(inputs.len())?;
-    let state = fresh_state(parameters_in(show.file, form)).state;
+    let state = fresh_state(show.file.parameters().octets).state;
     printout.record(record_of(0, Lamp::from(state)))?;
     printout.phase(state)?;
     let mut player = Player {
@@ -105,7 +103,7 @@ pub(crate) fn play<W: Write>(printout: &mut Printout<W>, show: Show<'_>) -> io::
         state,
         sensor: show.sensor,
     };
-    let end = end_time(show.file);
+    let end = show.file.end_time();
     let count = player.play_inputs(inputs)? + player.play_timers(end)? + player.play_move(end)?;
     player.printout.end(1 + count)
 }

@@ -2,10 +2,11 @@
 ghost use Rattle.std.specs.Prelude.{◌≡◌, ◌≤◌, length};
 ghost use Rattle.rules.specs.Files.{input_count};
 ghost use Rattle.rules.specs.Forms.{form_in};
-ghost use Rattle.rules.specs.Layout.{least_file, most_inputs, file_size};
+ghost use Rattle.rules.specs.Layout.{most_inputs, file_size};
 
 use base::refusal::Refused;
 use cues::check::check_file;
+use cues::header::CueFile;
 use sensor::call::fresh_sensor;
 use sensor::state::{Sensor, own_sensor};
 use wallfile::{actions_in, check_wall, file_in};
@@ -13,11 +14,10 @@ use wallfile::{actions_in, check_wall, file_in};
 // A cue file that is as long as its header says, and the sensor beside its actuator.
 #[derive(Clone, Copy)]
 pub(crate) struct Show<'a> {
-    pub file: &'a [u8],
+    pub file: CueFile<'a>,
     pub sensor: Sensor,
-    ghost least: { least_file ≤ length file.now },
-    ghost few: { input_count file.now ≤ most_inputs },
-    ghost whole: { length file.now ≡ file_size (form_in file.now) (input_count file.now) },
+    ghost few: { input_count file.octets.now ≤ most_inputs },
+    ghost whole: { length file.octets.now ≡ file_size (form_in file.octets.now) (input_count file.octets.now) },
 }
 
 // A cue file, with no button beside it.
@@ -25,7 +25,7 @@ pub(crate) struct Show<'a> {
 pub(crate) fn cue_file(list: &[u8]) -> Result<Show<'_>, Refused> {
     check_file(list)?;
     Ok(Show {
-        file: list,
+        file: CueFile { octets: list },
         sensor: own_sensor(),
     })
 }
@@ -35,7 +35,9 @@ pub(crate) fn cue_file(list: &[u8]) -> Result<Show<'_>, Refused> {
 pub(crate) fn wall_list(list: &[u8]) -> Result<Show<'_>, Refused> {
     check_wall(list)?;
     Ok(Show {
-        file: file_in(list),
+        file: CueFile {
+            octets: file_in(list),
+        },
         sensor: fresh_sensor(actions_in(list)).sensor,
     })
 }

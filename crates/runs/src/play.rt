@@ -30,6 +30,7 @@ fn fresh_in(file: CueFile) -> State
 
 // The whole run, to an actuator with this sensor beside it: the start record, the items, and the clock's move to the end time; the sensor has heard
 // them all.
+#[tactic(auto, using(timers::proofs::Moves::moved_few))]
 pub(crate) fn play(file: CueFile, first: Sensor, records: &mut [u8], answers: &mut [u8]) -> WallRan
     requires { Fit file.octets.now × (records_room (input_count file.octets.now) ≤ length records.old) × (input_count file.octets.now ≤ length answers.old) }
     ensures { wall_whole result records.new answers.new ≡ wall_accepted (play_in file.entry.octets.now first) records.old answers.old }

@@ -12,7 +12,6 @@ use Rattle.rules.specs.Files.{input_count, inputs_in}
 use Rattle.runs.specs.Runs.{fresh_in}
 use Rattle.rules.specs.Steps.{clock_move}
 use Rattle.timers.specs.Ticks.{clocked}
-use Rattle.timers.proofs.Moves.{moved_few}
 use Rattle.runs.proofs.Ends.{record_alone, fit_ready, ended, filled_is_accepted}
 use Rattle.runs.proofs.play.play.Goals as goal
 use Rattle.runs.proofs.play.play.Goals.{After-put_record}
@@ -27,12 +26,6 @@ begun c =
 ready : (c : After-put_record) → let a = c.args in Ready (inputs_in a.file.octets.now) (input_count a.file.octets.now) (pair_of c.fresh_in-start.result (listened c.put_record.new.buf 1 a.first 0))
 ready c = rw c.fresh_in-start.ensures (fit_ready _ _ _ _ (begun c) c.requires.0)
 
-pub fresh_in-start-requires : goal.fresh_in-start-requires
-fresh_in-start-requires c = c.requires.0.start.header.enough.long
-
-pub inputs-requires : goal.inputs-requires
-inputs-requires c = c.requires.0.start.header.enough.long
-
 pub play_items-played-requires : goal.play_items-played-requires
 play_items-played-requires c =
     let n = c.input_count-n.ensures in
@@ -41,28 +34,6 @@ play_items-played-requires c =
 
 pub move_clock-last-requires : goal.move_clock-last-requires
 move_clock-last-requires c = sound_room _ _ c.play_items-played.ensures.safe (omega (arith, c.end_time.ensures, c.requires.0.start.header.layout.end))
-
-pub put_notes-requires : goal.put_notes-requires
-put_notes-requires c =
-    let items = c.play_items-played in
-    let few = moved_few _ _ _ c.move_clock-last.ensures in
-    let n = c.input_count-n.ensures in
-    (omega (arith, few, n, items.ensures.few, (ready (goal.at.put_notes-requires c).After-put_record).few), omega (arith, few), omega (arith, few, n, items.ensures.few, items.auto.records, c.put_record.auto.buf, c.requires.1))
-
-pub overflow_add-count : goal.overflow_add-count
-overflow_add-count c = omega (arith, moved_few _ _ _ c.move_clock-last.ensures, c.input_count-n.ensures, c.play_items-played.ensures.few, (ready (goal.at.overflow_add-count c).After-put_record).few)
-
-pub listen-requires : goal.listen-requires
-listen-requires c =
-    let items = c.play_items-played in
-    let few = moved_few _ _ _ c.move_clock-last.ensures in
-    (omega (arith, items.ensures.behind), omega (arith, few, c.input_count-n.ensures, items.ensures.few, c.put_notes.auto.buf, items.auto.records, c.put_record.auto.buf, c.requires.1))
-
-pub shape_of-records : goal.shape_of-records
-shape_of-records c = c.put_notes.auto.buf ∙ c.play_items-played.auto.records ∙ c.put_record.auto.buf
-
-pub shape_of-answers : goal.shape_of-answers
-shape_of-answers c = c.play_items-played.auto.answers
 
 pub returns : goal.returns
 returns c =
