@@ -18,6 +18,7 @@ use sensor::state::own_sensor;
 const MOST_GROUPS: usize = 256;
 
 // How far a change is played, and the code and the place that then end it.
+// Stays: these are numbers, as `Ran` shows them and the theorems name them (`ChangeCodes`).
 #[derive(Clone, Copy)]
 pub struct Reach {
     pub count: u32,

@@ -37,6 +37,7 @@ fn check_one(known: bool, stamp: u32, last: u32, end: u32, i: u32) -> Result<(),
 }
 
 // The first bad input of n: none is stamped before the one before it, the first not before `from`, and none after `end`.
+// Stays: how many there are is a number beside the octets, as the definitions have it (`Readings.read_inputs`).
 #[tactic(auto, using(crate::proofs::Inputs::none_left, crate::proofs::Inputs::one_left))]
 pub fn check_inputs<K: Known>(inputs: &[u8], n: u32, from: u32, end: u32) -> Result<(), Refused>
     requires { (n ≤ most_inputs) × (input_place n ≤ length inputs.now) }

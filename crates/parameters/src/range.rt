@@ -93,6 +93,7 @@ impl ParameterOctets<'_> {
     }
 
     // The eight scene entries, each its number and then its flags. An octet for each number tells whether an entry before has it.
+    // Stays: it is 1 for a number that was seen, as the definitions have it (`Seen.noted`).
     #[tactic(auto, using(crate::proofs::Loops::entry_step, crate::proofs::Loops::entries_end, crate::proofs::Loops::bad_as_seen, crate::proofs::Loops::noted_is_seen))]
     fn lowest_bad_from_scenes(self) -> Result<(), Refused>
         ensures { result ≡ lowest_bad self.entry.form self.entry.octets.now 16 (scenes_at self.entry.form) }

@@ -36,10 +36,11 @@ pub(crate) fn play(file: CueFile, first: Sensor, records: &mut [u8], answers: &m
     ensures { wall_whole result records.new answers.new ≡ wall_accepted (play_in file.entry.octets.now first) records.old answers.old }
 {
     let n = file.input_count();
+    let end = file.end_time();
     let start = fresh_in(file);
     put_record(records, 0, record_of(0, Lamp::from(start)));
     let played = play_items(file.inputs(), n, start, first, 1, records, answers);
-    let last = move_clock(played.state, file.end_time());
+    let last = move_clock(played.state, end);
     put_notes(records, played.count, last.notes);
     let count = played.count + last.notes.count as u32;
     WallRan {

@@ -33,11 +33,11 @@ play_items-played-requires c =
     (rw (c.inputs.ensures, n) (ready (goal.at.play_items-played-requires c).After-put_record), omega arith, omega (arith, n, c.put_record.auto.buf, room.1), rw n room.2)
 
 pub move_clock-last-requires : goal.move_clock-last-requires
-move_clock-last-requires c = sound_room _ _ c.play_items-played.ensures.safe (omega (arith, c.end_time.ensures, c.requires.0.start.header.layout.end))
+move_clock-last-requires c = sound_room _ _ c.play_items-played.ensures.safe (omega (arith, c.end_time-end.ensures, c.requires.0.start.header.layout.end))
 
 pub returns : goal.returns
 returns c =
     let items = c.play_items-played in
     let n = c.input_count-n.ensures in
     rw c.listen.ensures
-    (filled_is_accepted _ _ _ _ _ _ _ _ (ended _ _ _ _ (begun (goal.at.returns c).After-put_record) c.requires.0 _ _ _ _ _ _ _ _ items.ensures.behind (omega (arith, n, items.ensures.few, items.auto.records, c.put_record.auto.buf, c.requires.1)) (rw (c.fresh_in-start.ensures, c.inputs.ensures, n) at items.ensures.filled) _ (c.move_clock-last.ensures ∙ ap (λ (t : ℕ). clocked (clock_move c.play_items-played.result.state t)) c.end_time.ensures) c.put_notes.ensures))
+    (filled_is_accepted _ _ _ _ _ _ _ _ (ended _ _ _ _ (begun (goal.at.returns c).After-put_record) c.requires.0 _ _ _ _ _ _ _ _ items.ensures.behind (omega (arith, n, items.ensures.few, items.auto.records, c.put_record.auto.buf, c.requires.1)) (rw (c.fresh_in-start.ensures, c.inputs.ensures, n) at items.ensures.filled) _ (c.move_clock-last.ensures ∙ ap (λ (t : ℕ). clocked (clock_move c.play_items-played.result.state t)) c.end_time-end.ensures) c.put_notes.ensures))
