@@ -1,5 +1,8 @@
 -- The four actions: their numbers, and what their check finds.
-use Rattle.std.specs.Prelude.{Ok, Err}
+use Rattle.std.specs.Prelude.{Some, None, Ok, Err, nat_lt, position}
+use Rattle.std.specs.List.{position_or_len}
+use Rattle.std.proofs.lemmas.List.Quantifiers.{position-Some}
+use Rattle.std.proofs.lemmas.List.Sums.{fails_before_first}
 use Prim.Native.Nat.{ℕ, zero, suc, ◌≤◌, ◌<◌}
 use mathlib.Core.Bool.{Bool, true, false}
 use mathlib.Core.List.{List}
@@ -8,7 +11,7 @@ use mathlib.Core.Path.{◌≡◌, refl, sym}
 use native.Mathlib.Omega.{arith}
 use lib.Dec.{eqb, leb}
 use lib.ListN.{length}
-use borrow.Author.Tests.{eqb-true, eqb-false, ne_eqb, eq-eqb, leb-true, leb-false, le-leb, lt-leb}
+use borrow.Author.Tests.{eqb-true, eqb-false, ne_eqb, eq-eqb, leb-true, leb-false, le-leb, lt-leb, ltb-true, ltb-false}
 use Rattle.octets.specs.BigEndian.{octet}
 use Rattle.base.specs.declared.refusal.Refusal.{Refusal}
 use Rattle.base.specs.declared.refusal.Refusal.TheVariants.{WrongLength, BadAction}
@@ -101,6 +104,22 @@ module _ (octets : List ℕ) where
         | inl (row, place, other) ↦ unfold check_actions in rw (ne_eqb _ _ other, row, place)
         | inr (row, bad) ↦ rw row (bad_is_found p bad)
       ]
+
+  -- the code looks for the first octet above 3
+  pub first_above_is_blamed : (place : ℕ) → position (nat_lt 3) octets ≡ Some place → length octets ≡ 4 → refused_with BadAction place ≡ check_actions octets
+  first_above_is_blamed place e whole =
+      let f = position-Some (nat_lt 3) octets place 0 e in
+      sym (bad_is_found place (record { whole = whole; within = omega (arith, f.0, whole); bad = ltb-true _ _ f.1; good = λ j h. ltb-false _ _ (f.2 j h) }))
+
+  pub none_above_is_passed : position (nat_lt 3) octets ≡ None → length octets ≡ 4 → Ok tt ≡ check_actions octets
+  none_above_is_passed e whole = sym (good_is_passed (record { whole = whole; good = λ j h. ltb-false _ _ (fails_before_first (nat_lt 3) octets j 0 (omega (arith, past (nat_lt (position_or_len (nat_lt 3) octets) (length octets)) refl, whole))) }))
+    where
+      past : (b : Bool) → nat_lt (position_or_len (nat_lt 3) octets) (length octets) ≡ b → length octets ≤ position_or_len (nat_lt 3) octets
+      past true h = let some : Some (position_or_len (nat_lt 3) octets) ≡ None = rw h at e in cc
+      past false h = ltb-false _ _ h
+
+  pub other_lengths_are_wrong : (length octets ≡ 4 → ⊥) → refused_with WrongLength 0 ≡ check_actions octets
+  other_lengths_are_wrong other = sym (found WrongLength 0 (inl (refl, refl, other)))
 
   pub passed_has_four : check_actions octets ≡ (Ok tt) → length octets ≡ 4
   passed_has_four e = (rw e at says).whole

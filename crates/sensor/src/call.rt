@@ -29,11 +29,11 @@ pub struct Sensed {
 }
 
 // Any octets: four actions give the fresh sensor, all others a refusal with its place and its own sensor.
+#[tactic(auto, using(crate::proofs::Actions::passed_has_four), unfolding(crate::specs::Calls::fresh_sensor_call, crate::specs::Calls::fresh_sensor_by))]
 pub fn fresh_sensor(octets: &[u8]) -> FreshSensor
     ensures whole { result ≡ fresh_sensor_call octets.now }
 {
-    let check = check_actions(octets);
-    match check {
+    match check_actions(octets) {
         Ok(()) => FreshSensor {
             sensor: fresh_with(octets),
             code: 0,
@@ -48,37 +48,32 @@ pub fn fresh_sensor(octets: &[u8]) -> FreshSensor
 }
 
 // A telegram at t, as a switch input.
+#[tactic(auto, using(base::proofs::Tests::stored), unfolding(crate::specs::Calls::telegram_octets, octets::specs::BigEndian::octets32))]
 pub fn telegram_octets(t: u32, telegram: Option<bool>) -> [u8; 8]
     ensures { result ≡ telegram_octets t telegram }
 {
     match telegram {
-        None => [0, 0, 0, 0, 0, 0, 0, 0],
-        Some(on) => [
-            (t / 16777216) as u8,
-            (t / 65536 % 256) as u8,
-            (t / 256 % 256) as u8,
-            (t % 256) as u8,
-            1,
-            on as u8,
-            0,
-            0,
-        ],
+        None => [0; 8],
+        Some(on) => {
+            let [b0, b1, b2, b3] = t.to_be_bytes();
+            [b0, b1, b2, b3, 1, on as u8, 0, 0]
+        }
     }
 }
 
+#[tactic(auto, unfolding(crate::specs::Calls::sensed))]
 fn accepted(t: u32, r: Reaction) -> Sensed
     ensures { result ≡ sensed t r }
 {
-    let sensor = r.sensor;
-    let telegram = r.telegram;
     Sensed {
-        sensor,
+        sensor: r.sensor,
         code: 0,
         place: 0,
-        sent: telegram_octets(t, telegram),
+        sent: telegram_octets(t, r.telegram),
     }
 }
 
+#[tactic(auto, unfolding(crate::specs::Calls::sensor_refused))]
 fn refused(z: Sensor, why: Refusal) -> Sensed
     ensures { result ≡ sensor_refused z why }
 {
@@ -86,7 +81,7 @@ fn refused(z: Sensor, why: Refusal) -> Sensed
         sensor: z,
         code: number_of(why),
         place: 0,
-        sent: [0, 0, 0, 0, 0, 0, 0, 0],
+        sent: telegram_octets(0, None),
     }
 }
 
@@ -95,21 +90,17 @@ fn refused(z: Sensor, why: Refusal) -> Sensed
 pub fn sensor_input(z: Sensor, octets: [u8; 8]) -> Sensed
     ensures whole { result ≡ sensor_call z octets }
 {
-    if is_sound(z) {
-        let group = Group::new(&octets, 0);
-        let t = group.stamp();
-        let meant = signal_at(group);
-        match meant {
-            Some(s) => {
-                if stamp_in_range(z.clock, t) {
-                    accepted(t, react(z, s, t))
-                } else {
-                    refused(z, Refusal::BadStamp)
-                }
-            }
-            None => refused(z, Refusal::BadInput),
-        }
+    if !is_sound(z) {
+        return refused(z, Refusal::UnsoundState);
+    }
+    let group = Group::new(&octets, 0);
+    let Some(signal) = signal_at(group) else {
+        return refused(z, Refusal::BadInput);
+    };
+    let t = group.stamp();
+    if stamp_in_range(z.clock, t) {
+        accepted(t, react(z, signal, t))
     } else {
-        refused(z, Refusal::UnsoundState)
+        refused(z, Refusal::BadStamp)
     }
 }

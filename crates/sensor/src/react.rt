@@ -5,7 +5,6 @@ ghost use Rattle.sensor.specs.Reactions.{sends, hear, press, react};
 use crate::action::Action;
 use crate::signal::{Edge, Signal};
 use crate::state::Sensor;
-use base::logic::negated;
 
 #[derive(Clone, Copy)]
 pub struct Reaction {
@@ -21,70 +20,44 @@ fn sent_by(action: Action, last: bool) -> Option<bool>
         Action::Nothing => None,
         Action::SendOff => Some(false),
         Action::SendOn => Some(true),
-        Action::SendInverse => Some(negated(last)),
+        Action::SendInverse => Some(!last),
     }
 }
 
 // A value that is sent or received at t is the last one from then on.
+#[tactic(auto, unfolding(crate::specs::Reactions::hear))]
 pub fn hear(z: Sensor, t: u32, value: bool) -> Sensor
     ensures { result ≡ hear z t value }
 {
-    let rising1 = z.rising1;
-    let falling1 = z.falling1;
-    let rising2 = z.rising2;
-    let falling2 = z.falling2;
     Sensor {
-        rising1,
-        falling1,
-        rising2,
-        falling2,
         clock: t,
         value,
+        ..z
     }
 }
 
 // An edge with this action, at t.
+#[tactic(auto, unfolding(crate::specs::Reactions::press))]
 fn press(z: Sensor, action: Action, t: u32) -> Reaction
     ensures { result ≡ press z action t }
 {
     let telegram = sent_by(action, z.value);
-    match telegram {
-        None => Reaction {
-            sensor: hear(z, t, z.value),
-            telegram: None,
-        },
-        Some(value) => Reaction {
-            sensor: hear(z, t, value),
-            telegram: Some(value),
-        },
+    Reaction {
+        sensor: hear(z, t, telegram.unwrap_or(z.value)),
+        telegram,
     }
 }
 
 // A signal at t.
+#[tactic(auto, unfolding(crate::specs::Reactions::react))]
 pub fn react(z: Sensor, s: Signal, t: u32) -> Reaction
     ensures { result ≡ react z s t }
 {
     match s {
-        Signal::Button1(edge) => match edge {
-            Edge::Falling => {
-                let action = z.falling1;
-                press(z, action, t)
-            }
-            Edge::Rising => {
-                let action = z.rising1;
-                press(z, action, t)
-            }
-        },
-        Signal::Button2(edge) => match edge {
-            Edge::Falling => {
-                let action = z.falling2;
-                press(z, action, t)
-            }
-            Edge::Rising => {
-                let action = z.rising2;
-                press(z, action, t)
-            }
-        },
+        Signal::Button1(Edge::Falling) => press(z, z.falling1, t),
+        Signal::Button1(Edge::Rising) => press(z, z.rising1, t),
+        Signal::Button2(Edge::Falling) => press(z, z.falling2, t),
+        Signal::Button2(Edge::Rising) => press(z, z.rising2, t),
         Signal::Status(value) => Reaction {
             sensor: hear(z, t, value),
             telegram: None,

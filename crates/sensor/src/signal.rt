@@ -1,6 +1,6 @@
 // What a sensor takes: an edge of one of its buttons, or a status value.
 ghost use Rattle.std.specs.Prelude.{◌≡◌};
-ghost use Rattle.sensor.specs.Signals.{edge_of, signalled, signal_at};
+ghost use Rattle.sensor.specs.Signals.{signalled, signal_at};
 
 use octets::group::Group;
 
@@ -17,13 +17,19 @@ pub enum Signal {
     Status(bool),
 }
 
-fn edge_of(rising: bool) -> Edge
-    ensures { result ≡ edge_of rising }
-{
-    if rising { Edge::Rising } else { Edge::Falling }
+// Of a button: 1 is rising, 0 falling.
+impl From<bool> for Edge {
+    ghost use Rattle.sensor.specs.Signals.{edge_of};
+
+    ghost from_gives = { λ rising edge. edge ≡ edge_of rising };
+
+    fn from(rising: bool) -> Edge {
+        if rising { Edge::Rising } else { Edge::Falling }
+    }
 }
 
 // What a kind and a value mean: every kind takes 0 and 1.
+#[tactic(auto, using(crate::proofs::Signals::no_more_than_one), unfolding(crate::specs::Signals::signalled, crate::specs::Signals::zero_or_one))]
 fn signal_of(kind: u8, value: u8) -> Option<Signal>
     ensures { result ≡ signalled kind value }
 {
@@ -32,8 +38,8 @@ fn signal_of(kind: u8, value: u8) -> Option<Signal>
     }
     let one = value == 1;
     match kind {
-        11 => Some(Signal::Button1(edge_of(one))),
-        12 => Some(Signal::Button2(edge_of(one))),
+        11 => Some(Signal::Button1(one.into())),
+        12 => Some(Signal::Button2(one.into())),
         13 => Some(Signal::Status(one)),
         _ => None,
     }

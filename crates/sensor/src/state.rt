@@ -2,7 +2,7 @@
 ghost use Rattle.std.specs.Prelude.{◌≡◌, ◌≤◌, length};
 ghost use Rattle.sensor.specs.Sensors.{fresh_sensor, own_sensor, sound_sensor};
 
-use crate::action::{Action, action_of};
+use crate::action::Action;
 use base::moment::LAST_STAMP;
 
 #[derive(Clone, Copy)]
@@ -16,21 +16,23 @@ pub struct Sensor {
 }
 
 // The fresh sensor with the actions of four octets.
+#[tactic(auto, unfolding(crate::specs::Sensors::fresh_sensor))]
 pub fn fresh_with(octets: &[u8]) -> Sensor
     requires { 4 ≤ length octets.now }
     ensures { result ≡ fresh_sensor octets.now }
 {
     Sensor {
-        rising1: action_of(octets[0]),
-        falling1: action_of(octets[1]),
-        rising2: action_of(octets[2]),
-        falling2: action_of(octets[3]),
+        rising1: octets[0].into(),
+        falling1: octets[1].into(),
+        rising2: octets[2].into(),
+        falling2: octets[3].into(),
         clock: 0,
         value: false,
     }
 }
 
 // The sensor of a refusal: no edge does anything.
+#[tactic(auto, unfolding(crate::specs::Sensors::own_sensor))]
 pub fn own_sensor() -> Sensor
     ensures { result ≡ own_sensor }
 {
@@ -45,6 +47,7 @@ pub fn own_sensor() -> Sensor
 }
 
 // No action can be out of range: only the clock can be.
+#[tactic(auto, unfolding(crate::specs::Sensors::sound_sensor))]
 pub fn is_sound(z: Sensor) -> bool
     ensures { result ≡ sound_sensor z }
 {
