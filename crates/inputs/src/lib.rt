@@ -15,24 +15,20 @@ pub mod value;
 pub const LAST_KIND: u8 = 8;
 
 // Whether a kind and a value mean an input. Every kind takes 0 and 1; only a scene and a force take more.
+#[tactic(auto, unfolding(rules::specs::Inputs::decoded, rules::specs::Inputs::zero_or_one, rules::specs::Inputs::scene_meant, rules::specs::Inputs::force_meant))]
 fn is_known(kind: u8, value: u8) -> bool
     ensures { result ≡ is_meant (decoded kind value) }
 {
-    if value <= 1 {
-        match kind {
-            1..=8 => true,
-            _ => false,
-        }
-    } else {
-        match kind {
-            3 => value / 64 % 2 == 0,
-            4 => value <= 3,
-            _ => false,
-        }
+    match kind {
+        3 => value / 64 % 2 == 0,
+        4 => value <= 3,
+        1..=LAST_KIND => value <= 1,
+        _ => false,
     }
 }
 
 // Of a value that is 0 or 1: 0 is a failure, 1 a return.
+// Stays: a `From<bool>` would have to stand beside `Event`, in `rules`, which holds no code.
 fn known_event(one: bool) -> Event
     ensures { result ≡ event_of one }
 {
@@ -40,6 +36,8 @@ fn known_event(one: bool) -> Event
 }
 
 // Of a value up to 3: without its control bit it frees, whatever its other bit says.
+// Stays: a `From<u8>` would have to stand beside `Force`, in `rules`, which holds no code.
+#[tactic(auto, unfolding(rules::specs::Inputs::force_of))]
 pub fn known_force(value: u8) -> Force
     ensures { result ≡ force_of value }
 {
@@ -51,6 +49,7 @@ pub fn known_force(value: u8) -> Force
 }
 
 // The input that a kind and a value mean, where they mean one: nothing is tested but the kind.
+#[tactic(auto, unfolding(rules::specs::Inputs::decoded, rules::specs::Inputs::zero_or_one, rules::specs::Inputs::scene_meant, rules::specs::Inputs::force_meant, rules::specs::Inputs::force_of))]
 pub fn known_input(kind: u8, value: u8) -> Input
     requires { is_meant (decoded kind value) ≡ true }
     ensures { decoded kind value ≡ Some result }
@@ -78,7 +77,7 @@ pub fn is_input_at(group: Group) -> bool
 }
 
 // What eight octets mean.
-#[tactic(auto, using(crate::proofs::Meaning::known_at, crate::proofs::Meaning::not_meant))]
+#[tactic(auto, using(crate::proofs::Meaning::known_at))]
 pub fn input_at(group: Group) -> Option<Input>
     ensures { result ≡ input_at group.entry.octets.now group.entry.at }
 {

@@ -5,13 +5,14 @@ ghost use Rattle.inputs.specs.Values.{switch_in, teaches, force_in, event_in};
 
 use rules::input::{Event, Force, Input};
 
+// Stays: a variant with a value has no `as u8`, and a `From` would have to stand beside `Input`, in `rules`, which holds no code.
 pub fn kind_of(i: Input) -> u8
     ensures { result ≡ kind i }
 {
     match i {
         Input::SwitchOnOff(_) => 1,
         Input::TimedStartStop(_) => 2,
-        Input::NumberedSceneControl(_, _) => 3,
+        Input::NumberedSceneControl(..) => 3,
         Input::SwitchOnOffForced(_) => 4,
         Input::LockDevice(_) => 5,
         Input::NightMode(_) => 6,
@@ -25,14 +26,14 @@ pub fn switch_in(i: Input) -> bool
     ensures { result ≡ switch_in i }
 {
     match i {
-        Input::SwitchOnOff(on) => on,
-        Input::TimedStartStop(start) => start,
-        Input::NumberedSceneControl(_, _) => false,
-        Input::SwitchOnOffForced(_) => false,
-        Input::LockDevice(lock) => lock,
-        Input::NightMode(night) => night,
-        Input::Bus(_) => false,
-        Input::Power(_) => false,
+        Input::SwitchOnOff(value)
+        | Input::TimedStartStop(value)
+        | Input::LockDevice(value)
+        | Input::NightMode(value) => value,
+        Input::NumberedSceneControl(..)
+        | Input::SwitchOnOffForced(_)
+        | Input::Bus(_)
+        | Input::Power(_) => false,
     }
 }
 
@@ -41,14 +42,14 @@ pub fn is_lesson(i: Input) -> bool
     ensures { result ≡ teaches i }
 {
     match i {
-        Input::SwitchOnOff(_) => false,
-        Input::TimedStartStop(_) => false,
         Input::NumberedSceneControl(learn, _) => learn,
-        Input::SwitchOnOffForced(_) => false,
-        Input::LockDevice(_) => false,
-        Input::NightMode(_) => false,
-        Input::Bus(_) => false,
-        Input::Power(_) => false,
+        Input::SwitchOnOff(_)
+        | Input::TimedStartStop(_)
+        | Input::SwitchOnOffForced(_)
+        | Input::LockDevice(_)
+        | Input::NightMode(_)
+        | Input::Bus(_)
+        | Input::Power(_) => false,
     }
 }
 
@@ -57,14 +58,14 @@ pub fn scene_in(i: Input) -> u8
     ensures { result ≡ scene_number i }
 {
     match i {
-        Input::SwitchOnOff(_) => 0,
-        Input::TimedStartStop(_) => 0,
         Input::NumberedSceneControl(_, number) => number,
-        Input::SwitchOnOffForced(_) => 0,
-        Input::LockDevice(_) => 0,
-        Input::NightMode(_) => 0,
-        Input::Bus(_) => 0,
-        Input::Power(_) => 0,
+        Input::SwitchOnOff(_)
+        | Input::TimedStartStop(_)
+        | Input::SwitchOnOffForced(_)
+        | Input::LockDevice(_)
+        | Input::NightMode(_)
+        | Input::Bus(_)
+        | Input::Power(_) => 0,
     }
 }
 
@@ -73,14 +74,14 @@ pub fn force_in(i: Input) -> Force
     ensures { result ≡ force_in i }
 {
     match i {
-        Input::SwitchOnOff(_) => Force::Free,
-        Input::TimedStartStop(_) => Force::Free,
-        Input::NumberedSceneControl(_, _) => Force::Free,
-        Input::SwitchOnOffForced(f) => f,
-        Input::LockDevice(_) => Force::Free,
-        Input::NightMode(_) => Force::Free,
-        Input::Bus(_) => Force::Free,
-        Input::Power(_) => Force::Free,
+        Input::SwitchOnOffForced(force) => force,
+        Input::SwitchOnOff(_)
+        | Input::TimedStartStop(_)
+        | Input::NumberedSceneControl(..)
+        | Input::LockDevice(_)
+        | Input::NightMode(_)
+        | Input::Bus(_)
+        | Input::Power(_) => Force::Free,
     }
 }
 
@@ -89,13 +90,12 @@ pub fn event_in(i: Input) -> Event
     ensures { result ≡ event_in i }
 {
     match i {
-        Input::SwitchOnOff(_) => Event::Failure,
-        Input::TimedStartStop(_) => Event::Failure,
-        Input::NumberedSceneControl(_, _) => Event::Failure,
-        Input::SwitchOnOffForced(_) => Event::Failure,
-        Input::LockDevice(_) => Event::Failure,
-        Input::NightMode(_) => Event::Failure,
-        Input::Bus(event) => event,
-        Input::Power(event) => event,
+        Input::Bus(event) | Input::Power(event) => event,
+        Input::SwitchOnOff(_)
+        | Input::TimedStartStop(_)
+        | Input::NumberedSceneControl(..)
+        | Input::SwitchOnOffForced(_)
+        | Input::LockDevice(_)
+        | Input::NightMode(_) => Event::Failure,
     }
 }
