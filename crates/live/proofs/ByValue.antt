@@ -4,13 +4,20 @@ use Prim.Native.Nat.{ℕ}
 use mathlib.Core.List.{List}
 use mathlib.Core.Path.{◌≡◌, refl}
 use lib.ListN.{length}
+use mathlib.Core.Bool.{true}
+use Rattle.base.specs.Refusals.{stamp_in_range}
+use Rattle.base.proofs.Codes.{timely_exactly_when}
 use Rattle.rules.specs.declared.form.Form.{Form}
+use Rattle.rules.specs.declared.state.State.{State}
+use Rattle.rules.specs.Soundness.{sound}
 use Rattle.rules.specs.Layout.{parameters_size}
 use Rattle.rules.specs.Steps.{Moved, Stepped}
 use Rattle.rules.specs.Parameters.{check_parameters}
 use Rattle.rules.specs.Calls.{single_done, move_done}
 use Rattle.rules.proofs.Laws.Parameters.{lowest_bad_octet}
 use Rattle.rules.proofs.Laws.Records.{two_of_three}
+use Rattle.phases.specs.Room.{Room}
+use Rattle.phases.proofs.Rooms.{sound_room}
 use Rattle.records.specs.Notes.{notes}
 use Rattle.timers.specs.Ticks.{clocked}
 use Rattle.actuator.specs.Acts.{acted}
@@ -27,3 +34,7 @@ clocked_is_done m = rw (two_of_three m.records)
 -- accepted parameters have the octets of their row
 pub passed_length : (f : Form) (octets : List ℕ) → check_parameters f octets ≡ (Ok tt) → length octets ≡ parameters_size f
 passed_length f octets h = ((lowest_bad_octet f octets (Ok tt)).0 h).whole
+
+-- a sound state has room for a stamp in range
+pub timely_room : (s : State) (stamp : ℕ) → sound s ≡ true → stamp_in_range s.clock stamp ≡ true → Room s.params stamp
+timely_room s stamp h timely = sound_room s stamp h ((timely_exactly_when s.clock stamp).0 timely).1

@@ -9,28 +9,24 @@ use rules::call::Fresh;
 use states::fresh::{fresh_with, own_state};
 
 // Any octets: 32 or 40 that are in range give the fresh state of their version, all others a refusal with its place and its own state.
+#[tactic(auto, using(crate::proofs::ByValue::passed_length), unfolding(rules::specs::Calls::fresh_call, rules::specs::Calls::fresh_by, rules::specs::Parameters::check_alone))]
 pub fn fresh_state(octets: &[u8]) -> Fresh
     ensures whole { result ≡ fresh_call octets.now }
 {
     let form = form_alone(octets);
-    let check = check_parameters(octets, form);
-    match check {
+    match check_parameters(octets, form) {
         Ok(()) => {
             let parameters = ParameterOctets { octets, form };
-            let s = fresh_with(parameters.params(), parameters.scenes());
             Fresh {
-                state: s,
+                state: fresh_with(parameters.params(), parameters.scenes()),
                 code: 0,
                 place: 0,
             }
         }
-        Err(Refused { why, place }) => {
-            let s = own_state();
-            Fresh {
-                state: s,
-                code: number_of(why),
-                place,
-            }
-        }
+        Err(Refused { why, place }) => Fresh {
+            state: own_state(),
+            code: number_of(why),
+            place,
+        },
     }
 }
