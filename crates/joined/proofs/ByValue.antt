@@ -6,6 +6,9 @@ use mathlib.Core.List.{List}
 use mathlib.Core.Path.{◌≡◌, refl, ◌∙◌}
 use native.Mathlib.Omega.{arith}
 use lib.ListN.{length, take}
+use Rattle.base.specs.Time.{last_stamp}
+use Rattle.base.specs.Refusals.{stamp_in_range}
+use Rattle.base.proofs.Codes.{timely_exactly_when}
 use Rattle.base.proofs.Tests.{and_left}
 use Rattle.rules.specs.declared.input.Input.{Input}
 use Rattle.rules.specs.declared.input.Input.TheVariants.{SwitchOnOff}
@@ -14,11 +17,14 @@ use Rattle.rules.specs.declared.record.Record.{Record}
 use Rattle.rules.specs.Steps.{clock_move, act, step}
 use Rattle.rules.specs.Lists.{still}
 use Rattle.rules.specs.Soundness.{sound}
+use Rattle.rules.proofs.Laws.Soundness.{move_clock, move_params}
 use Rattle.rules.proofs.Laws.Records.{a_move_writes_at_most_two, an_input_writes_at_most_three, used_places, two_of_three}
 use Rattle.sensor.specs.declared.signal.Signal.{Signal}
 use Rattle.sensor.specs.declared.state.Sensor.{Sensor}
 use Rattle.sensor.specs.declared.react.Reaction.{Reaction}
 use Rattle.sensor.specs.Reactions.{react}
+use Rattle.phases.specs.Room.{Room, Roomy}
+use Rattle.phases.proofs.Rooms.{sound_room, moved_roomy}
 use Rattle.records.specs.declared.notes.Notes.{Notes}
 use Rattle.records.specs.Notes.{notes, added, listed}
 use Rattle.records.proofs.Written.{added_first, listed_first, notes_count, used_notes}
@@ -30,8 +36,9 @@ use Rattle.actuator.specs.declared.step.Acting.{Acting}
 use Rattle.actuator.specs.Acts.{acted, acting}
 use Rattle.actuator.proofs.Taken.{acting_keeps}
 use Rattle.pairs.specs.declared.item.Item.TheVariants.{Plain}
-use Rattle.pairs.specs.Pairs.{pair_of, hears, pair_move, PairStepped, tell, told, pressed, pair_step}
+use Rattle.pairs.specs.Pairs.{Pair, pair_of, hears, pair_move, PairStepped, tell, told, pressed, pair_step}
 use Rattle.pairs.specs.Calls.{pair_sound, joint_done, joint_move_done}
+use Rattle.joined.specs.declared.step.JointStep.{JointStep}
 use Rattle.joined.specs.Joints.{joint_step, switched_from, joint_by, move_by}
 
 -- ---- an input of the actuator
@@ -40,16 +47,16 @@ pub acted_few : (s : State) (i : Input) (t : ℕ) (d : Acted) → d ≡ acted (s
 unfolding acted notes
 acted_few s i t d e = rw e (an_input_writes_at_most_three s i t)
 
-pub plain_step : (s : State) (z : Sensor) (i : Input) (t : ℕ) (d : Acted) → d ≡ acted (step s i t) →
-    record { state = d.state; sensor = hears (take d.notes.count d.notes.records) z; answer = d.answer; notes = d.notes; telegram = None } ≡ joint_step (pair_step (pair_of s z) (Plain i) t)
+pub plain_step : (p : Pair) (i : Input) (t : ℕ) (d : Acted) → d ≡ acted (step p.actuator i t) → (after : Sensor) → after ≡ hears (take d.notes.count d.notes.records) p.sensor →
+    record { pair = pair_of d.state after; answer = d.answer; notes = d.notes; telegram = None } ≡ joint_step (pair_step p (Plain i) t)
 unfolding acted joint_step pair_step
-plain_step s z i t d e = rw (e, used_notes (step s i t).records (an_input_writes_at_most_three s i t)) refl
+plain_step p i t d e after heard = rw (heard, e, used_notes (step p.actuator i t).records (an_input_writes_at_most_three p.actuator i t)) refl
 
 -- ---- a telegram, where timers wrote these records before it
 
 pub switched_step : (s : State) (z : Sensor) (value : Bool) (d : Acting) → d ≡ acting (act (still s) (SwitchOnOff value)) →
     (timers : Notes) → timers.count ≤ 2 → (l : List Record) → timers ≡ notes l →
-    record { state = d.state; sensor = hears (listed d.note) z; answer = d.answer; notes = added timers d.note; telegram = Some value } ≡ joint_step (switched_from s z l value)
+    record { pair = pair_of d.state (hears (listed d.note) z); answer = d.answer; notes = added timers d.note; telegram = Some value } ≡ joint_step (switched_from s z l value)
 unfolding acting joint_step switched_from tell
 switched_step s z value d e timers room l f =
     let x : List Record = (act (still s) (SwitchOnOff value)).records in
@@ -59,27 +66,37 @@ switched_step s z value d e timers room l f =
 
 -- ---- an edge
 
-module _ (s : State) (t : ℕ) (m : Clocked) (e : m ≡ clocked (clock_move s t)) where
-  module _ (z h : Sensor) (g : h ≡ hears (take m.notes.count m.notes.records) z) (x : Signal) (r : Reaction) (f : r ≡ react h x t) where
+module _ (p : Pair) (t : ℕ) (m : Clocked) (e : m ≡ clocked (clock_move p.actuator t)) where
+  pub moved_has_room : sound p.actuator ≡ true → p.actuator.clock ≤ t → t ≤ last_stamp → Roomy m.state.params m.state.clock m.state.phase
+  unfolding clocked
+  moved_has_room h risen timely = rw (e, move_params p.actuator t, move_clock p.actuator t) (moved_roomy p.actuator t h risen timely)
+
+  module _ (h : Sensor) (g : h ≡ hears (take m.notes.count m.notes.records) p.sensor) (x : Signal) (r : Reaction) (f : r ≡ react h x t) where
     -- by a sensor that has heard the timers
-    decided : r ≡ react (pair_move (pair_of s z) t).pair.sensor x t
+    decided : r ≡ react (pair_move p t).pair.sensor x t
     unfolding pair_move
-    decided = f ∙ rw (g, moved_records s t m e) refl
+    decided = f ∙ rw (g, moved_records p.actuator t m e) refl
 
     pub silent_step : r.telegram ≡ None →
-        record { state = m.state; sensor = r.sensor; answer = 1; notes = m.notes; telegram = None } ≡ joint_step (pressed (pair_of s z) x t)
+        record { pair = pair_of m.state r.sensor; answer = 1; notes = m.notes; telegram = None } ≡ joint_step (pressed p x t)
     unfolding joint_step pressed told tell
-    silent_step q = rw (← decided, q, moved_state s t m e, moved_notes s t m e) (unfold pair_move in refl)
+    silent_step q = rw (← decided, q, moved_state p.actuator t m e, moved_notes p.actuator t m e) (unfold pair_move in refl)
 
-    pub telling_step : (value : Bool) → r.telegram ≡ Some value → joint_step (switched_from m.state r.sensor (clock_move s t).records value) ≡ joint_step (pressed (pair_of s z) x t)
+    pub telling_step : (value : Bool) → r.telegram ≡ Some value → (d : JointStep) →
+        ((l : List Record) → m.notes ≡ notes l → d ≡ joint_step (switched_from m.state r.sensor l value)) → d ≡ joint_step (pressed p x t)
     unfolding switched_from pressed told tell
-    telling_step value q = rw (← decided, q, moved_state s t m e) (unfold pair_move in refl)
+    telling_step value q d switched =
+        switched (clock_move p.actuator t).records (moved_notes p.actuator t m e) ∙
+        rw (← decided, q, moved_state p.actuator t m e) (unfold pair_move in refl)
 
 -- ---- the calls
 
 pub sound_actuator : (s : State) (z : Sensor) → pair_sound (pair_of s z) ≡ true → sound s ≡ true
 unfolding pair_sound
 sound_actuator s z h = and_left _ _ (and_left _ _ h)
+
+pub timely_room : (s : State) (z : Sensor) (stamp : ℕ) → pair_sound (pair_of s z) ≡ true → stamp_in_range s.clock stamp ≡ true → Room s.params stamp
+timely_room s z stamp h timely = sound_room s stamp (sound_actuator s z h) ((timely_exactly_when s.clock stamp).0 timely).1
 
 pub step_is_done : (t : ℕ) (d : PairStepped) → joint_by 0 t (joint_step d) ≡ joint_done t d
 unfolding joint_by joint_step notes joint_done

@@ -30,7 +30,7 @@ edge_in None = None
 
 -- a whole step
 unfoldable pub joint_step : PairStepped → JointStep
-joint_step d = record { state = d.pair.actuator; sensor = d.pair.sensor; answer = d.answer; notes = notes d.records; telegram = d.telegram }
+joint_step d = record { pair = d.pair; answer = d.answer; notes = notes d.records; telegram = d.telegram }
 
 -- a telegram that is played where timers wrote these records before it
 unfoldable pub switched_from : State → Sensor → List Record → Bool → PairStepped
@@ -40,8 +40,8 @@ switched_from s z written value = tell (Some value) (record { pair = pair_of s z
 unfoldable pub joint_by : ℕ → ℕ → JointStep → Joint
 joint_by code t d =
     record {
-      state = d.state;
-      sensor = d.sensor;
+      state = d.pair.actuator;
+      sensor = d.pair.sensor;
       code = code;
       place = 0;
       answer = d.answer;

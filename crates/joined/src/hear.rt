@@ -1,5 +1,5 @@
 // Records, as the sensor hears them: each is a status at its stamp.
-ghost use Rattle.std.specs.Prelude.{◌≡◌, ◌≤◌, take};
+ghost use Rattle.std.specs.Prelude.{◌≡◌, ◌≤◌, take, fold};
 ghost use Rattle.pairs.specs.Pairs.{hears};
 ghost use Rattle.records.specs.Notes.{listed};
 ghost use Rattle.joined.specs.Joints.{heard};
@@ -10,6 +10,7 @@ use sensor::react::hear;
 use sensor::state::Sensor;
 
 // One record: its value is 0 or 255.
+#[tactic(auto, unfolding(crate::specs::Joints::heard))]
 fn hear_record(z: Sensor, r: Record) -> Sensor
     ensures { result ≡ heard r z }
 {
@@ -17,6 +18,7 @@ fn hear_record(z: Sensor, r: Record) -> Sensor
 }
 
 // What a telegram wrote.
+#[tactic(auto, unfolding(pairs::specs::Pairs::hears, crate::specs::Joints::heard))]
 pub fn hear_note(z: Sensor, x: Option<Record>) -> Sensor
     ensures { result ≡ hears (listed x) z }
 {
@@ -26,27 +28,18 @@ pub fn hear_note(z: Sensor, x: Option<Record>) -> Sensor
     }
 }
 
-// The first so many of three records, in order.
-fn hear_first(z: Sensor, k: [Record; 3], count: u8) -> Sensor
-    requires { count ≤ 3 }
-    ensures { result ≡ hears (take count k) z }
+// Records, in order.
+fn hear_all(z: Sensor, records: &[Record]) -> Sensor
+    ensures { result ≡ fold (λ y r. heard r y) z records.now }
 {
-    let mut now = z;
-    let mut j: u8 = 0;
-    while j < count {
-        let r = k[j as usize];
-        let next = hear_record(now, r);
-        now = next;
-        j += 1;
-    }
-    now
+    records.iter().fold(z, |y, r| hear_record(y, *r))
 }
 
 // The used records of one call.
+#[tactic(auto, using(crate::proofs::Hears::hearing_folds))]
 pub fn hear_notes(z: Sensor, n: Notes) -> Sensor
     requires { n.count ≤ 3 }
     ensures { result ≡ hears (take n.count n.records) z }
 {
-    let k = n.records;
-    hear_first(z, k, n.count)
+    hear_all(z, &n.records[..n.count as usize])
 }

@@ -6,20 +6,16 @@ ghost use Rattle.joined.specs.Joints.{edge_in};
 use inputs::input_at;
 use octets::group::Group;
 use pairs::item::Item;
-use rules::input::Input;
 use sensor::signal::{Signal, signal_at};
 
 // Where the actuator takes nothing, it may be an edge; a status has no place here.
 fn edge_in(s: Option<Signal>) -> Option<Item>
     ensures { result ≡ edge_in s }
 {
-    match s {
-        Some(signal) => match signal {
-            Signal::Button1(edge) => Some(Item::Button1(edge)),
-            Signal::Button2(edge) => Some(Item::Button2(edge)),
-            Signal::Status(_) => None,
-        },
-        None => None,
+    match s? {
+        Signal::Button1(edge) => Some(Item::Button1(edge)),
+        Signal::Button2(edge) => Some(Item::Button2(edge)),
+        Signal::Status(_) => None,
     }
 }
 

@@ -13,10 +13,10 @@ use Rattle.sensor.specs.declared.react.Reaction.{Reaction}
 use Rattle.sensor.specs.Reactions.{hear, react}
 use Rattle.pairs.specs.declared.item.Item.{Item}
 use Rattle.pairs.specs.declared.item.Item.TheVariants.{Plain, Button1, Button2}
+use Rattle.pairs.specs.declared.pair.Pair as declared
 
-pub record Pair : Type 0 where
-  pub actuator : State
-  pub sensor : Sensor
+abbrev pub Pair : Type 0
+Pair = declared.Pair
 
 abbrev pub pair_of : State → Sensor → Pair
 pair_of s z = record { actuator = s; sensor = z }
