@@ -1,6 +1,5 @@
 // What every other crate may stand on: tests on bools, moments, and the refusals with their numbers.
 #![tactic(auto)]
 
-pub mod logic;
 pub mod moment;
 pub mod refusal;

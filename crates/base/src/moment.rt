@@ -1,9 +1,6 @@
 // Moments, in tenths of a second.
 ghost use Rattle.std.specs.Prelude.{◌≡◌, ◌+◌, ◌≤◌};
-ghost use Rattle.base.specs.Time.{earlier};
 ghost use Rattle.base.specs.Refusals.{stamp_in_range};
-
-use crate::logic::both;
 
 // The last stamp, and the longest delay.
 pub const LAST_STAMP: u32 = 864000;
@@ -18,18 +15,10 @@ pub fn later(t: u32, delay: u32) -> u32
     t + delay
 }
 
-// The earlier of two moments.
-pub fn earlier_of(a: u32, b: u32) -> u32
-    ensures { result ≡ earlier a b }
-{
-    if a <= b { a } else { b }
-}
-
 // A stamp is not below the clock and not past the last stamp.
+#[tactic(auto, unfolding(crate::specs::Refusals::stamp_in_range))]
 pub fn stamp_in_range(clock: u32, stamp: u32) -> bool
     ensures { result ≡ stamp_in_range clock stamp }
 {
-    let risen = clock <= stamp;
-    let timely = stamp <= LAST_STAMP;
-    both(risen, timely)
+    clock <= stamp && stamp <= LAST_STAMP
 }

@@ -33,9 +33,3 @@ impl From<Refusal> for u8 {
         why as u8
     }
 }
-
-pub fn number_of(why: Refusal) -> u8
-    ensures { result ≡ number why }
-{
-    u8::from(why)
-}

@@ -4,7 +4,7 @@ ghost use Rattle.rules.specs.Runs.{whole};
 ghost use Rattle.rules.specs.Changes.{handed_back, check_change, change_call};
 
 use crate::play::{check_lent, play_inputs};
-use base::refusal::{Refusal, Refused, number_of};
+use base::refusal::{Refusal, Refused};
 use rules::call::Ran;
 use rules::state::State;
 use states::sound::is_sound;
@@ -15,7 +15,7 @@ fn refused(s: State, found: Refused) -> Ran
 {
     Ran {
         state: s,
-        code: number_of(found.why),
+        code: u8::from(found.why),
         place: found.place,
         count: 0,
     }

@@ -5,7 +5,7 @@ ghost use Rattle.rules.specs.Changes.{groups_fit, check_lent, check_change, chan
 ghost use Rattle.changes.specs.Reaches.{reach_of};
 
 use base::moment::LAST_STAMP;
-use base::refusal::{Refusal, Refused, number_of};
+use base::refusal::{Refusal, Refused};
 use buffers::put::is_roomy;
 use cues::check::check_inputs;
 use cues::known::Cues;
@@ -47,7 +47,7 @@ fn reach_of(met: Result<(), Refused>, n: u32) -> Reach
         },
         Err(found) => Reach {
             count: found.place as u32,
-            code: number_of(found.why),
+            code: u8::from(found.why),
             place: found.place,
         },
     }

@@ -12,7 +12,6 @@ mod read;
 mod show;
 
 use anyhow::Context;
-use base::refusal::number_of;
 use lines::Printout;
 use std::env::Env;
 use std::io;
@@ -48,7 +47,7 @@ fn main(rt: HostRuntime) -> anyhow::Result<()> {
     };
     let printed = match found {
         Ok(show) => play::play(&mut printout, show),
-        Err(refused) => printout.refused(number_of(refused.why), refused.place),
+        Err(refused) => printout.refused(u8::from(refused.why), refused.place),
     };
     printed.context("the printout cannot be written")
 }

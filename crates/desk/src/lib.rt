@@ -5,7 +5,7 @@
 ghost use Rattle.std.specs.Prelude.{◌≡◌};
 ghost use Rattle.rules.specs.Live.{refused_number};
 
-use base::refusal::{Refusal, number_of};
+use base::refusal::Refusal;
 use buffers::report::pack;
 
 pub mod change;
@@ -17,5 +17,5 @@ pub mod run;
 pub(crate) fn refused(why: Refusal, place: u16) -> u64
     ensures { result ≡ refused_number why place }
 {
-    pack(number_of(why), place, 0)
+    pack(u8::from(why), place, 0)
 }

@@ -8,7 +8,7 @@ use crate::hear::hear_notes;
 use crate::item::item_at;
 use crate::step::{JointStep, Timely, step_pair};
 use base::moment::stamp_in_range;
-use base::refusal::{Refusal, number_of};
+use base::refusal::Refusal;
 use octets::group::Group;
 use pairs::call::{Joint, JointMove};
 use pairs::pair::Pair;
@@ -57,7 +57,7 @@ fn refused(p: Pair, why: Refusal) -> Joint
         notes: Notes::none(),
         telegram: None,
     };
-    result(number_of(why), 0, unplayed)
+    result(u8::from(why), 0, unplayed)
 }
 
 // Eight octets: both states, the answer, the records and what was sent, or a refusal that hands back what it was given.
@@ -109,7 +109,7 @@ fn unmoved(p: Pair, why: Refusal) -> JointMove
         state: p.actuator,
         notes: Notes::none(),
     };
-    moved(number_of(why), p.sensor, still)
+    moved(u8::from(why), p.sensor, still)
 }
 
 // The pair at a later moment and the records of its timers, or a refusal that hands back what it was given.

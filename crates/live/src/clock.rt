@@ -4,7 +4,7 @@ ghost use Rattle.rules.specs.Calls.{move_refused, move_call};
 ghost use Rattle.live.specs.ByValue.{move_of};
 
 use base::moment::stamp_in_range;
-use base::refusal::{Refusal, number_of};
+use base::refusal::Refusal;
 use records::notes::Notes;
 use rules::call::Move;
 use rules::state::State;
@@ -49,5 +49,5 @@ fn refused(s: State, why: Refusal) -> Move
         state: s,
         notes: Notes::none(),
     };
-    result(number_of(why), unmoved)
+    result(u8::from(why), unmoved)
 }

@@ -2,7 +2,7 @@
 ghost use Rattle.std.specs.Prelude.{◌≡◌};
 ghost use Rattle.rules.specs.Calls.{fresh_call};
 
-use base::refusal::{Refused, number_of};
+use base::refusal::Refused;
 use layout::form_alone;
 use parameters::read::{ParameterOctets, check_parameters};
 use rules::call::Fresh;
@@ -25,7 +25,7 @@ pub fn fresh_state(octets: &[u8]) -> Fresh
         }
         Err(Refused { why, place }) => Fresh {
             state: own_state(),
-            code: number_of(why),
+            code: u8::from(why),
             place,
         },
     }

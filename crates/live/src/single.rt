@@ -5,7 +5,7 @@ ghost use Rattle.live.specs.ByValue.{single_of};
 
 use actuator::step::{Acted, step_input};
 use base::moment::stamp_in_range;
-use base::refusal::{Refusal, number_of};
+use base::refusal::Refusal;
 use inputs::input_at;
 use octets::group::Group;
 use records::notes::Notes;
@@ -59,5 +59,5 @@ fn refused(s: State, why: Refusal) -> Single
         answer: 0,
         notes: Notes::none(),
     };
-    result(number_of(why), unplayed)
+    result(u8::from(why), unplayed)
 }

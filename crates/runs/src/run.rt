@@ -4,7 +4,7 @@ ghost use Rattle.pairs.specs.Walls.{wall_whole, wall_refusal};
 ghost use Rattle.runs.specs.Runs.{ran_in, Fit};
 
 use crate::play::play;
-use base::refusal::{Refusal, Refused, number_of};
+use base::refusal::{Refusal, Refused};
 use buffers::put::is_roomy;
 use cues::header::CueFile;
 use pairs::call::WallRan;
@@ -19,7 +19,7 @@ pub fn refused(found: Refused) -> WallRan
     WallRan {
         state: own_state(),
         sensor: own_sensor(),
-        code: number_of(found.why),
+        code: u8::from(found.why),
         place: found.place,
         count: 0,
     }

@@ -8,7 +8,7 @@ use crate::react::{Reaction, react};
 use crate::signal::{Signal, signal_at};
 use crate::state::{Sensor, fresh_with, is_sound, own_sensor};
 use base::moment::stamp_in_range;
-use base::refusal::{Refusal, Refused, number_of};
+use base::refusal::{Refusal, Refused};
 use octets::group::Group;
 
 // What four octets of actions give.
@@ -41,7 +41,7 @@ pub fn fresh_sensor(octets: &[u8]) -> FreshSensor
         },
         Err(Refused { why, place }) => FreshSensor {
             sensor: own_sensor(),
-            code: number_of(why),
+            code: u8::from(why),
             place,
         },
     }
@@ -79,7 +79,7 @@ fn refused(z: Sensor, why: Refusal) -> Sensed
 {
     Sensed {
         sensor: z,
-        code: number_of(why),
+        code: u8::from(why),
         place: 0,
         sent: telegram_octets(0, None),
     }
