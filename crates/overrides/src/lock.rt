@@ -35,12 +35,12 @@ fn unlocking_output(p: Params, l: Lamp) -> bool
 
 // A locked lamp is unlocked: a standing force decides, otherwise BehaviourAtUnlocking.
 #[tactic(auto, unfolding(rules::specs::Orders::unlocked))]
-fn unlocks(p: Params, l: Lamp, f: Force) -> Lamp
+fn unlocks(p: Params, l: Lamp) -> Lamp
     requires { Room p l.clock }
-    ensures { (k : List Scene) → result ≡ lamp_of (unlocked (state_of p k l) f) }
+    ensures { (k : List Scene) → result ≡ lamp_of (unlocked (state_of p k l) l.force) }
 {
     let r = l.with_lock(false, l.atlocking);
-    match f {
+    match l.force {
         Force::Off => r.with_phase(Phase::Dark),
         Force::On => r.with_phase(Phase::Lit),
         Force::Free => r.settled(p, unlocking_output(p, l)),
@@ -54,7 +54,7 @@ pub fn lock_order(p: Params, l: Lamp, lock: bool) -> Lamp
 {
     match (lock, l.lock) {
         (true, false) => locks(p, l),
-        (false, true) => unlocks(p, l, l.force),
+        (false, true) => unlocks(p, l),
         (true, true) | (false, false) => l,
     }
 }
