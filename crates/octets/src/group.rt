@@ -4,7 +4,7 @@ ghost use Rattle.octets.specs.Groups.{group_size, stamp_at, kind_at, value_at, e
 
 use crate::read32;
 
-pub const GROUP_SIZE: usize = 8;
+const GROUP_SIZE: usize = 8;
 
 // Eight octets of a string, from a place on, which all lie in it.
 #[derive(Clone, Copy)]

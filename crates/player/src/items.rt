@@ -15,6 +15,7 @@ use rules::parameters::Params;
 use rules::state::State;
 use sensor::state::Sensor;
 use timers::clock::{is_due, run_timer};
+use turns::heard::Listener;
 use turns::turn::turn_at;
 
 // Where playing has come to: the state, the sensor, which has heard the first so many records, and how many records stand in the buffer.
@@ -77,7 +78,13 @@ pub fn play_items(
         let group = Group::nth(inputs, i);
         let t = group.stamp();
         let m = advance(records, count, p, l, t);
-        let turn = turn_at(group, t, records, m.count, z, heard);
+        let listener = Listener {
+            sensor: z,
+            heard,
+            records,
+            count: m.count,
+        };
+        let turn = turn_at(group, t, listener);
         z = turn.sensor;
         heard = turn.heard;
         match turn.asked {

@@ -16,7 +16,7 @@ use rules::state::State;
 use sensor::state::Sensor;
 use states::fresh::fresh_with;
 use timers::clock::move_clock;
-use turns::heard::listen;
+use turns::heard::Listener;
 
 // The fresh state of a file's own parameters and scenes.
 #[tactic(auto, unfolding(crate::specs::Runs::fresh_in))]
@@ -43,9 +43,15 @@ pub(crate) fn play(file: CueFile, first: Sensor, records: &mut [u8], answers: &m
     let last = move_clock(played.state, end);
     put_notes(records, played.count, last.notes);
     let count = played.count + last.notes.count as u32;
+    let listener = Listener {
+        sensor: played.sensor,
+        heard: played.heard,
+        records,
+        count,
+    };
     WallRan {
         state: last.state,
-        sensor: listen(records, count, played.sensor, played.heard),
+        sensor: listener.listen(),
         code: 0,
         place: 0,
         count,

@@ -1,13 +1,12 @@
 // An item's turn, once the clock has moved to its stamp.
-ghost use Rattle.std.specs.Prelude.{◌≡◌, ◌≤◌, length};
+ghost use Rattle.std.specs.Prelude.{◌≡◌};
 ghost use Rattle.octets.specs.Groups.{kind_at, value_at};
-ghost use Rattle.rules.specs.Layout.{record_place};
 ghost use Rattle.sensor.specs.Reactions.{react};
 ghost use Rattle.pairs.specs.declared.item.Item.{Item};
 ghost use Rattle.pairs.specs.Items.{item_at};
 ghost use Rattle.turns.specs.Turns.{edge_turn, turn_of};
 
-use crate::heard::listen;
+use crate::heard::Listener;
 use inputs::LAST_KIND;
 use octets::group::Group;
 use sensor::react::react;
@@ -15,6 +14,7 @@ use sensor::signal::{Signal, signal_at};
 use sensor::state::Sensor;
 
 // What an item may ask of the actuator: an input, by its kind and value.
+// Stays: `turn_of` and `Asks` speak of the two as they stand in the file, and an input is built only where the barrier lets it through.
 #[derive(Clone, Copy)]
 pub struct Order {
     pub kind: u8,
@@ -49,12 +49,10 @@ fn press(signal: Signal, t: u32, z: Sensor, count: u32) -> Turn
     }
 }
 
-// The item that eight octets are, if they are one, at t, where so many records stand in the buffer. An input asks for itself, and the sensor
-// takes no part; at an edge it listens first.
+// The item that eight octets are, if they are one, at t. An input asks for itself, and the sensor takes no part; at an edge it listens first.
 #[tactic(auto, using(crate::proofs::Turning::an_input_asks_for_itself, crate::proofs::Turning::an_edge_is_decided, crate::proofs::Turning::no_item_asks_for_nothing))]
-pub fn turn_at(group: Group, t: u32, records: &[u8], count: u32, z: Sensor, heard: u32) -> Turn
-    requires { (heard ≤ count) × (record_place count ≤ length records.now) }
-    ensures { (i : Item) → item_at group.entry.octets.now group.entry.at ≡ Some i → result ≡ turn_of i (kind_at group.entry.octets.now group.entry.at) (value_at group.entry.octets.now group.entry.at) t records.now count z heard }
+pub fn turn_at(group: Group, t: u32, listener: Listener) -> Turn
+    ensures { (i : Item) → item_at group.entry.octets.now group.entry.at ≡ Some i → result ≡ turn_of i (kind_at group.entry.octets.now group.entry.at) (value_at group.entry.octets.now group.entry.at) t listener.entry.records.now listener.entry.count listener.entry.sensor listener.entry.heard }
 {
     if group.kind() <= LAST_KIND {
         return Turn {
@@ -62,16 +60,16 @@ pub fn turn_at(group: Group, t: u32, records: &[u8], count: u32, z: Sensor, hear
                 kind: group.kind(),
                 value: group.value(),
             }),
-            sensor: z,
-            heard,
+            sensor: listener.sensor,
+            heard: listener.heard,
         };
     }
     match signal_at(group) {
-        Some(signal) => press(signal, t, listen(records, count, z, heard), count),
+        Some(signal) => press(signal, t, listener.listen(), listener.count),
         None => Turn {
             asked: None,
-            sensor: z,
-            heard,
+            sensor: listener.sensor,
+            heard: listener.heard,
         },
     }
 }

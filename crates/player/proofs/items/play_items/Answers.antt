@@ -94,15 +94,17 @@ advance-m-requires c =
     let f = next_item _ _ _ _ _ _ ready _ _ _ _ _ g within in
     (rw ((rw c.nth-group.ensures.0 at c.stamp-t.ensures), c.nth-group.ensures.1) (sound_room (state_of c.args.start.params loop.k loop.l) _ ((sound_pair_exactly_when _).0 g.safe).actuator f.timely), omega (arith, within, g.stands.few, ready.few), omega (arith, within, g.stands.few, g.stands.room, c.requires.2))
 
-pub turn_at-turn-requires : goal.turn_at-turn-requires
-turn_at-turn-requires c =
-    let ready = ready_to (goal.at.turn_at-turn-requires c).After-from-l in
+pub invariant_of-listener : goal.invariant_of-listener
+invariant_of-listener c =
     let loop = c.loop-i in
     let g = loop.invariant.0 in
     let within = c.loop-i-test.true in
     let moves = c.advance-m in
     let two = a_move_writes_at_most_two (state_of c.args.start.params loop.k loop.l) c.stamp-t.result in
-    (omega (arith, loop.invariant.1, (moves.ensures loop.k).count), (omega (arith, within, two, (moves.ensures loop.k).count, moves.auto.records, g.stands.few, g.stands.room, c.requires.2)))
+    record {
+      behind = omega (arith, loop.invariant.1, (moves.ensures loop.k).count);
+      within = omega (arith, within, two, (moves.ensures loop.k).count, moves.auto.records, g.stands.few, g.stands.room, c.requires.2);
+    }
 
 pub overflow_cast-answers : goal.overflow_cast-answers
 overflow_cast-answers c = omega (arith, c.loop-i-test.true, (ready_to (goal.at.overflow_cast-answers c).After-from-l).few)
