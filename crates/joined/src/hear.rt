@@ -22,10 +22,7 @@ fn hear_record(z: Sensor, r: Record) -> Sensor
 pub fn hear_note(z: Sensor, x: Option<Record>) -> Sensor
     ensures { result ≡ hears (listed x) z }
 {
-    match x {
-        None => z,
-        Some(r) => hear_record(z, r),
-    }
+    x.map_or(z, |r| hear_record(z, r))
 }
 
 // Records, in order.

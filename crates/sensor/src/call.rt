@@ -12,6 +12,7 @@ use base::refusal::{Refusal, Refused};
 use octets::group::Group;
 
 // What four octets of actions give.
+// Stays: `fresh_sensor_refused_exactly_when` speaks of its code and its place, 0 where the sensor is the octets' own.
 #[derive(Clone, Copy)]
 pub struct FreshSensor {
     pub sensor: Sensor,
@@ -20,6 +21,7 @@ pub struct FreshSensor {
 }
 
 // What one input gives: at most one switch input, in eight octets, all zero where nothing is sent.
+// Stays: `sensor_refused_exactly_when` speaks of its code and its place, 0 where the signal is taken.
 #[derive(Clone, Copy)]
 pub struct Sensed {
     pub sensor: Sensor,

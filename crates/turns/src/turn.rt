@@ -35,15 +35,11 @@ fn press(signal: Signal, t: u32, z: Sensor, count: u32) -> Turn
     ensures { result ≡ edge_turn (react z signal t) count }
 {
     let r = react(z, signal, t);
-    let asked = match r.telegram {
-        None => None,
-        Some(on) => Some(Order {
+    Turn {
+        asked: r.telegram.map(|on| Order {
             kind: 1,
             value: on as u8,
         }),
-    };
-    Turn {
-        asked,
         sensor: r.sensor,
         heard: count,
     }
