@@ -20,12 +20,15 @@ differ "the must-fail edits of PROMISES differ from those of crates/" \
     "$(diff <(ls crates/*/must-fail/*.edit | sed 's|^crates/||; s|/must-fail/|/|; s|\.edit$||' | sort) \
         <(sed -n '/^## Must-fail edits/,/^## Tested/p' docs/PROMISES.md | sed -n 's/^| `\([a-z_]*\/[a-z0-9_]*\)` .*/\1/p' | sort))"
 
-# Every inner public function that asks for something stands in the table of PROMISES, and nothing else does.
+# Every inner public function or method that asks for something stands in the table of PROMISES, and nothing else does.
 differ "the inner functions with a condition differ from those of PROMISES" \
-    "$(diff <(awk '/^pub fn /{ split($3, word, "("); name = word[1] } /^(pub\(crate\) )?fn /{ name = "" }
-            /^ *requires/{ if (name != "") { file = FILENAME; sub("^crates/", "", file); sub("/src/", "::", file); sub("[.]rt$", "", file); sub("::lib$", "", file); print file "::" name } }' \
+    "$(diff <(awk 'FNR == 1 { owner = ""; name = ""; file = FILENAME; sub("^crates/", "", file); sub("/src/", "::", file); sub("[.]rt$", "", file); sub("::lib$", "", file) }
+            /^impl/ { owner = $0; sub(/^impl(<[^>]*>)? /, "", owner); sub(/.* for /, "", owner); sub(/[<( {].*/, "", owner); owner = owner "::" }
+            /^}/ { owner = "" }
+            /^ *(pub(\([a-z]+\))? )?fn / { name = ""; if ($1 == "pub") { name = $3; sub(/[<(].*/, "", name) } }
+            /^ *requires/ { if (name != "") print file "::" owner name }' \
             crates/*/src/*.rt | sort -u) \
-        <(sed -n '/^### Inner functions/,/^## /p' docs/PROMISES.md | grep '^|' | cut -d'|' -f3 | grep -oE '`[a-z]+(::[a-z0-9_]+)+`' | tr -d '`' | sort -u))"
+        <(sed -n '/^### Inner functions/,/^## /p' docs/PROMISES.md | grep '^|' | cut -d'|' -f3 | grep -oE '`[a-z]+(::[A-Za-z0-9_]+)+`' | tr -d '`' | sort -u))"
 
 # The dumps of files in FORMAT are those files. (Those of what a show gives are compared where there is an archive: tests/run.sh.)
 differ "the dumps of FORMAT differ from the files" "$(tests/format.sh)"
