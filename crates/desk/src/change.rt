@@ -26,8 +26,7 @@ fn play_image(
     ensures { imaged_run_by result state.new records.new answers.new ≡ house_change state.old inputs.now records.old answers.old }
 {
     let r = play_inputs(s, inputs, records, answers);
-    let after = r.state;
-    put_image(state, after);
+    put_image(state, r.state);
     pack(r.code, r.place, r.count)
 }
 

@@ -27,11 +27,9 @@ fn move_state(s: State, state: &mut [u8; IMAGE_SIZE], stamp: u32, records: &mut 
             return refused(Refusal::ShortBuffer, 0);
         }
         let m = move_clock(s, stamp);
-        let after = m.state;
-        let written = m.notes;
-        put_notes(records, 0, written);
-        put_image(state, after);
-        pack(0, 0, written.count as u32)
+        put_notes(records, 0, m.notes);
+        put_image(state, m.state);
+        pack(0, 0, m.notes.count as u32)
     } else {
         refused(Refusal::BadStamp, 0)
     }

@@ -35,7 +35,6 @@ pub fn house_run_to(file: &[u8], state: &mut [u8], records: &mut [u8], answers: 
     if stopped {
         return pack(r.code, r.place, r.count);
     }
-    let s = r.state;
-    put_image(state, s);
+    put_image(state, r.state);
     pack(r.code, r.place, r.count)
 }

@@ -140,6 +140,7 @@ impl<R: Read, W: Write> Player<R, W> {
     // ---- all steps
 
     // The step of a letter. (One that is no step does nothing.)
+    // Stays: an enum of the steps would list the letters a second time.
     fn step(&mut self, letter: u8) -> io::Result<()> {
         match letter {
             b'T' => self.title()?,

@@ -1,4 +1,5 @@
 // What the public calls of the pair give.
+// Stays: code, place and count are numbers and the records an array with blanks, as those of the actuator alone (`JointCodes`).
 use rules::record::Record;
 use rules::state::State;
 use sensor::state::Sensor;

@@ -1,4 +1,5 @@
 // What the public calls give back. An accepted call has code 0 and place 0.
+// Stays: code, place and count are numbers and the records an array with blanks, as document 01 has them and the theorems name them (`SingleCodes`).
 use crate::record::Record;
 use crate::state::State;
 

@@ -1,6 +1,7 @@
 // The parameters of an actuator and its scene table, as read from the octets of either version.
 
 // The version of the file that they are of, and by which they are judged. The four times are in tenths of a second; the modes have the numbers of the file.
+// Stays: a state that is handed in may hold any numbers as its modes, which `modes_in_range` then refuses, so no enum of the good ones holds them.
 #[derive(Clone, Copy)]
 pub struct Params {
     pub version: u8,
