@@ -131,6 +131,7 @@ fn take_light(p: Params, k: [Scene; 8], l: Lamp, i: Input) -> Done
     }
 }
 
+// Stays: `noted` is what the input met, as `meeting` takes it; two functions would write its answer twice.
 // The lamp after any other input: after its order, or with its value, which is only noted.
 #[tactic(auto, unfolding(crate::specs::Acts::meeting, crate::specs::Acts::after), using(crate::proofs::Taken::noted_alone))]
 fn other_lamp(p: Params, l: Lamp, i: Input, noted: bool) -> Lamp
@@ -167,7 +168,7 @@ fn take_other(p: Params, l: Lamp, i: Input, noted: bool) -> Done
 }
 
 // An input at the moved clock that counts: kinds 1 to 3 are orders to the light, and none of them is noted.
-// Stays: docs/FORMS.md names this form, a match on the number of the kind with a range.
+// Stays: document 01 asks for this form (docs/FORMS.md), a match on the number of the kind with a range.
 #[tactic(auto, using(crate::proofs::Taken::light_is_done, rules::proofs::Laws::Inputs::kind_range))]
 pub fn take(p: Params, k: [Scene; 8], l: Lamp, i: Input, noted: bool) -> Done
     requires { Roomy p l.clock l.phase × (fate (barrier (state_of p k l) i) ≡ Ok noted) }

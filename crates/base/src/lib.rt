@@ -1,4 +1,4 @@
-// What every other crate may stand on: tests on bools, moments, and the refusals with their numbers.
+// What every other crate may stand on: moments, and the refusals with their numbers.
 #![tactic(auto)]
 
 pub mod moment;

@@ -34,6 +34,7 @@ pub fn is_roomy(n: u32, records: usize, answers: usize) -> bool
     records_room(n) <= records && n as usize <= answers
 }
 
+// Stays: a buffer and how many records stand in it are two parameters, since C lends the one and the caller keeps the other (`house_run`).
 // One record, after so many: the stamp most significant octet first, value, attributes, cause, zero.
 #[tactic(auto, unfolding(octets::specs::Splice::splice, octets::specs::BigEndian::octets32, rules::specs::Runs::record_octets))]
 pub fn put_record(buf: &mut [u8], count: u32, r: Record)

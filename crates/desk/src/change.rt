@@ -14,6 +14,7 @@ use images::read::state_in;
 use images::{IMAGE_SIZE, is_image_of};
 use rules::state::State;
 
+// Stays: the state goes beside its image, which would else be read twice.
 // As far as the inputs go, to an accepted image, which says this state: it is replaced.
 fn play_image(
     s: State,
@@ -40,8 +41,7 @@ pub fn house_change(state: &mut [u8], inputs: &[u8], records: &mut [u8], answers
     };
     let s = state_in(state);
     if is_image_of(state, s) {
-        let met = check_lent(inputs, records, answers);
-        match met {
+        match check_lent(inputs, records, answers) {
             Err(Refused { why, place }) => refused(why, place),
             Ok(()) => play_image(s, state, inputs, records, answers),
         }

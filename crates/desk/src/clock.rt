@@ -17,6 +17,7 @@ use timers::clock::move_clock;
 
 const MOVE_ROOM: usize = 16;
 
+// Stays: the state goes beside its image, which would else be read twice.
 // Of an accepted image, which says this state: 7, then 8, then the timers due by then run.
 fn move_state(s: State, state: &mut [u8; IMAGE_SIZE], stamp: u32, records: &mut [u8]) -> u64
     requires { (is_image state.old ≡ true) × (s ≡ state_in state.old) }

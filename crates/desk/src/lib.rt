@@ -14,6 +14,7 @@ pub mod fresh;
 pub mod run;
 
 // A refusal as a number: no record was written.
+// Stays: reason and place are apart, since of the nine refusals that come here seven have place 0 and no check of their own.
 pub(crate) fn refused(why: Refusal, place: u16) -> u64
     ensures { result ≡ refused_number why place }
 {

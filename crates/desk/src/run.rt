@@ -15,8 +15,7 @@ use images::put::put_image;
 fn no_room(file: &[u8]) -> u64
     ensures { result ≡ short_number file.now }
 {
-    let checked = check_file(file);
-    match checked {
+    match check_file(file) {
         Err(Refused { why, place }) => refused(why, place),
         Ok(()) => refused(Refusal::ShortBuffer, 0),
     }

@@ -27,7 +27,7 @@ fn link_of(number: u8) -> Link
 }
 
 // The phase of a number in an image, with this deadline if it has one.
-// Stays: for the reason of `link_of`.
+// Stays: a `From` would have to stand in `rules`, which has types and rules and no code.
 #[tactic(auto, unfolding(rules::specs::Answers::phase_of))]
 fn phase_of(number: u8, deadline: u32) -> Phase
     ensures { result ≡ phase_of number deadline }

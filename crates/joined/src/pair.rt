@@ -28,7 +28,7 @@ fn is_sound_pair(p: Pair) -> bool
 }
 
 // What a step at t came to; refused, it is none.
-// Stays: `Single`, `Move`, `Joint` and `JointMove` differ in what they hand out, as their theorems name it, so each has its own.
+// Stays: `Single`, `Move`, `Joint` and `JointMove` differ in what they hand out, and `single_of`, `move_of`, `joint_by` and `move_by` are definitions of one each.
 #[tactic(auto, unfolding(crate::specs::Joints::joint_by))]
 fn result(code: u8, t: u32, d: JointStep) -> Joint
     ensures { result ≡ joint_by code t d }

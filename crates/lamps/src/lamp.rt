@@ -137,6 +137,7 @@ pub fn plain_phase(on: bool) -> Phase
 }
 
 // A mode's output: 1 off, 2 on, 0 the one that is kept.
+// Stays: a mode is the number of the file (`Params`), as `by_mode` is of any.
 #[tactic(auto, unfolding(rules::specs::Orders::by_mode))]
 pub fn by_mode(mode: u8, kept: bool) -> bool
     ensures { result ≡ by_mode mode kept }

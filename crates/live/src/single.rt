@@ -34,7 +34,7 @@ pub fn single_input(s: State, octets: [u8; 8]) -> Single
 }
 
 // What a step came to; refused, it is none.
-// Stays: `Single`, `Move`, `Joint` and `JointMove` differ in what they hand out, as their theorems name it, so each has its own.
+// Stays: `Single`, `Move`, `Joint` and `JointMove` differ in what they hand out, and `single_of`, `move_of`, `joint_by` and `move_by` are definitions of one each.
 #[tactic(auto, unfolding(crate::specs::ByValue::single_of))]
 fn result(code: u8, d: Acted) -> Single
     ensures { result ≡ single_of code d }

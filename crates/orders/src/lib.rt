@@ -23,7 +23,7 @@ use switching::scene::taught;
 use switching::wish::{Wish, scene_asks, switch_asks, timed_asks};
 
 // What an order to the light asks of it in this phase. There is no other such kind.
-// Stays: docs/FORMS.md names this form, a match on the number of the kind and then on the phase, for the choice of an order.
+// Stays: document 01 asks for this form (docs/FORMS.md), a match on the number of the kind and then on the phase, for the choice of an order.
 #[tactic(auto, unfolding(crate::specs::Lights::asks), using(rules::proofs::Laws::Inputs::kind_range))]
 fn asked(k: [Scene; 8], ph: Phase, i: Input) -> Wish
     requires { is_light i ≡ true }

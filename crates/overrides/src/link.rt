@@ -25,6 +25,7 @@ fn by_bus_mode(p: Params, l: Lamp, mode: u8) -> Lamp
     }
 }
 
+// Stays: link and event stand apart from the lamp, as `bus` is of them.
 #[tactic(auto, unfolding(rules::specs::Orders::bus))]
 pub fn bus_event(p: Params, l: Lamp, link: Link, event: Event) -> Lamp
     requires { Room p l.clock }
@@ -62,6 +63,7 @@ fn power_returns(p: Params, l: Lamp) -> Lamp
         .settled(p, by_mode(p.powerreturn, l.atfailure))
 }
 
+// Stays: link and event stand apart from the lamp, as `power` is of them.
 #[tactic(auto, unfolding(rules::specs::Orders::power, rules::specs::Orders::power_fails))]
 pub fn power_event(p: Params, l: Lamp, link: Link, event: Event) -> Lamp
     requires { Room p l.clock }

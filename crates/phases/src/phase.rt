@@ -47,6 +47,7 @@ pub fn due_at(phase: Phase) -> u32
 }
 
 // Light that comes on at t: for a time, or to stay.
+// Stays: `timed` is a value that the phase holds (`Starting`), as `lit_at` and `from_dark` take it.
 // Stays: `Room` speaks of a moment too, which is a clock, a stamp or a deadline, and C may hand in any Params, so no type holds it.
 #[tactic(auto, unfolding(rules::specs::Phases::lit_at))]
 pub fn lit_at(p: Params, timed: bool, t: u32) -> Phase

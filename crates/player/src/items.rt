@@ -34,6 +34,7 @@ pub struct Moment {
     pub count: u32,
 }
 
+// Stays: the buffers and the count of what stands in them are parameters of their own, as C lends the ones (`house_run`) and the loop keeps the other.
 // The clock of a lamp moves to t: the timers due, until none is. Their records follow those before, which are at most three for
 // each of 2,048 inputs.
 fn advance(records: &mut [u8], count: u32, p: Params, l: Lamp, t: u32) -> Moment
@@ -102,7 +103,7 @@ pub fn play_items(
                 Ok(noted) => {
                     let x = known_input(order.kind, order.value);
                     let d = take(p, k, m.lamp, x, noted);
-                    // Stays: a call's result is not written straight over an array that it was lent.
+                    // Stays: tried without this variable, and the borrow checker refuses a call's result laid over the array.
                     let table = scenes_after(p, k, m.lamp, x);
                     k = table;
                     l = d.lamp;

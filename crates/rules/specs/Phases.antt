@@ -27,9 +27,9 @@ unfoldable pub lit_at : Params → Bool → ℕ → Phase
 lit_at p timed t = cond timed (Timed (t + p.timedon)) Lit
 
 -- what a phase becomes at its deadline d
---   "Starting (off), steady or timed. Some its deadline d: Timed until d+TimedOn if it is timed or night is then on, else Lit."
---   "Timed (on). Some d: Warning until d+Prewarning; Dark if Prewarning is 0."
---   "Warning and Ending (on). Some d: Dark."
+--   "Starting (off), steady or timed. At its deadline d: Timed until d+TimedOn if it is timed or night is then on, else Lit."
+--   "Timed (on). At d: Warning until d+Prewarning; Dark if Prewarning is 0."
+--   "Warning and Ending (on). At d: Dark."
 unfoldable pub at_deadline : Params → Bool → Phase → Phase
 at_deadline p night Dark = Dark
 at_deadline p night Lit = Lit
@@ -40,7 +40,7 @@ at_deadline p night (Ending d) = Dark
 
 -- when a lit phase goes dark by itself, if ever (02, [5]: "read from one place"). By the timers above:
 --   Timed, at d: "Warning until d+Prewarning", and then, or at once where "Prewarning is 0", Dark
---   "Warning and Ending (on). Some d: Dark."
+--   "Warning and Ending (on). At d: Dark."
 abbrev pub own_end : Params → Phase → Option ℕ
 own_end p Dark = None
 own_end p Lit = None

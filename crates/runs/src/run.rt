@@ -26,7 +26,7 @@ pub fn refused(found: Refused) -> WallRan
 }
 
 // A list with nothing wrong in it, to an actuator with this sensor beside it: a short buffer is refused, and then both are left as they were.
-// Stays: the two buffers are parameters of their own, as C lends them.
+// Stays: the two buffers are parameters of their own, as C lends them (`house_run`, `house_wall_run`).
 #[tactic(auto, unfolding(crate::specs::Runs::ran_in, rules::specs::Files::lent_enough, pairs::specs::Walls::wall_refused))]
 pub fn run_checked(file: &[u8], first: Sensor, records: &mut [u8], answers: &mut [u8]) -> WallRan
     requires { Fit file.now }

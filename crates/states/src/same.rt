@@ -33,7 +33,7 @@ pub fn same_phase(a: Phase, b: Phase) -> bool
 }
 
 // The same for a force.
-// Stays: for the reason of `phase_number`.
+// Stays: a `From` would have to stand in `rules`, which has types and rules and no code.
 pub fn force_number(force: Force) -> u8
     ensures { result ≡ force_number force }
 {
@@ -52,7 +52,7 @@ pub fn link_number(link: Link) -> u8
 }
 
 // What lamps hold beside clock and phase.
-// Stays: a derived == would compare the clock too.
+// Stays: the clause cites `same_flags`, which leaves out the phase and the clock, so that a derived == of two lamps is another test.
 #[tactic(auto, unfolding(rules::specs::Answers::same_flags))]
 fn same_flags(a: Lamp, b: Lamp) -> bool
     ensures { result ≡ same_flags (alone a) (alone b) }

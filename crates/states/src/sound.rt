@@ -85,6 +85,7 @@ fn is_soon(clock: u32, deadline: Option<u32>) -> bool
 }
 
 // Whether lock or force stands.
+// Stays: it is that of a lamp (`Lamp::is_held`) of a whole state, and to take a lamp out of the state for one test would be a copy.
 fn is_held(s: &State) -> bool
     ensures { result ≡ (s.now.lock || standing s.now.force) }
 {

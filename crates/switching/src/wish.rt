@@ -47,6 +47,7 @@ fn recall_asks(found: Option<bool>) -> Wish
 }
 
 // Learning asks nothing of the light: it changes the table.
+// Stays: `learn` is a value of the input, as `scene` takes it.
 #[tactic(auto, unfolding(crate::specs::Wishes::scene_asks))]
 pub fn scene_asks(k: [Scene; 8], learn: bool, number: u8) -> Wish
     ensures { result ≡ scene_asks k learn number }

@@ -4,8 +4,8 @@ use Rattle.desk.proofs.run.no_room.Goals as goal
 
 pub returns-in-Err : goal.returns-in-Err
 unfolding short_number
-returns-in-Err c = rw (c.refused.ensures, sym c.check_file-checked.ensures ∙ c.in-Err.is)
+returns-in-Err c = rw (c.refused.ensures, sym c.check_file.ensures ∙ c.in-Err.is)
 
 pub returns-in-Ok : goal.returns-in-Ok
 unfolding short_number
-returns-in-Ok c = rw (c.refused-in-Ok.ensures, sym c.check_file-checked.ensures ∙ c.in-Ok.is)
+returns-in-Ok c = rw (c.refused-in-Ok.ensures, sym c.check_file.ensures ∙ c.in-Ok.is)
