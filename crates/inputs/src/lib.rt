@@ -1,8 +1,7 @@
 // Inputs: eight octets, with a stamp, a kind and a value, and what they carry once they are known.
 #![tactic(auto)]
 
-ghost use Rattle.std.specs.Prelude.{◌≡◌, ◌+◌, ◌≤◌, true, length};
-ghost use Rattle.rules.specs.Layout.{input_size};
+ghost use Rattle.std.specs.Prelude.{◌≡◌, true};
 ghost use Rattle.rules.specs.Inputs.{force_of, decoded, input_at};
 ghost use Rattle.inputs.specs.Meaning.{is_meant, event_of};
 

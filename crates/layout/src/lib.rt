@@ -3,7 +3,7 @@
 // Stays: as methods of `Form` these functions would stand in `rules`, which has no code, and a trait for the one type is no plainer.
 #![tactic(auto)]
 
-ghost use Rattle.std.specs.Prelude.{◌≡◌, ◌+◌, ◌*◌, ◌≤◌, ◌<◌, length};
+ghost use Rattle.std.specs.Prelude.{◌≡◌, ◌≤◌, ◌<◌, length};
 ghost use Rattle.rules.specs.Forms.{width, form_of, is_version, form_in};
 ghost use Rattle.rules.specs.Layout.{time_place, modes_at, scenes_at, scene_place, flags_place, parameters_size, form_alone, inputs_at, input_place, file_size};
 ghost use Rattle.rules.specs.Files.{parameters_in, inputs_in};

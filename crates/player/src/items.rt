@@ -1,5 +1,5 @@
 // The items of a checked list, one after the other.
-ghost use Rattle.std.specs.Prelude.{◌≡◌, ◌+◌, ◌*◌, ◌≤◌, length};
+ghost use Rattle.std.specs.Prelude.{◌+◌, ◌*◌, ◌≤◌, length};
 ghost use Rattle.rules.specs.Layout.{most_inputs, record_place};
 ghost use Rattle.phases.specs.Room.{Room};
 ghost use Rattle.pairs.specs.Pairs.{pair_of};

@@ -1,5 +1,5 @@
 // Which tables are in range.
-ghost use Rattle.std.specs.Prelude.{◌≡◌, ◌&&◌, ◌||◌, ◌≤◌, eqb, drop};
+ghost use Rattle.std.specs.Prelude.{◌≡◌, ◌&&◌, ◌||◌, eqb};
 ghost use Rattle.rules.specs.Scenes.{entry_in_range, absent, scenes_in_range};
 
 use rules::parameters::Scene;

@@ -1,11 +1,10 @@
 // The public calls of the sensor, by value: the fresh sensor from four octets, and one input. Neither has a condition on its caller.
 ghost use Rattle.std.specs.Prelude.{◌≡◌};
-ghost use Rattle.base.specs.declared.refusal.Refusal.{Refusal};
 ghost use Rattle.sensor.specs.Calls.{fresh_sensor_call, telegram_octets, sensed, sensor_refused, sensor_call};
 
 use crate::action::check_actions;
 use crate::react::{Reaction, react};
-use crate::signal::{Signal, signal_at};
+use crate::signal::signal_at;
 use crate::state::{Sensor, fresh_with, is_sound, own_sensor};
 use base::moment::stamp_in_range;
 use base::refusal::{Refusal, Refused};
