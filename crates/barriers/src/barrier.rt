@@ -77,7 +77,7 @@ fn outranked(kind: u8, why: Why) -> Barrier
 
 // What an input of a kind meets: the first barrier of its row that stands. Whether it sets a value is asked last, so that an input that
 // nothing stops does not pay for it.
-// Stays: the kind is the octet that was read, since with the input built first an input of two shows cost 24 and 16 % more (docs/DECISIONS.md, 44).
+// Stays: the kind is its number, as `barrier_to` and `row_of` are of it, and is asked before the input is built (docs/DECISIONS.md, 44).
 #[tactic(auto, unfolding(rules::specs::Barriers::barrier_to, rules::specs::Barriers::first_barrier))]
 pub fn barrier_to(l: Lamp, kind: u8) -> Barrier
     requires { (1 ≤ kind) × (kind ≤ 8) }
