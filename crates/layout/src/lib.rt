@@ -71,6 +71,7 @@ fn width_of(scale: Scale) -> usize
 // ---- of the parameters
 
 // Where time n stands.
+// Stays: that an index is below 4 or 8 is asked at each place, since a type of such indices would be made at each call and be no plainer.
 pub fn time_place(form: Form, n: usize) -> usize
     requires { n < 4 }
     ensures { (result ≡ time_place form n) × (result < 16) }
