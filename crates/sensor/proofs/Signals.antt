@@ -1,13 +1,13 @@
 -- What a kind and a value mean: every kind takes 0 and 1, and no more.
 use Rattle.std.specs.Prelude.{Option, Some, None}
-use Prim.Native.Nat.{ℕ, ◌+◌, ◌≤◌, ◌<◌}
+use Prim.Native.Nat.{ℕ, ◌+◌, ◌<◌}
 use mathlib.Core.Bool.{Bool, true, false, cond}
 use mathlib.Core.List.{List}
 use mathlib.Core.Logic.{◌↔◌}
 use mathlib.Core.Path.{◌≡◌, refl, sym, ◌∙◌}
 use native.Mathlib.Omega.{arith}
 use lib.Dec.{eqb}
-use borrow.Author.Tests.{eqb-true, eqb-false, ne_eqb}
+use borrow.Author.Tests.{eqb-true, ne_eqb}
 use Rattle.octets.specs.BigEndian.{octet}
 use Rattle.octets.specs.Groups.{kind_at, value_at, ends_in_zeros}
 use Rattle.base.proofs.Tests.{both, cond_case, either_way}
@@ -28,14 +28,6 @@ no_more_than_one kind value more =
     (either_way (λ (x : Option Signal). x ≡ None) (eqb kind 12) _ _ (more_is_wrong value _ _ more)
     (either_way (λ (x : Option Signal). x ≡ None) (eqb kind 13) _ _ (more_is_wrong value _ _ more)
     refl))
-
--- one law for every kind
-pub bit_means : (f : Bool → Signal) (value : ℕ) → value ≤ 1 → zero_or_one value (f false) (f true) ≡ Some (f (eqb value 1))
-unfolding zero_or_one
-bit_means f value bit =
-    cond_case (λ (x : Option Signal). x ≡ Some (f (eqb value 1))) (eqb value 0) _ _ (λ e. rw (eqb-true value 0 e) refl)
-    (λ some. cond_case (λ (x : Option Signal). x ≡ Some (f (eqb value 1))) (eqb value 1) _ _ (λ e. rw e refl)
-    (λ more. absurd (omega (arith, eqb-false value 0 some, eqb-false value 1 more))))
 
 -- ---- a signal and its octets, both ways
 
