@@ -61,6 +61,7 @@ const UNCHANGED: u8 = 1;
 const NOTED: u8 = 6;
 
 // The answer octet of an input that is stopped.
+// Stays: a `From` would have to stand beside `Why`, in `rules`, which holds no code.
 fn stopped_number(why: Why) -> u8
     ensures { result ≡ stopped_number why }
 {

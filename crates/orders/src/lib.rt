@@ -38,6 +38,7 @@ fn asked(k: [Scene; 8], ph: Phase, i: Input) -> Wish
 }
 
 // The phase after an order to the light.
+// Stays: that the input is one is asked here and of `asked` alone, where the one caller has matched its kind; a type of such inputs would copy it.
 #[tactic(auto, unfolding(crate::specs::Lights::light_phase))]
 pub fn light_order(p: Params, k: [Scene; 8], l: Lamp, i: Input) -> Phase
     requires { Roomy p l.clock l.phase × (is_light i ≡ true) }

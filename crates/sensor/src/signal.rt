@@ -29,6 +29,7 @@ impl From<bool> for Edge {
 }
 
 // What a kind and a value mean: every kind takes 0 and 1.
+// Stays: the kind is the octet that was read, as `signalled` is of any.
 #[tactic(auto, using(crate::proofs::Signals::no_more_than_one), unfolding(crate::specs::Signals::signalled, crate::specs::Signals::zero_or_one))]
 fn signal_of(kind: u8, value: u8) -> Option<Signal>
     ensures { result ≡ signalled kind value }
