@@ -10,9 +10,21 @@ ghost use Rattle.cues.specs.Checks.{check_one, check_inputs};
 use crate::header::CueFile;
 use crate::known::{Cues, Known};
 use base::refusal::{Refusal, Refused};
-use layout::{LEAST_FILE, inputs_at, is_version};
+use layout::{LEAST_FILE, input_place, inputs_at, is_version};
 use octets::group::Group;
 use parameters::read::check_parameters;
+
+// Cold: what an input is refused with is then made where one is, and not at each input before it.
+#[cold]
+fn refused_at(why: Refusal, i: u32) -> Result<(), Refused>
+    requires { i ≤ most_inputs }
+    ensures { result ≡ refused_with why i }
+{
+    Err(Refused {
+        why,
+        place: i as u16,
+    })
+}
 
 // Input i alone, known to mean something or not: 6 before 7.
 #[tactic(auto, unfolding(crate::specs::Checks::check_one))]
@@ -21,23 +33,19 @@ fn check_one(known: bool, stamp: u32, last: u32, end: u32, i: u32) -> Result<(),
     ensures { result ≡ check_one known stamp last end i }
 {
     if !known {
-        return Err(Refused {
-            why: Refusal::BadInput,
-            place: i as u16,
-        });
+        return refused_at(Refusal::BadInput, i);
     }
     if last <= stamp && stamp <= end {
         Ok(())
     } else {
-        Err(Refused {
-            why: Refusal::BadStamp,
-            place: i as u16,
-        })
+        refused_at(Refusal::BadStamp, i)
     }
 }
 
 // The first bad input of n: none is stamped before the one before it, the first not before `from`, and none after `end`.
 // Stays: how many there are is a number beside the octets, as the definitions have it (`Readings.read_inputs`).
+// Not inlined: within a whole run too few registers are left for it, and what it keeps from input to input lies in memory (docs/DECISIONS.md, 168).
+#[inline(never)]
 #[tactic(auto, using(crate::proofs::Inputs::none_left, crate::proofs::Inputs::one_left))]
 pub fn check_inputs<K: Known>(inputs: &[u8], n: u32, from: u32, end: u32) -> Result<(), Refused>
     requires { (n ≤ most_inputs) × (input_place n ≤ length inputs.now) }
@@ -45,7 +53,7 @@ pub fn check_inputs<K: Known>(inputs: &[u8], n: u32, from: u32, end: u32) -> Res
 {
     let mut last = from;
     for i in 0..n {
-        let group = Group::nth(inputs, i);
+        let group = Group::new(inputs, input_place(i));
         let stamp = group.stamp();
         check_one(K::is_known(group), stamp, last, end, i)?;
         last = stamp;
@@ -67,7 +75,7 @@ pub fn check_inputs_in<K: Known>(file: &[u8]) -> Result<(), Refused>
 fn refused(why: Refusal) -> Result<(), Refused>
     ensures { result ≡ refused_with why 0 }
 {
-    Err(Refused { why, place: 0 })
+    refused_at(why, 0)
 }
 
 impl CueFile<'_> {

@@ -10,6 +10,7 @@ use actuator::step::{fate_of, scenes_after, take};
 use buffers::put::put_note;
 use inputs::known_input;
 use lamps::lamp::Lamp;
+use layout::input_place;
 use octets::group::Group;
 use rules::parameters::Params;
 use rules::state::State;
@@ -76,7 +77,8 @@ pub fn play_items(
     let mut heard: u32 = 0;
     let mut count = before;
     for i in 0..n {
-        let group = Group::nth(inputs, i);
+        let at = input_place(i);
+        let group = Group::new(inputs, at);
         let t = group.stamp();
         let m = advance(records, count, p, l, t);
         let listener = Listener {

@@ -51,7 +51,7 @@ module _ (c : After-turn_at-turn) where
 
   took : let loop = c.loop-i in let inputs = c.args.inputs.now in let m = c.advance-m in
       (j : Item) → item_at inputs (input_place loop.i) ≡ Some j → Turned j (stamp_at inputs (input_place loop.i)) m.new.records m.result.count loop.z loop.heard c.turn_at-turn.result
-  took = takes c.args.inputs.now _ c.loop-i.i _ _ _ c.loop-i.heard c.loop-i.z _ c.nth-group.ensures.1 (rw c.nth-group.ensures.0 at c.stamp-t.ensures) (omega (arith, c.loop-i.invariant.1, (c.advance-m.ensures c.loop-i.k).count)) (rw c.nth-group.ensures.0 at c.turn_at-turn.ensures)
+  took = takes c.args.inputs.now _ c.loop-i.i _ _ _ c.loop-i.heard c.loop-i.z _ (c.new-group.ensures.1 ∙ c.input_place-at.ensures) (rw c.new-group.ensures.0 at c.stamp-t.ensures) (omega (arith, c.loop-i.invariant.1, (c.advance-m.ensures c.loop-i.k).count)) (rw c.new-group.ensures.0 at c.turn_at-turn.ensures)
 
   -- the sensor has heard no more than there is
   behind_still : c.turn_at-turn.result.heard ≤ c.advance-m.result.count
@@ -61,7 +61,7 @@ module _ (c : After-turn_at-turn) where
 
   -- the clock has moved to the item's stamp
   moves : Advanced c.args.start.params c.loop-i.l (stamp_at c.args.inputs.now (input_place c.loop-i.i)) c.loop-i.count c.loop-i.records c.advance-m.result c.advance-m.new.records
-  moves = rw (rw c.nth-group.ensures.1 at (rw c.nth-group.ensures.0 at c.stamp-t.ensures)) at c.advance-m.ensures
+  moves = rw (rw (c.new-group.ensures.1 ∙ c.input_place-at.ensures) at (rw c.new-group.ensures.0 at c.stamp-t.ensures)) at c.advance-m.ensures
 
   -- the records have room, before the clock moves and after
   two : length (clock_move (state_of c.args.start.params c.loop-i.k c.loop-i.l) c.stamp-t.result).records ≤ 2
@@ -82,8 +82,8 @@ module _ (c : After-turn_at-turn) where
 pub loop-i-init : goal.loop-i-init
 loop-i-init c = (going_first _ _ _ _ _ _ (ready_to (goal.at.loop-i-init c).After-from-l), omega arith)
 
-pub nth-group-requires : goal.nth-group-requires
-nth-group-requires c = omega (arith, c.loop-i-test.true, (ready_to (goal.at.nth-group-requires c).After-from-l).whole)
+pub new-group-requires : goal.new-group-requires
+new-group-requires c = omega (arith, c.input_place-at.ensures, c.loop-i-test.true, (ready_to (goal.at.new-group-requires c).After-from-l).whole)
 
 pub advance-m-requires : goal.advance-m-requires
 advance-m-requires c =
@@ -92,7 +92,7 @@ advance-m-requires c =
     let g = loop.invariant.0 in
     let within = c.loop-i-test.true in
     let f = next_item _ _ _ _ _ _ ready _ _ _ _ _ g within in
-    (rw ((rw c.nth-group.ensures.0 at c.stamp-t.ensures), c.nth-group.ensures.1) (sound_room (state_of c.args.start.params loop.k loop.l) _ ((sound_pair_exactly_when _).0 g.safe).actuator f.timely), omega (arith, within, g.stands.few, ready.few), omega (arith, within, g.stands.few, g.stands.room, c.requires.2))
+    (rw ((rw c.new-group.ensures.0 at c.stamp-t.ensures), (c.new-group.ensures.1 ∙ c.input_place-at.ensures)) (sound_room (state_of c.args.start.params loop.k loop.l) _ ((sound_pair_exactly_when _).0 g.safe).actuator f.timely), omega (arith, within, g.stands.few, ready.few), omega (arith, within, g.stands.few, g.stands.room, c.requires.2))
 
 pub invariant_of-listener : goal.invariant_of-listener
 invariant_of-listener c =
@@ -135,7 +135,7 @@ take-d-requires c =
     let g = loop.invariant.0 in
     let f = next_item _ _ _ _ _ _ ready _ _ _ _ _ g c.loop-i-test.true in
     let counts = rw (← meant_kind _ _ _ c.known_input-x.ensures) at (sym c.fate_of.ensures ∙ c.in-Ok.is) in
-    (rw ((c.advance-m.ensures loop.k).lamp, (rw c.nth-group.ensures.0 at c.stamp-t.ensures), c.nth-group.ensures.1, move_clock s _) (moved_roomy s _ ((sound_pair_exactly_when _).0 g.safe).actuator f.risen f.timely), counts)
+    (rw ((c.advance-m.ensures loop.k).lamp, (rw c.new-group.ensures.0 at c.stamp-t.ensures), (c.new-group.ensures.1 ∙ c.input_place-at.ensures), move_clock s _) (moved_roomy s _ ((sound_pair_exactly_when _).0 g.safe).actuator f.risen f.timely), counts)
 
 pub scenes_after-table-requires : goal.scenes_after-table-requires
 unfolding barrier
