@@ -43,7 +43,9 @@ pub fn put_record(buf: &mut [u8], count: u32, r: Record)
 {
     let at = record_place(count);
     write32(buf, at, r.stamp);
-    buf[at + 4..at + RECORD_SIZE].copy_from_slice(&[r.value, r.attributes, r.cause, 0]);
+    // As one number: copied from an array, they are put together in memory and waited for there (docs/DECISIONS.md, 171).
+    let rest = u32::from_be_bytes([r.value, r.attributes, r.cause, 0]);
+    write32(buf, at + 4, rest);
 }
 
 // The used records of one call, one after the other, after so many. The room is asked for these alone: the clock move at the end of a run stands where
