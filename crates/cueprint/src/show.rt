@@ -1,6 +1,6 @@
 // What is played: a cue file, or a wall list, which is one with the actions of a sensor behind it.
-ghost use Rattle.std.specs.Prelude.{◌≡◌, ◌≤◌, length};
-ghost use Rattle.rules.specs.Files.{input_count};
+ghost use Rattle.std.specs.Prelude.{◌≡◌, ◌≤◌, length, Ok};
+ghost use Rattle.rules.specs.Files.{input_count, check_start};
 ghost use Rattle.rules.specs.Forms.{form_in};
 ghost use Rattle.rules.specs.Layout.{most_inputs, file_size};
 
@@ -11,11 +11,12 @@ use sensor::call::fresh_sensor;
 use sensor::state::{Sensor, own_sensor};
 use wallfile::{actions_in, check_wall, file_in};
 
-// A cue file that is as long as its header says, and the sensor beside its actuator.
+// A cue file with nothing wrong before its inputs, as long as its header says, and the sensor beside its actuator.
 #[derive(Clone, Copy)]
 pub(crate) struct Show<'a> {
     pub file: CueFile<'a>,
     pub sensor: Sensor,
+    ghost good: { check_start file.octets.now ≡ Ok tt },
     ghost few: { input_count file.octets.now ≤ most_inputs },
     ghost whole: { length file.octets.now ≡ file_size (form_in file.octets.now) (input_count file.octets.now) },
 }
