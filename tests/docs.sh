@@ -30,6 +30,15 @@ differ "the inner functions with a condition differ from those of PROMISES" \
             crates/*/src/*.rt | sort -u) \
         <(sed -n '/^### Inner functions/,/^## /p' docs/PROMISES.md | grep '^|' | cut -d'|' -f3 | grep -oE '`[a-z]+(::[A-Za-z0-9_]+)+`' | tr -d '`' | sort -u))"
 
+# Every type of a library crate that holds something beside its fields stands in the table of types, and nothing else does.
+differ "the types that hold something differ from those of PROMISES" \
+    "$(diff <(awk 'FNR == 1 { name = ""; file = FILENAME; sub("^crates/", "", file); sub("/src/", "::", file); sub("[.]rt$", "", file); sub("::lib$", "", file) }
+            /^pub struct .*[{]$/ { name = $3; sub(/[<].*/, "", name) }
+            /^}/ { name = "" }
+            /^ *(pub )?ghost / { if (name != "") print file "::" name }' \
+            crates/*/src/*.rt | sort -u) \
+        <(sed -n '/^| Type | What it holds /,/^$/p' docs/PROMISES.md | sed -n 's/^| `\([A-Za-z0-9_:]*\)` .*/\1/p' | sort -u))"
+
 # The dumps of files in FORMAT are those files. (Those of what a show gives are compared where there is an archive: tests/run.sh.)
 differ "the dumps of FORMAT differ from the files" "$(tests/format.sh)"
 

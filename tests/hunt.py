@@ -3,7 +3,7 @@
 
     tests/hunt.py OUT [--specs CRATE ..] [--only TEXT] [--again] [--ask CRATE] [--workers N] [--list]
 
-Not a part of the gate: a check takes seconds, and there are hundreds of sites. A line is added to the file OUT for each site as
+Not a part of the gate, but for one site, by which ./test sees that the hunt works: a check takes seconds, and there are hundreds of sites. A line is added to the file OUT for each site as
 it is decided, and a site that stands there already is not tried again, so the hunt may be stopped and started at will. A whole hunt:
 
     tests/hunt.py OUT --specs rules base octets    then --specs sensor, --specs pairs
@@ -174,10 +174,12 @@ def described(s):
 # ---- asking the prover
 
 def without_code(folder):
-    """Types, definitions and laws alone: functions, and the proofs of functions, are taken out. (These lie in folders that are named as modules
-    and functions are, with a small letter.)"""
+    """Types, definitions and laws alone: functions, `impl` and `trait` blocks, and the proofs of functions, are taken out. (These lie in folders
+    that are named as modules and functions are, with a small letter.)"""
     for path in glob.glob(folder + '/src/**/*.rt', recursive=True):
-        text = re.sub(r'(?m)^((pub|pub\(crate\)) )?(extern "C" )?fn (.|\n)*?^}\n', '', open(path).read())
+        # without comments; then each function or block goes with the attributes before it, up to the brace that is indented as it is
+        text = re.sub(r'(?m)^ *//.*\n', '', open(path).read())
+        text = re.sub(r'(?m)^( *)(#\[.*\n\1)*((pub|pub\(crate\)) )?(extern "C" )?(fn|impl|trait)\b(.|\n)*?^\1}\n', '', text)
         types = re.sub(r'(?m)^(ghost )?use [^;]*;\n', '', text)
         def wanted(m):
             names = [n.strip() for n in m.group(2).strip('{}').split(',')]
