@@ -33,10 +33,10 @@ differ "the inner functions with a condition differ from those of PROMISES" \
 # Every type of a library crate that holds something beside its fields stands in the table of types, and nothing else does.
 differ "the types that hold something differ from those of PROMISES" \
     "$(diff <(awk 'FNR == 1 { name = ""; file = FILENAME; sub("^crates/", "", file); sub("/src/", "::", file); sub("[.]rt$", "", file); sub("::lib$", "", file) }
-            /^pub struct .*[{]$/ { name = $3; sub(/[<].*/, "", name) }
+            /^pub(\([a-z]+\))? struct .*[{]$/ { name = $3; sub(/[<].*/, "", name) }
             /^}/ { name = "" }
             /^ *(pub )?ghost / { if (name != "") print file "::" name }' \
-            crates/*/src/*.rt | sort -u) \
+            $(ls crates/*/src/lib.rt | sed 's|lib[.]rt$|*.rt|') | sort -u) \
         <(sed -n '/^| Type | What it holds /,/^$/p' docs/PROMISES.md | sed -n 's/^| `\([A-Za-z0-9_:]*\)` .*/\1/p' | sort -u))"
 
 # The dumps of files in FORMAT are those files. (Those of what a show gives are compared where there is an archive: tests/run.sh.)

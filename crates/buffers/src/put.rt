@@ -36,7 +36,6 @@ pub fn is_roomy(n: u32, records: usize, answers: usize) -> bool
 
 // Stays: a buffer and how many records stand in it are two parameters, since C lends the one and the caller keeps the other (`house_run`).
 // One record, after so many: the stamp most significant octet first, value, attributes, cause, zero.
-#[tactic(auto, unfolding(octets::specs::Splice::splice, octets::specs::BigEndian::octets32, rules::specs::Runs::record_octets))]
 pub fn put_record(buf: &mut [u8], count: u32, r: Record)
     requires { record_place (count + 1) ≤ length buf.old }
     ensures { buf.new ≡ splice buf.old (record_place count) (record_octets r) }
