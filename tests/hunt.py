@@ -3,8 +3,9 @@
 
     tests/hunt.py OUT [--specs CRATE ..] [--only TEXT] [--again] [--ask CRATE] [--workers N] [--list]
 
-Not a part of the gate, but for one site, by which ./test sees that the hunt works: a check takes seconds, and there are hundreds of sites. A line is added to the file OUT for each site as
-it is decided, and a site that stands there already is not tried again, so the hunt may be stopped and started at will. A whole hunt:
+Not a part of the gate, but for one site, by which ./test sees that the hunt works: a check takes seconds, and there are hundreds of
+sites. A line is added to the file OUT for each site as it is decided, and a site that stands there already is not tried again, so the
+hunt may be stopped and started at will. A whole hunt:
 
     tests/hunt.py OUT --specs rules base octets    then --specs sensor, --specs pairs
     tests/hunt.py OUT --again --ask demands        what survived, once more: the theorems of the crate on top may notice

@@ -1,7 +1,7 @@
 -- The laws of records that are put into a lent buffer, one after the other.
-use Prim.Native.Nat.{ℕ, ◌+◌, ◌*◌, ◌/◌, ◌%◌, ◌≤◌, ◌<◌}
+use Prim.Native.Nat.{ℕ, zero, suc, ◌+◌, ◌*◌, ◌≤◌, ◌<◌}
 use mathlib.Core.List.{List, [], ◌∷◌, ◌++◌, append-nil}
-use mathlib.Core.Path.{◌≡◌, refl, sym, ap, ◌∙◌}
+use mathlib.Core.Path.{◌≡◌, sym, ap, ◌∙◌}
 use native.Mathlib.Nat.{add-zero, zero-add}
 use native.Mathlib.Numerals.{add-one}
 use native.Mathlib.Omega.{arith}
@@ -12,20 +12,23 @@ use Rattle.octets.specs.Splice.{splice}
 use Rattle.octets.proofs.Splices.{splice_none, splice_octet, splice_splice}
 use Rattle.octets.proofs.BothWays.{what_is_written_is_read}
 use Rattle.rules.specs.declared.record.Record.{Record}
+use Rattle.rules.specs.declared.form.Scale.TheVariants.{Tenths}
 use Rattle.rules.specs.Layout.{record_place}
+use Rattle.rules.specs.Parameters.{time_at}
 use Rattle.rules.specs.Runs.{record_octets, records_octets, over}
+use Rattle.rules.proofs.Laws.Written.{from, time_octets}
 use Rattle.rules.proofs.Refusals.Runs.{records_length, records_append}
 
--- four octets, put as the number that they are
-pub four_octets : (a b c d : ℕ) → b < 256 → c < 256 → d < 256 → octets32 (a * 16777216 + b * 65536 + c * 256 + d) ≡ a ∷ b ∷ c ∷ d ∷ []
-unfolding octets32
-four_octets a b c d fb fc fd =
-    let n : ℕ = a * 16777216 + b * 65536 + c * 256 + d in
-    let first : n / 16777216 ≡ a = omega (arith, fb, fc, fd) in
-    let second : n / 65536 % 256 ≡ b = omega (arith, fb, fc, fd) in
-    let third : n / 256 % 256 ≡ c = omega (arith, fb, fc, fd) in
-    let fourth : n % 256 ≡ d = omega (arith, fb, fc, fd) in
-    rw (first, second, third, fourth) refl
+-- four octets, put as the number that they say
+pub four_octets : (a b c d : ℕ) → a < 256 → b < 256 → c < 256 → d < 256 → let octets : List ℕ = a ∷ b ∷ c ∷ d ∷ [] in octets32 (be32 octets 0) ≡ octets
+four_octets a b c d fa fb fc fd = unfold time_at from in time_octets (a ∷ b ∷ c ∷ d ∷ []) small Tenths 0
+  where
+    small : (i : ℕ) → octet (a ∷ b ∷ c ∷ d ∷ []) i < 256
+    small zero = fa
+    small (suc zero) = fb
+    small (suc (suc zero)) = fc
+    small (suc (suc (suc zero))) = fd
+    small (suc (suc (suc (suc i)))) = omega arith
 
 -- from the start on, the front is replaced
 pub splice_front : (b xs : List ℕ) → splice b 0 xs ≡ over xs b

@@ -4,55 +4,42 @@ use Rattle.rules.specs.Files.{read_file, check_start, input_count, inputs_in}
 use Rattle.rules.specs.Forms.{form_in}
 use Rattle.rules.specs.Layout.{least_file, file_size, inputs_at, most_inputs}
 use Rattle.rules.specs.Readings.{verdict}
-use Rattle.rules.specs.Refusals.{GoodStart}
+use Rattle.rules.specs.Refusals.{GoodHeader}
 use Rattle.rules.proofs.Refusals.Files.{start_decides}
-use Rattle.cues.proofs.Passed.{passed_is_good}
-use Rattle.pairs.specs.Refusals.{GoodWall}
+use Rattle.cues.proofs.Passed.{passed_start_is_good, passed_is_good}
 use Rattle.pairs.specs.Walls.{actions_size, file_in, read_wall}
 use Rattle.pairs.proofs.Refusals.Walls.{wall_decides}
 
--- ---- a cue file
+-- ---- a cue file whose start passed
 
-module _ (file : List ℕ) (passed : verdict (read_file file) ≡ Ok tt) where
-  start : GoodStart file
-  start = (passed_is_good file passed).start
+module _ (file : List ℕ) (passed : check_start file ≡ Ok tt) where
+  header : GoodHeader file
+  header = (passed_start_is_good file passed).header
 
-  pub passed_file_good : check_start file ≡ Ok tt
-  passed_file_good = (start_decides file).passed.1 start
+  pub passed_least : least_file ≤ length file
+  passed_least = header.enough.least
 
-  pub passed_file_least : least_file ≤ length file
-  passed_file_least = start.header.enough.least
+  pub passed_few : input_count file ≤ most_inputs
+  passed_few = header.layout.few
 
-  pub passed_file_few : input_count file ≤ most_inputs
-  passed_file_few = start.header.layout.few
+  pub passed_whole : length file ≡ file_size (form_in file) (input_count file)
+  passed_whole = header.layout.whole
 
-  pub passed_file_whole : length file ≡ file_size (form_in file) (input_count file)
-  passed_file_whole = start.header.layout.whole
+-- ---- the start of what passed as a whole: of a cue file its own, of a wall list that of the file in it
 
-pub ruleset passed_file = (passed_file_good, passed_file_least, passed_file_few, passed_file_whole)
+pub passed_file_good : (file : List ℕ) → verdict (read_file file) ≡ Ok tt → check_start file ≡ Ok tt
+passed_file_good file passed = (start_decides file).passed.1 (passed_is_good file passed).start
 
--- ---- a wall list
+pub passed_wall_good : (wall : List ℕ) → verdict (read_wall wall) ≡ Ok tt → check_start (file_in wall) ≡ Ok tt
+passed_wall_good wall passed = (start_decides (file_in wall)).passed.1 ((wall_decides wall).passed.0 passed).start
 
-module _ (wall : List ℕ) (passed : verdict (read_wall wall) ≡ Ok tt) where
-  good : GoodWall wall
-  good = (wall_decides wall).passed.0 passed
+-- and it has the actions behind it
+pub passed_wall_long : (wall : List ℕ) → verdict (read_wall wall) ≡ Ok tt → actions_size ≤ length wall
+passed_wall_long wall passed = let long = ((wall_decides wall).passed.0 passed).long in omega arith
 
-  pub passed_wall_long : actions_size ≤ length wall
-  passed_wall_long = let long = good.long in omega arith
+pub ruleset passed_file = (passed_file_good, passed_least, passed_few, passed_whole)
 
-  pub passed_wall_good : check_start (file_in wall) ≡ Ok tt
-  passed_wall_good = (start_decides (file_in wall)).passed.1 good.start
-
-  pub passed_wall_least : least_file ≤ length (file_in wall)
-  passed_wall_least = good.start.header.enough.least
-
-  pub passed_wall_few : input_count (file_in wall) ≤ most_inputs
-  passed_wall_few = good.start.header.layout.few
-
-  pub passed_wall_whole : length (file_in wall) ≡ file_size (form_in (file_in wall)) (input_count (file_in wall))
-  passed_wall_whole = good.start.header.layout.whole
-
-pub ruleset passed_wall = (passed_wall_long, passed_wall_good, passed_wall_least, passed_wall_few, passed_wall_whole)
+pub ruleset passed_wall = (passed_wall_long, passed_wall_good, passed_least, passed_few, passed_whole)
 
 -- ---- the inputs
 
